@@ -1,0 +1,3 @@
+-- Lists, and numbers in bytes.
+pub mod Lists
+pub mod Bytes

@@ -1,0 +1,57 @@
+-- The answer number of each call ("What the desk answers").
+use Prim.Native.Nat.{ℕ, zero, suc, _+_}
+use mathlib.Core.Bool.{cond}
+use mathlib.Core.List.{List}
+use lib.Dec.{ltb}
+use lib.ListN.{length}
+use Rattle.format.specs.Basics.Bytes.{Bytes}
+use Rattle.format.specs.Layout.Geometry.{Geometry}
+use Rattle.format.specs.Layout.Space.{freeUnits}
+use Rattle.format.specs.Layout.Volume.{Volume, volume}
+use Rattle.format.specs.Layout.Stream.{streamSize}
+use Rattle.format.specs.Rules.Verdict.{verdict}
+use Rattle.format.specs.Calls.Paths.{Path}
+use Rattle.format.specs.Calls.Find.{resolve, resolveStream, answerOf, entryOf}
+use Rattle.format.specs.Calls.SetLength.{crosses, tooFew}
+use Rattle.format.specs.Calls.Listing.{listing}
+use Rattle.format.specs.Calls.Call.{Call, validate, find, read, overwrite, setLength, list, workOf}
+
+-- the first number that is not 0, and else 0
+unfoldable pub firstOf : ℕ → ℕ → ℕ
+firstOf zero n = n
+firstOf (suc a) n = suc a
+
+-- the stream that a path leads to, and the answer where it leads to none
+unfoldable pub target : Volume → Path → ℕ
+target v path = entryOf (resolveStream (v .directory) path)
+
+unfoldable pub targetAnswer : Volume → Path → ℕ
+targetAnswer v path = answerOf (resolveStream (v .directory) path)
+
+-- 24 where a place lies behind the end
+unfoldable pub beyond : ℕ → ℕ → ℕ
+beyond size place = cond (ltb size place) 24 0
+
+-- 25, 26 or 0
+unfoldable pub lengthAnswer : Geometry → Volume → ℕ → ℕ → ℕ
+lengthAnswer g v old new =
+    cond (crosses old new) 25
+    (cond (tooFew g (length (freeUnits (v .sectors))) (length (freeUnits (v .minis))) old new) 26 0)
+
+-- what comes after validation: 20 to 27, or 0. A sum of numbers is the true one.
+unfoldable pub answerIn : Geometry → Volume → Call → ℕ
+answerIn g v (validate work) = 0
+answerIn g v (find path work) = answerOf (resolve (v .directory) path)
+answerIn g v (read path offset out work) =
+    firstOf (targetAnswer v path) (beyond (streamSize v (target v path)) offset)
+answerIn g v (overwrite path offset bytes work) =
+    firstOf (targetAnswer v path) (beyond (streamSize v (target v path)) (offset + length bytes))
+answerIn g v (setLength path new work) =
+    firstOf (targetAnswer v path) (lengthAnswer g v (streamSize v (target v path)) new)
+answerIn g v (list out work) = cond (ltb (length out) (length (listing (v .directory)))) 27 0
+
+-- Every call validates the image first. The numbers rise from question to question, so the first that is not 0 is the lowest.
+unfoldable pub answer : Geometry → Bytes → Call → ℕ
+answer g img call =
+    let later = answerIn g (volume g img) call in
+    firstOf (verdict g img (length (workOf call))) later

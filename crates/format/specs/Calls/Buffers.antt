@@ -1,0 +1,62 @@
+-- What each call leaves in the image, in the out buffer and in the work buffer. A refusal changes neither of the first two, by form.
+use Prim.Native.Nat.{ℕ}
+use mathlib.Core.Bool.{cond, _||_}
+use mathlib.Core.List.{List, [], _++_}
+use lib.Dec.{eqb}
+use lib.ListN.{length, drop, replicate}
+use Rattle.format.specs.Basics.Bytes.{Bytes}
+use Rattle.format.specs.Layout.Geometry.{Geometry}
+use Rattle.format.specs.Layout.Volume.{Volume, volume}
+use Rattle.format.specs.Layout.Stream.{contents}
+use Rattle.format.specs.Rules.Length.{workNeed}
+use Rattle.format.specs.Calls.Read.{readBytes, over}
+use Rattle.format.specs.Calls.Overwrite.{overwritten}
+use Rattle.format.specs.Calls.SetLength.{resized}
+use Rattle.format.specs.Calls.Listing.{listing}
+use Rattle.format.specs.Calls.Call.{Call, validate, find, read, overwrite, setLength, list, workOf, outOf}
+use Rattle.format.specs.Calls.Answer.{target, answer}
+use Rattle.format.specs.Calls.Reply.{onZero}
+
+-- ---- the image
+
+-- after a call that answers 0
+unfoldable pub edited : Volume → Bytes → Call → Bytes
+edited v img (validate work) = img
+edited v img (find path work) = img
+edited v img (read path offset out work) = img
+edited v img (overwrite path offset bytes work) = overwritten v img (target v path) offset bytes
+edited v img (setLength path new work) = resized v img (target v path) new
+edited v img (list out work) = img
+
+unfoldable pub imageAfter : Geometry → Bytes → Call → Bytes
+imageAfter g img call =
+    let accepted = edited (volume g img) img call in
+    onZero (answer g img call) accepted img
+
+-- ---- the out buffer
+
+-- after a call that answers 0
+unfoldable pub handedOut : Volume → Bytes → Call → Bytes
+handedOut v img (validate work) = []
+handedOut v img (find path work) = []
+handedOut v img (read path offset out work) =
+    over (readBytes (contents v img (target v path)) offset (length out)) out
+handedOut v img (overwrite path offset bytes work) = []
+handedOut v img (setLength path new work) = []
+handedOut v img (list out work) = over (listing (v .directory)) out
+
+unfoldable pub outAfter : Geometry → Bytes → Call → Bytes
+outAfter g img call =
+    let accepted = handedOut (volume g img) img call in
+    onZero (answer g img call) accepted (outOf call)
+
+-- ---- the work buffer: answers 1 and 2 leave it, any other leaves W zeros and the rest
+
+unfoldable pub workCleared : ℕ → List ℕ → List ℕ
+workCleared w work = replicate w 0 ++ drop w work
+
+unfoldable pub workAfter : Geometry → Bytes → Call → List ℕ
+workAfter g img call =
+    cond (eqb (answer g img call) 1 || eqb (answer g img call) 2)
+    (workOf call)
+    (workCleared (workNeed (length img)) (workOf call))

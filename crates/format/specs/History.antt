@@ -1,0 +1,5 @@
+-- Demand 3: what holds after any list of calls.
+pub mod Rows
+pub mod Setting
+pub mod Step
+pub mod Claim

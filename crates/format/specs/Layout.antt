@@ -1,0 +1,13 @@
+-- Where things stand in an image.
+pub mod Geometry
+pub mod Need
+pub mod Chain
+pub mod Space
+pub mod Header
+pub mod Tables
+pub mod Name
+pub mod Entry
+pub mod Directory
+pub mod Tree
+pub mod Volume
+pub mod Stream

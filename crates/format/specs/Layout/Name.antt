@@ -1,0 +1,46 @@
+-- Names: which units they may have, when two are equal, and which comes first (groups 14 and 15). A name is a list of 16-bit units.
+use Prim.Native.Nat.{ℕ, _-_}
+use mathlib.Core.Bool.{Bool, true, false, not, cond, _&&_, _||_}
+use mathlib.Core.List.{List, [], _∷_, map}
+use lib.Dec.{eqb, ltb, leb}
+use lib.ListN.{length}
+use Rattle.format.specs.Basics.Lists.{all, equal}
+
+abbrev pub Name : Type 0
+Name = List ℕ
+
+-- ---- legal names
+
+abbrev pub slash : ℕ
+slash = 0x2F
+
+-- the units, beside zero, that no name has: slash, backslash, colon
+unfoldable pub illegal : ℕ → Bool
+illegal u = eqb u slash || eqb u 0x5C || eqb u 0x3A
+
+unfoldable pub legalUnit : ℕ → Bool
+legalUnit u = not (eqb u 0) && not (illegal u)
+
+-- 1 to 31 units, each legal: of an entry (group 14) and of a path
+unfoldable pub legalName : Name → Bool
+legalName n = leb 1 (length n) && leb (length n) 31 && all legalUnit n
+
+-- ---- order and equality
+
+-- the unit that a unit counts as: a small letter a to z as the capital
+unfoldable pub fold : ℕ → ℕ
+fold u = cond (leb 0x61 u && leb u 0x7A) (u - 0x20) u
+
+-- unit by unit: the first that differs decides
+unfoldable pub unitsLess : List ℕ → List ℕ → Bool
+unitsLess [] [] = false
+unitsLess [] (y ∷ ys) = true
+unitsLess (x ∷ xs) [] = false
+unitsLess (x ∷ xs) (y ∷ ys) = ltb x y || (eqb x y && unitsLess xs ys)
+
+-- the shorter name comes first; of two as long, the folded units decide
+unfoldable pub nameLess : Name → Name → Bool
+nameLess a b = ltb (length a) (length b) || (eqb (length a) (length b) && unitsLess (map fold a) (map fold b))
+
+unfoldable pub nameEqual : Name → Name → Bool
+nameEqual a b = equal (map fold a) (map fold b)

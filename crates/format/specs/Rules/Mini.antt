@@ -1,0 +1,31 @@
+-- Group 16: the mini FAT and the mini stream.
+use Prim.Native.Nat.{ℕ, _%_}
+use mathlib.Core.Bool.{Bool, _&&_}
+use lib.Dec.{eqb, leb}
+use Rattle.format.specs.Basics.Lists.{allBelow}
+use Rattle.format.specs.Layout.Geometry.{miniBytes}
+use Rattle.format.specs.Layout.Chain.{chain}
+use Rattle.format.specs.Layout.Space.{Space, chainFor}
+use Rattle.format.specs.Layout.Entry.{size, start}
+use Rattle.format.specs.Layout.Volume.{Volume, root}
+use Rattle.format.specs.Rules.Cells.{plainCell, restFree}
+
+unfoldable pub miniCellRight : Space → ℕ → Bool
+miniCellRight sp m = plainCell sp (sp .cell m)
+
+-- the mini FAT is a chain of M sectors
+unfoldable pub miniFatChain : Volume → Bool
+miniFatChain v = chain (v .sectors .cell) (v .sectors .limit) (v .miniFatCount) (v .miniFatStart)
+
+-- the root's size is of whole mini sectors, and its start is a chain that holds so many bytes
+unfoldable pub miniStreamChain : Volume → Bool
+miniStreamChain v = eqb (size (root v) % miniBytes) 0 && chainFor (v .sectors) (size (root v)) (start (root v))
+
+-- GROUP 16: these chains, a cell for each of the K mini sectors, and the cells' values
+unfoldable pub miniRules : Volume → Bool
+miniRules v =
+    miniFatChain v
+    && miniStreamChain v
+    && leb (v .minis .limit) (v .minis .cells)
+    && allBelow (v .minis .limit) (miniCellRight (v .minis))
+    && restFree (v .minis)

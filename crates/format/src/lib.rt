@@ -1,0 +1,1 @@
+// All of the format as definitions, in specs/. There is no code here.
