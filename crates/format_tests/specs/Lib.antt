@@ -1,0 +1,12 @@
+-- The definitions of `format`, computed.
+pub mod Opened
+pub mod Build
+pub mod Images
+pub mod Values
+pub mod Verdicts
+pub mod Finds
+pub mod Reads
+pub mod SmallLengths
+pub mod LargeLengths
+pub mod Listings
+pub mod Histories
