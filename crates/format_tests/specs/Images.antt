@@ -52,6 +52,16 @@ bare =
     ++ entry log 2 1 NOSTREAM 3 NOSTREAM END 0
     ++ entry Jets 2 0 NOSTREAM NOSTREAM NOSTREAM END 0)
 
+-- three empty streams in one tree: `c` at its top, `a` on the left, and on the right of that a name of the given unit
+unfoldable pub threeSiblings : ℕ → Bytes
+threeSiblings u =
+    header END 0
+    ++ cells (FATSECT ∷ END ∷ [])
+    ++ (rootEntry 1 END 0
+    ++ entry (0x63 ∷ []) 2 1 2 NOSTREAM NOSTREAM END 0
+    ++ entry (0x61 ∷ []) 2 1 NOSTREAM 3 NOSTREAM END 0
+    ++ entry (u ∷ []) 2 0 NOSTREAM NOSTREAM NOSTREAM END 0)
+
 -- A storage `Site` with the streams `log` (70 bytes, mini sectors 0 and 1) and `Jets` (10 bytes, mini sector 2), and five free mini sectors.
 -- Sector 0 is the FAT, 1 the directory, 2 the mini FAT, 3 the mini stream. What is no stream's byte is EE.
 unfoldable pub site : Bytes
@@ -93,5 +103,5 @@ hollow free =
 
 -- all of these, opened at once
 unfoldable pub built : Unit {0}
-unfolding words header cells nameField entry blank rootEntry Site log LOG Jets gone below smallest withThird bare site large hollow
+unfolding words header cells nameField entry blank rootEntry Site log LOG Jets gone below smallest withThird bare threeSiblings site large hollow
 built = tt

@@ -3,6 +3,7 @@ pub mod Opened
 pub mod Build
 pub mod Images
 pub mod Values
+pub mod Tables
 pub mod Verdicts
 pub mod Finds
 pub mod Reads

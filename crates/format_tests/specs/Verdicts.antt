@@ -14,7 +14,7 @@ use Rattle.format.specs.Rules.Streams.{streamRules}
 use Rattle.format.specs.Rules.Owners.{ownerRules}
 use Rattle.format.specs.Rules.Verdict.{verdict}
 use Rattle.format_tests.specs.Opened.{opened}
-use Rattle.format_tests.specs.Images.{smallest, withThird, bare, site, inEntry, miniCell, built}
+use Rattle.format_tests.specs.Images.{smallest, withThird, bare, threeSiblings, site, inEntry, miniCell, built}
 
 -- ---- accepted, and answers 1 and 2
 
@@ -148,6 +148,15 @@ stream-with-child = refl
 order-broken : verdict version3 (put32 (put32 bare (inEntry 2 72) NOSTREAM) (inEntry 2 68) 3) 65 ≡ 15
 unfolding opened built
 order-broken = refl
+
+-- `d` is greater than `a`, its parent, but not less than `c`, whose left side it stands on
+whole-side : verdict version3 (threeSiblings 0x64) 39 ≡ 15
+unfolding opened built
+whole-side = refl
+
+whole-side-in-order : verdict version3 (threeSiblings 0x62) 39 ≡ 0
+unfolding opened built
+whole-side-in-order = refl
 
 top-red : verdict version3 (putBytes bare (inEntry 2 67) (0 ∷ [])) 65 ≡ 15
 unfolding opened built

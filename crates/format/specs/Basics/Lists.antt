@@ -21,7 +21,7 @@ listBelow zero f = []
 listBelow (suc n) f = listBelow n f ++ (f n ∷ [])
 
 -- the numbers below n that pass the test, rising
-unfoldable pub pickBelow : ℕ → (ℕ → Bool) → List ℕ
+abbrev pub pickBelow : ℕ → (ℕ → Bool) → List ℕ
 pickBelow zero p = []
 pickBelow (suc n) p = pickBelow n p ++ cond (p n) (n ∷ []) []
 
@@ -36,7 +36,7 @@ bit true = 1
 bit false = 0
 
 -- how often a number stands in a list
-unfoldable pub count : ℕ → List ℕ → ℕ
+abbrev pub count : ℕ → List ℕ → ℕ
 count x [] = 0
 count x (y ∷ ys) = bit (eqb x y) + count x ys
 

@@ -1,8 +1,10 @@
--- Chains, over any table of cells: the cell of a unit names the next unit, or is one of the special values.
+-- Chains and free units, over any table of cells: the cell of a unit names the next unit, or is one of the special values.
 use Prim.Native.Nat.{ℕ, zero, suc}
-use mathlib.Core.Bool.{Bool, cond, _&&_}
+use mathlib.Core.Bool.{Bool, not, cond, _&&_}
 use mathlib.Core.List.{List, [], _∷_}
 use lib.Dec.{eqb, ltb}
+use lib.ListN.{length}
+use Rattle.format.specs.Basics.Lists.{pickBelow}
 
 -- ---- the special values of a cell. No image has so many units that one of these is a unit's number.
 
@@ -17,6 +19,8 @@ FATSECT = 0xFFFF_FFFD
 
 abbrev pub DIFSECT : ℕ
 DIFSECT = 0xFFFF_FFFC
+
+-- ---- chains
 
 -- 01's "chain of n" from a start: n units below the limit, each cell naming the next, the last cell END; of 0 units the start is END.
 -- That no cell on the way is free or special is said by the limit, which lies below those values.
@@ -36,6 +40,23 @@ follow cell limit zero s = []
 follow cell limit (suc n) s = let more = s ∷ follow cell limit n (cell s) in cond (ltb s limit) more []
 
 -- the start that a chain of these units has
-unfoldable pub startOf : List ℕ → ℕ
+abbrev pub startOf : List ℕ → ℕ
 startOf [] = END
 startOf (u ∷ us) = u
+
+-- ---- free and allocated units
+
+abbrev pub isFree : (ℕ → ℕ) → ℕ → Bool
+isFree cell u = eqb (cell u) FREE
+
+-- 01's "taken"
+abbrev pub isAllocated : (ℕ → ℕ) → ℕ → Bool
+isAllocated cell u = not (isFree cell u)
+
+-- the free units below the limit, lowest first
+abbrev pub freeBelow : (ℕ → ℕ) → ℕ → List ℕ
+freeBelow cell limit = pickBelow limit (isFree cell)
+
+-- how many units below the limit are allocated
+abbrev pub allocatedBelow : (ℕ → ℕ) → ℕ → ℕ
+allocatedBelow cell limit = length (pickBelow limit (isAllocated cell))

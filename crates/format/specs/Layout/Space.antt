@@ -1,13 +1,10 @@
 -- A space of units: the sectors, or the mini sectors. Both have a table with one cell for each unit, and chains in it.
 use Prim.Native.Nat.{ℕ}
-use mathlib.Core.Bool.{Bool, not}
+use mathlib.Core.Bool.{Bool}
 use mathlib.Core.List.{List, [], _∷_, _++_}
-use lib.Dec.{eqb}
-use lib.ListN.{length}
-use Rattle.format.specs.Basics.Lists.{pickBelow}
 use Rattle.format.specs.Basics.Bytes.{Bytes, part}
 use Rattle.format.specs.Layout.Need.{roundUp}
-use Rattle.format.specs.Layout.Chain.{FREE, chain, units}
+use Rattle.format.specs.Layout.Chain.{chain, units, freeBelow, allocatedBelow}
 
 pub record Space : Type 0 where
   -- how many units there are: N sectors, or K mini sectors
@@ -24,20 +21,13 @@ pub record Space : Type 0 where
 
 -- ---- free and allocated units
 
-unfoldable pub isFree : Space → ℕ → Bool
-isFree sp u = eqb (sp .cell u) FREE
-
 -- the free units, lowest first
 unfoldable pub freeUnits : Space → List ℕ
-freeUnits sp = pickBelow (sp .limit) (isFree sp)
+freeUnits sp = freeBelow (sp .cell) (sp .limit)
 
--- 01's "taken": a unit below the limit whose cell is not free
-unfoldable pub isAllocated : Space → ℕ → Bool
-isAllocated sp u = not (isFree sp u)
-
--- how many are allocated
+-- how many units are allocated
 unfoldable pub allocated : Space → ℕ
-allocated sp = length (pickBelow (sp .limit) (isAllocated sp))
+allocated sp = allocatedBelow (sp .cell) (sp .limit)
 
 -- ---- chains that hold n bytes
 
@@ -53,7 +43,7 @@ unitsFor sp n s = units (sp .cell) (roundUp n (sp .unit)) s
 unfoldable pub block : Space → Bytes → ℕ → Bytes
 block sp img u = part img (sp .unitPlace u) (sp .unit)
 
--- the bytes of units, laid end to end
-unfoldable pub laid : Space → Bytes → List ℕ → Bytes
-laid sp img [] = []
-laid sp img (u ∷ us) = block sp img u ++ laid sp img us
+-- what units hold, laid end to end, where `hold` says what each holds
+abbrev pub laid : (ℕ → Bytes) → List ℕ → Bytes
+laid hold [] = []
+laid hold (u ∷ us) = hold u ++ laid hold us

@@ -6,7 +6,7 @@ use lib.Dec.{ltb}
 use lib.ListN.{take}
 use Rattle.format.specs.Basics.Bytes.{Bytes}
 use Rattle.format.specs.Layout.Need.{cutoff}
-use Rattle.format.specs.Layout.Space.{Space, unitsFor, laid}
+use Rattle.format.specs.Layout.Space.{Space, unitsFor, block, laid}
 use Rattle.format.specs.Layout.Entry.{size, start}
 use Rattle.format.specs.Layout.Volume.{Volume}
 
@@ -23,4 +23,4 @@ streamUnits v i = unitsFor (spaceFor v (streamSize v i)) (streamSize v i) (start
 
 -- the bytes of entry i's stream: as many as its size says of what its units hold, laid end to end
 unfoldable pub contents : Volume → Bytes → ℕ → Bytes
-contents v img i = take (streamSize v i) (laid (spaceFor v (streamSize v i)) img (streamUnits v i))
+contents v img i = take (streamSize v i) (laid (block (spaceFor v (streamSize v i)) img) (streamUnits v i))

@@ -3,8 +3,8 @@ use Prim.Native.Nat.{ℕ, _+_, _-_}
 use mathlib.Core.Bool.{Bool, _&&_, _||_}
 use lib.Dec.{eqb, ltb}
 use Rattle.format.specs.Basics.Lists.{allBelow}
-use Rattle.format.specs.Layout.Chain.{FREE, END, FATSECT, DIFSECT}
-use Rattle.format.specs.Layout.Space.{Space, isFree}
+use Rattle.format.specs.Layout.Chain.{FREE, END, FATSECT, DIFSECT, isFree}
+use Rattle.format.specs.Layout.Space.{Space}
 
 -- ---- for either table
 
@@ -14,7 +14,7 @@ plainCell sp c = ltb c (sp .limit) || eqb c END || eqb c FREE
 
 -- cell i of those behind the last unit's
 unfoldable pub spareCellFree : Space → ℕ → Bool
-spareCellFree sp i = isFree sp (sp .limit + i)
+spareCellFree sp i = isFree (sp .cell) (sp .limit + i)
 
 -- the cells from the limit on are free
 unfoldable pub restFree : Space → Bool
