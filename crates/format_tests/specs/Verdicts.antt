@@ -1,6 +1,6 @@
--- The verdict: 0, 1, 2, and for each of the groups 10 to 18 images that break it and no lower one.
+-- The verdict: 0, 1, 2, and for each of the groups 10 to 18 images that break it and no lower one; and more images that break a group.
 use mathlib.Core.Path.{_≡_, refl}
-use mathlib.Core.Bool.{false}
+use mathlib.Core.Bool.{true, false}
 use mathlib.Core.List.{List, [], _∷_, _++_}
 use Prim.Native.Nat.{ℕ, _+_, _*_}
 use lib.ListN.{length, replicate}
@@ -8,7 +8,9 @@ use Rattle.format.specs.Basics.Bytes.{putBytes, put32}
 use Rattle.format.specs.Layout.Chain.{FREE, END, FATSECT}
 use Rattle.format.specs.Layout.Entry.{NOSTREAM}
 use Rattle.format.specs.Layout.Geometry.{version3}
-use Rattle.format.specs.Layout.Volume.{volume}
+use Rattle.format.specs.Layout.Volume.{directory, volume}
+use Rattle.format.specs.Rules.Entries.{entryRules}
+use Rattle.format.specs.Rules.Trees.{treeRules}
 use Rattle.format.specs.Rules.Mini.{miniRules}
 use Rattle.format.specs.Rules.Streams.{streamRules}
 use Rattle.format.specs.Rules.Owners.{ownerRules}
@@ -126,19 +128,19 @@ blank-with-colour : verdict version3 (putBytes smallest (inEntry 1 67) (1 ∷ []
 unfolding opened built
 blank-with-colour = refl
 
-second-root : verdict version3 (putBytes bare (inEntry 1 66) (5 ∷ [])) 65 ≡ 14
+second-root : entryRules (directory version3 (putBytes bare (inEntry 1 66) (5 ∷ []))) ≡ false
 unfolding opened built
 second-root = refl
 
-colon-in-name : verdict version3 (putBytes bare (inEntry 2 0) (0x3A ∷ [])) 65 ≡ 14
+colon-in-name : entryRules (directory version3 (putBytes bare (inEntry 2 0) (0x3A ∷ []))) ≡ false
 unfolding opened built
 colon-in-name = refl
 
-upper-size-bytes : verdict version3 (put32 bare (inEntry 2 124) 1) 65 ≡ 14
+upper-size-bytes : entryRules (directory version3 (put32 bare (inEntry 2 124) 1)) ≡ false
 unfolding opened built
 upper-size-bytes = refl
 
-stream-with-child : verdict version3 (put32 bare (inEntry 2 76) 3) 65 ≡ 14
+stream-with-child : entryRules (directory version3 (put32 bare (inEntry 2 76) 3)) ≡ false
 unfolding opened built
 stream-with-child = refl
 
@@ -154,23 +156,23 @@ whole-side : verdict version3 (threeSiblings 0x64) 39 ≡ 15
 unfolding opened built
 whole-side = refl
 
-whole-side-in-order : verdict version3 (threeSiblings 0x62) 39 ≡ 0
+whole-side-in-order : treeRules (directory version3 (threeSiblings 0x62)) ≡ true
 unfolding opened built
 whole-side-in-order = refl
 
-top-red : verdict version3 (putBytes bare (inEntry 2 67) (0 ∷ [])) 65 ≡ 15
+top-red : treeRules (directory version3 (putBytes bare (inEntry 2 67) (0 ∷ []))) ≡ false
 unfolding opened built
 top-red = refl
 
-entry-unreached : verdict version3 (put32 bare (inEntry 2 72) NOSTREAM) 65 ≡ 15
+entry-unreached : treeRules (directory version3 (put32 bare (inEntry 2 72) NOSTREAM)) ≡ false
 unfolding opened built
 entry-unreached = refl
 
-names-entry-0 : verdict version3 (put32 bare (inEntry 3 72) 0) 65 ≡ 15
+names-entry-0 : treeRules (directory version3 (put32 bare (inEntry 3 72) 0)) ≡ false
 unfolding opened built
 names-entry-0 = refl
 
-siblings-circle : verdict version3 (put32 bare (inEntry 3 72) 2) 65 ≡ 15
+siblings-circle : treeRules (directory version3 (put32 bare (inEntry 3 72) 2)) ≡ false
 unfolding opened built
 siblings-circle = refl
 
