@@ -1,0 +1,40 @@
+-- Lists made of what stands at each number below a limit.
+use mathlib.Core.Path.{_≡_, refl, sym, ap₂, _∙_}
+use mathlib.Core.Logic.{_≢_}
+use mathlib.Core.List.{List, [], _∷_, _++_}
+use Prim.Native.Nat.{ℕ, zero, suc, _+_, _<_}
+use native.Mathlib.Omega.{arith}
+use native.Mathlib.Decide.{ℕ-discrete}
+use lib.ListN.{length, getD, set, length-append, length-set, List·getD-append}
+use lib.Seq.{ext-getD, getD-set-same, getD-set-other, getD-at}
+use Rattle.format.specs.Basics.Lists.{listBelow, joinBelow}
+
+pub length-below : {A : Type 0} (n : ℕ) (f : ℕ → A) → length (listBelow n f) ≡ n
+unfolding listBelow
+length-below zero f = refl
+length-below (suc n) f = omega (arith, length-append (listBelow n f) (f n ∷ []), length-below n f)
+
+pub getD-below : {A : Type 0} (n : ℕ) (f : ℕ → A) (i : ℕ) (d : A) → i < n → getD (listBelow n f) i d ≡ f i
+unfolding listBelow
+getD-below zero f i d h = absurd (omega arith)
+getD-below (suc n) f i d h =
+    elim (ℕ-discrete i n) [
+      | yes e ↦ rw e (getD-at (listBelow n f) (f n) [] d n (length-below n f))
+      | no q ↦ List·getD-append (listBelow n f) (f n ∷ []) d i (omega (arith, length-below n f)) ∙ getD-below n f i d (omega arith)
+    ]
+
+-- one place changed
+pub below-set : {A : Type 0} (n e : ℕ) (f h : ℕ → A) (d : A) → e < n → ((i : ℕ) → i < n → i ≢ e → h i ≡ f i) → listBelow n h ≡ set (listBelow n f) e (h e)
+below-set n e f h d q same =
+    ext-getD d (listBelow n h) (set (listBelow n f) e (h e)) (length-below n h ∙ sym (length-set (listBelow n f) e (h e) ∙ length-below n f))
+    (λ i p.
+    let k : i < n = omega (arith, length-below n h) in
+    elim (ℕ-discrete i e) [
+      | yes z ↦ getD-below n h i d k ∙ rw z (sym (getD-set-same (listBelow n f) e (h e) d (omega (arith, length-below n f))))
+      | no z ↦ getD-below n h i d k ∙ same i k z ∙ sym (getD-set-other (listBelow n f) e i (h e) d z ∙ getD-below n f i d k)
+    ])
+
+pub join-ext : (n : ℕ) (f h : ℕ → List ℕ) → ((i : ℕ) → i < n → h i ≡ f i) → joinBelow n h ≡ joinBelow n f
+unfolding joinBelow
+join-ext zero f h k = refl
+join-ext (suc n) f h k = ap₂ _++_ (join-ext n f h (λ i q. k i (omega arith))) (k n (omega arith))

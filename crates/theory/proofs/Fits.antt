@@ -1,0 +1,30 @@
+-- A list cut, or with zeros added.
+use mathlib.Core.Path.{_≡_, refl, sym, ap, _∙_}
+use mathlib.Core.List.{List, [], _∷_, _++_, append-nil}
+use Prim.Native.Nat.{ℕ, zero, suc, _+_, _-_, _≤_, _<_}
+use native.Mathlib.Omega.{arith}
+use lib.ListN.{length, take, replicate, length-append, length-take, length-replicate}
+use lib.Seq.{take-all, take-append-add}
+use Rattle.format.specs.Basics.Lists.{fit}
+
+pub length-fit : (n : ℕ) (xs : List ℕ) → length (fit n xs) ≡ n
+unfolding fit
+length-fit n xs = rw (length-append (take n xs) (replicate (n - length xs) 0), length-take n xs, length-replicate {A = ℕ} (n - length xs) 0) (omega arith)
+
+pub fit-cut : (n : ℕ) (xs : List ℕ) → n ≤ length xs → fit n xs ≡ take n xs
+unfolding fit
+fit-cut n xs h = let e : n - length xs ≡ 0 = omega arith in rw e (append-nil (take n xs))
+
+take-replicate : (j n a : ℕ) → j ≤ n → take j (replicate n a) ≡ replicate j a
+take-replicate zero n a h = refl
+take-replicate (suc j) zero a h = absurd (omega arith)
+take-replicate (suc j) (suc n) a h = ap (λ t. a ∷ t) (take-replicate j n a (omega arith))
+
+pub take-fit : (n m : ℕ) (xs : List ℕ) → length xs ≤ n → n ≤ m → take n (fit m xs) ≡ fit n xs
+unfolding fit
+take-fit n m xs h k =
+    let j = n - length xs in
+    let e : n ≡ length xs + j = omega arith in
+    rw (take-all m xs (omega arith), take-all n xs h)
+    (ap (λ t. take t (xs ++ replicate (m - length xs) 0)) e ∙ take-append-add xs (replicate (m - length xs) 0) j
+    ∙ ap (λ t. xs ++ t) (take-replicate j (m - length xs) 0 (omega arith)))

@@ -1,0 +1,15 @@
+-- The laws, in the order of reading.
+pub mod Counts
+pub mod Tests
+pub mod Picks
+pub mod Below
+pub mod Sets
+pub mod RoundUp
+pub mod OwnerCounts
+pub mod Chains
+pub mod Relinks
+pub mod FreeUnits
+pub mod Owned
+pub mod Contents
+pub mod Fits
+pub mod Edits

@@ -1,0 +1,71 @@
+-- The numbers below a bound that pass a test.
+use mathlib.Core.Path.{_≡_, refl, sym, ap, ap₂, _∙_}
+use mathlib.Core.Logic.{_≢_, _⊎_, inl, inr}
+use mathlib.Core.Bool.{Bool, true, false, not, cond}
+use mathlib.Core.List.{List, [], _∷_, _++_}
+use Prim.Native.Nat.{ℕ, zero, suc, _+_, _≤_, _<_}
+use native.Mathlib.Omega.{arith}
+use native.Mathlib.Decide.{ℕ-discrete, decLt}
+use lib.Dec.{eqb}
+use lib.ListN.{length, take, drop, getD, set, length-append, take-append-drop}
+use borrow.Author.Tests.{eq-eqb, ne-eqb}
+use Rattle.format.specs.Basics.Lists.{bit, count, pickBelow}
+use Rattle.theory.specs.Sums.{sumBelow}
+use Rattle.theory.proofs.Counts.{eqb-cases, bit-self, bit-other, count-append}
+
+pub one-ne : (b : Bool) (s n : ℕ) → s ≢ n → count s (cond b (n ∷ []) []) ≡ 0
+one-ne true s n q = let r = bit-other s n q in omega arith
+one-ne false s n q = refl
+
+pub one-self : (b : Bool) (n : ℕ) → count n (cond b (n ∷ []) []) ≡ bit b
+one-self true n = let r = bit-self n in omega arith
+one-self false n = refl
+
+pub length-one : (b : Bool) (n : ℕ) → length (cond b (n ∷ []) []) ≡ bit b
+length-one true n = refl
+length-one false n = refl
+
+pub pick-above : (p : ℕ → Bool) (s n : ℕ) → n ≤ s → count s (pickBelow n p) ≡ 0
+pick-above p s zero h = refl
+pick-above p s (suc n) h =
+    let a = count-append s (pickBelow n p) (cond (p n) (n ∷ []) []) in
+    let r = pick-above p s n (omega arith) in
+    let q = one-ne (p n) s n (omega arith) in
+    omega arith
+
+pub pick-below : (p : ℕ → Bool) (s n : ℕ) → s < n → count s (pickBelow n p) ≡ bit (p s)
+pick-below p s zero h = omega arith
+pick-below p s (suc n) h =
+    let a = count-append s (pickBelow n p) (cond (p n) (n ∷ []) []) in
+    elim (eqb-cases s n) [
+      | inl e ↦
+          let z = pick-above p s n (omega arith) in
+          let y : count s (cond (p n) (n ∷ []) []) ≡ bit (p s) = rw (e .0) (one-self (p n) n) in
+          omega arith
+      | inr e ↦
+          let r = pick-below p s n (omega arith) in
+          let q = one-ne (p n) s n (e .0) in
+          omega arith
+    ]
+
+pub length-pick : (p : ℕ → Bool) (n : ℕ) → length (pickBelow n p) ≡ sumBelow (λ s. bit (p s)) n
+length-pick p zero = refl
+length-pick p (suc n) = omega (arith, length-append (pickBelow n p) (cond (p n) (n ∷ []) []), length-pick p n, length-one (p n) n)
+
+bit-not : (b : Bool) → bit (not b) + bit b ≡ 1
+bit-not true = refl
+bit-not false = refl
+
+-- what passes and what does not come to all
+pub pick-both : (p : ℕ → Bool) (n : ℕ) → length (pickBelow n (λ s. not (p s))) + length (pickBelow n p) ≡ n
+pick-both p zero = refl
+pick-both p (suc n) =
+    omega (
+      arith,
+      pick-both p n,
+      bit-not (p n),
+      length-append (pickBelow n p) (cond (p n) (n ∷ []) []),
+      length-one (p n) n,
+      length-append (pickBelow n (λ s. not (p s))) (cond (not (p n)) (n ∷ []) []),
+      length-one (not (p n)) n,
+    )

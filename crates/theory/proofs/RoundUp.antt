@@ -1,0 +1,28 @@
+-- How many units hold a number of bytes.
+use mathlib.Core.Path.{_≡_}
+use Prim.Native.Nat.{ℕ, zero, suc, _+_, _-_, _*_, _/_, _%_, _≤_, _<_}
+use native.Mathlib.Nat.{lt-div-mul-add, div-mul-le-self, div-add-mod', mod-lt, div-lt-iff-lt-mul}
+use native.Mathlib.Omega.{arith}
+use native.Mathlib.Decide.{decLt}
+use Rattle.format.specs.Layout.Need.{roundUp}
+
+pub round-enough : (n d : ℕ) → 0 < d → n ≤ roundUp n d * d
+unfolding roundUp
+round-enough n d h = let a = lt-div-mul-add {a = n + (d - 1)} {b = d} h in omega arith
+
+pub round-zero : (d : ℕ) → 0 < d → roundUp 0 d ≡ 0
+unfolding roundUp
+round-zero d h =
+    let a = div-mul-le-self (0 + (d - 1)) d in
+    elim (decLt 0 ((0 + (d - 1)) / d)) [ yes p ↦ absurd (few ((0 + (d - 1)) / d) p (omega arith)) | no q ↦ omega arith ]
+  where
+    few : (k : ℕ) → 0 < k → k * d < d → ⊥
+    few zero p q = omega arith
+    few (suc k) p q = omega arith
+
+pub round-lt : (j n d : ℕ) → 0 < d → j < n → j / d < roundUp n d
+unfolding roundUp
+round-lt j n d z h =
+    let a = div-add-mod' (n + (d - 1)) d in
+    let b = mod-lt (n + (d - 1)) z in
+    div-lt-iff-lt-mul z .1 (omega arith)

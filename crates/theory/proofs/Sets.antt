@@ -1,0 +1,59 @@
+-- What a run of stores does to a part of a list.
+use mathlib.Core.Path.{_≡_, refl, sym, ap, _∙_}
+use mathlib.Core.Logic.{_≢_}
+use mathlib.Core.List.{List, [], _∷_, _++_}
+use Prim.Native.Nat.{ℕ, zero, suc, _+_, _-_, _*_, _≤_, _<_}
+use native.Mathlib.Nat.{add-suc, suc-add, add-zero}
+use native.Mathlib.Omega.{arith}
+use lib.ListN.{length, getD, take, drop, set, length-set}
+use lib.Seq.{sets, take-take, drop-set-add, drop-set-lt, take-set-le, take-set-lt, set-append-left, getD-set-same, getD-set-other}
+
+module _ {A : Type 0} where
+  pub drop-sets-add : (n : ℕ) (l : List A) (i : ℕ) (vs : List A) → drop n (sets l (n + i) vs) ≡ sets (drop n l) i vs
+  drop-sets-add n l i [] = refl
+  drop-sets-add n l i (v ∷ vs) = rw (← add-suc, drop-sets-add n (set l (n + i) v) (suc i) vs, drop-set-add)
+
+  pub drop-sets-lt : (n : ℕ) (l : List A) (i : ℕ) (vs : List A) → i + length vs ≤ n → drop n (sets l i vs) ≡ drop n l
+  drop-sets-lt n l i [] h = refl
+  drop-sets-lt n l i (v ∷ vs) h = drop-sets-lt n (set l i v) (suc i) vs (omega arith) ∙ drop-set-lt n l i v (omega arith)
+
+  pub take-sets-le : (n : ℕ) (l : List A) (i : ℕ) (vs : List A) → n ≤ i → take n (sets l i vs) ≡ take n l
+  take-sets-le n l i [] h = refl
+  take-sets-le n l i (v ∷ vs) h = take-sets-le n (set l i v) (suc i) vs (omega arith) ∙ take-set-le n l i v h
+
+  pub take-sets-in : (n : ℕ) (l : List A) (i : ℕ) (vs : List A) → i + length vs ≤ n → take n (sets l i vs) ≡ sets (take n l) i vs
+  take-sets-in n l i [] h = refl
+  take-sets-in n l i (v ∷ vs) h = rw (take-sets-in n (set l i v) (suc i) vs (omega arith), take-set-lt n l i v (omega arith))
+
+  pub sets-append-left : (xs ys : List A) (i : ℕ) (vs : List A) → i + length vs ≤ length xs → sets (xs ++ ys) i vs ≡ sets xs i vs ++ ys
+  sets-append-left xs ys i [] h = refl
+  sets-append-left xs ys i (v ∷ vs) h =
+      rw (set-append-left xs ys i v (omega arith)) (sets-append-left (set xs i v) ys (suc i) vs (omega (arith, length-set xs i v)))
+
+  pub set-append-right : (xs ys : List A) (i : ℕ) (v : A) → set (xs ++ ys) (length xs + i) v ≡ xs ++ set ys i v
+  set-append-right [] ys i v = simp native.Mathlib.Nat.zero-add
+  set-append-right (x ∷ xs) ys i v = rw suc-add (ap (λ (r : List A). x ∷ r) (set-append-right xs ys i v))
+
+  pub sets-append-right : (xs ys : List A) (i : ℕ) (vs : List A) → sets (xs ++ ys) (length xs + i) vs ≡ xs ++ sets ys i vs
+  sets-append-right xs ys i [] = refl
+  sets-append-right xs ys i (v ∷ vs) = rw (set-append-right, ← add-suc) (sets-append-right xs (set ys i v) (suc i) vs)
+
+  pub getD-sets-out : (l : List A) (i : ℕ) (vs : List A) (j : ℕ) (d : A) → ((k : ℕ) → k < length vs → j ≢ i + k) → getD (sets l i vs) j d ≡ getD l j d
+  getD-sets-out l i [] j d h = refl
+  getD-sets-out l i (v ∷ vs) j d h =
+      getD-sets-out (set l i v) (suc i) vs j d (λ k b e. h (suc k) (omega arith) (omega arith))
+      ∙ getD-set-other l i j v d (λ e. h 0 (omega arith) (omega arith))
+
+  pub getD-sets-in : (l : List A) (i : ℕ) (vs : List A) (k : ℕ) (d : A) → k < length vs → i + length vs ≤ length l → getD (sets l i vs) (i + k) d ≡ getD vs k d
+  getD-sets-in l i [] k d h b = absurd (native.Mathlib.Nat.not-suc-le-zero h)
+  getD-sets-in l i (v ∷ vs) zero d h b =
+      rw add-zero (getD-sets-out (set l i v) (suc i) vs i d (λ k c e. omega arith) ∙ getD-set-same l i v d (omega arith))
+  getD-sets-in l i (v ∷ vs) (suc k) d h b =
+      rw (add-suc, ← suc-add) (getD-sets-in (set l i v) (suc i) vs k d (omega arith) (omega (arith, length-set l i v)))
+
+  -- a part of a front that holds it whole
+  pub sub-take : (w n m : ℕ) (l : List A) → n + w ≤ m → take w (drop n (take m l)) ≡ take w (drop n l)
+  sub-take w zero m l h = take-take w m l (omega arith)
+  sub-take w (suc n) zero l h = absurd (native.Mathlib.Nat.not-suc-le-zero (let q : suc (n + w) ≤ 0 = omega arith in q))
+  sub-take w (suc n) (suc m) [] h = refl
+  sub-take w (suc n) (suc m) (x ∷ xs) h = sub-take w n m xs (omega arith)

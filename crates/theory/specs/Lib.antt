@@ -1,0 +1,5 @@
+-- What the laws speak of, beside `format`.
+pub mod Sums
+pub mod Links
+pub mod Owned
+pub mod Blocks
