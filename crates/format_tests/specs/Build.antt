@@ -3,7 +3,7 @@ use Prim.Native.Nat.{ℕ, _+_, _-_, _*_}
 use mathlib.Core.List.{List, [], _∷_, _++_}
 use lib.ListN.{length, replicate}
 use Rattle.format.specs.Basics.Bytes.{Bytes, le16, le32, le64}
-use Rattle.format.specs.Layout.Chain.{FREE, END}
+use Rattle.format.specs.Layout.Chain.{END}
 use Rattle.format.specs.Layout.Entry.{NOSTREAM}
 use Rattle.format.specs.Rules.Header.{signature}
 

@@ -1,11 +1,11 @@
 -- A list of calls, one of them refused: what the rows say is what the image has.
 use mathlib.Core.Path.{_≡_, refl}
 use mathlib.Core.List.{List, [], _∷_, _++_}
-use Prim.Native.Nat.{ℕ, _+_, _*_}
-use lib.ListN.{length, replicate}
+use Prim.Native.Nat.{ℕ}
+use lib.ListN.{replicate}
 use Rattle.format.specs.Layout.Geometry.{version3}
 use Rattle.format.specs.Layout.Volume.{volume}
-use Rattle.format.specs.Calls.Call.{Call, validate, find, read, overwrite, setLength, list}
+use Rattle.format.specs.Calls.Call.{Call, setLength}
 use Rattle.format.specs.Basics.Bytes.{Bytes}
 use Rattle.format.specs.Layout.Space.{allocated}
 use Rattle.format.specs.Rules.Verdict.{verdict}

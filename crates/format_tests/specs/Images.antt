@@ -2,8 +2,8 @@
 use Prim.Native.Nat.{ℕ, _+_, _*_}
 use mathlib.Core.List.{List, [], _∷_, _++_}
 use lib.ListN.{replicate}
-use Rattle.format.specs.Basics.Bytes.{Bytes, put32}
-use Rattle.format.specs.Layout.Chain.{FREE, END, FATSECT}
+use Rattle.format.specs.Basics.Bytes.{Bytes}
+use Rattle.format.specs.Layout.Chain.{END, FATSECT}
 use Rattle.format.specs.Layout.Entry.{NOSTREAM}
 use Rattle.format_tests.specs.Build.{words, header, cells, nameField, entry, blank, rootEntry}
 

@@ -1,13 +1,12 @@
 -- A change of a large stream's length, and from 0 to the cutoff.
 use mathlib.Core.Path.{_≡_, refl}
-use mathlib.Core.List.{List, [], _∷_, _++_}
-use Prim.Native.Nat.{ℕ, _+_, _*_}
-use lib.ListN.{length, replicate}
+use mathlib.Core.List.{[]}
+use lib.ListN.{replicate}
 use Rattle.format.specs.Layout.Geometry.{version3}
 use Rattle.format.specs.Layout.Volume.{volume}
-use Rattle.format.specs.Calls.Call.{Call, validate, find, read, overwrite, setLength, list}
-use Rattle.format.specs.Basics.Bytes.{Bytes, putBytes, put32}
-use Rattle.format.specs.Layout.Chain.{FREE, END}
+use Rattle.format.specs.Calls.Call.{setLength}
+use Rattle.format.specs.Basics.Bytes.{putBytes, put32}
+use Rattle.format.specs.Layout.Chain.{END}
 use Rattle.format.specs.Calls.Answer.{answerIn}
 use Rattle.format.specs.Calls.Buffers.{edited}
 use Rattle.format.specs.Rules.Verdict.{verdict}

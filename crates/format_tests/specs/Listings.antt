@@ -1,17 +1,16 @@
 -- The listing's bytes, 27, and the program.
 use mathlib.Core.Path.{_≡_, refl}
-use mathlib.Core.List.{List, [], _∷_, _++_}
-use Prim.Native.Nat.{ℕ, _+_, _*_}
-use lib.ListN.{length, replicate}
+use mathlib.Core.List.{[], _∷_, _++_}
+use lib.ListN.{replicate}
 use Rattle.format.specs.Layout.Geometry.{version3}
 use Rattle.format.specs.Layout.Volume.{volume}
-use Rattle.format.specs.Calls.Call.{Call, validate, find, read, overwrite, setLength, list}
+use Rattle.format.specs.Calls.Call.{list}
 use Rattle.format.specs.Basics.Bytes.{Bytes}
 use Rattle.format.specs.Calls.Text.{decimal, printUnit}
 use Rattle.format.specs.Calls.Listing.{listing}
 use Rattle.format.specs.Calls.Answer.{answerIn}
 use Rattle.format.specs.Calls.Reply.{reply}
-use Rattle.format.specs.Calls.Buffers.{handedOut, outAfter}
+use Rattle.format.specs.Calls.Buffers.{outAfter}
 use Rattle.format.specs.Calls.Program.{programOutput}
 use Rattle.format_tests.specs.Opened.{opened}
 use Rattle.format_tests.specs.Images.{smallest, bare, site, built}

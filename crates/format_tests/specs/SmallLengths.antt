@@ -1,11 +1,11 @@
 -- A change of a small stream's length: 23, 25, 26, and the bytes.
 use mathlib.Core.Path.{_≡_, refl}
-use mathlib.Core.List.{List, [], _∷_, _++_}
-use Prim.Native.Nat.{ℕ, _+_, _*_}
-use lib.ListN.{length, replicate}
+use mathlib.Core.List.{[]}
+use Prim.Native.Nat.{_+_}
+use lib.ListN.{replicate}
 use Rattle.format.specs.Layout.Geometry.{version3}
 use Rattle.format.specs.Layout.Volume.{volume}
-use Rattle.format.specs.Calls.Call.{Call, validate, find, read, overwrite, setLength, list}
+use Rattle.format.specs.Calls.Call.{setLength}
 use Rattle.format.specs.Basics.Bytes.{Bytes, putBytes, put32}
 use Rattle.format.specs.Layout.Chain.{FREE, END}
 use Rattle.format.specs.Calls.Answer.{answerIn}

@@ -1,8 +1,7 @@
 -- The values that 01 marks P ("Values on each side of the line"), in one table; and the byte order, on bytes written out.
 use mathlib.Core.Path.{_≡_, refl}
 use mathlib.Core.Bool.{true}
-use mathlib.Core.List.{List, [], _∷_}
-use Prim.Native.Nat.{ℕ}
+use mathlib.Core.List.{[], _∷_}
 use Rattle.format.specs.Basics.Bytes.{u16at, u32at, u64at, le32, put64}
 use Rattle.format.specs.Layout.Geometry.{version3, sectorPlace}
 use Rattle.format.specs.Layout.Need.{miniNeed, sectorNeed}

@@ -1,9 +1,8 @@
 -- The verdict: 0, 1, 2, and for each of the groups 10 to 18 images that break it and no lower one; and more images that break a group.
 use mathlib.Core.Path.{_≡_, refl}
 use mathlib.Core.Bool.{true, false}
-use mathlib.Core.List.{List, [], _∷_, _++_}
-use Prim.Native.Nat.{ℕ, _+_, _*_}
-use lib.ListN.{length, replicate}
+use mathlib.Core.List.{[], _∷_}
+use lib.ListN.{replicate}
 use Rattle.format.specs.Basics.Bytes.{putBytes, put32}
 use Rattle.format.specs.Layout.Chain.{FREE, END, FATSECT}
 use Rattle.format.specs.Layout.Entry.{NOSTREAM}

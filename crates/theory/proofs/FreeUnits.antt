@@ -8,7 +8,7 @@ use native.Mathlib.Omega.{arith}
 use native.Mathlib.Decide.{ℕ-discrete, decLe, decLt}
 use lib.Dec.{eqb}
 use lib.ListN.{length, take, drop, length-append, drop-of-length-le}
-use lib.Seq.{take-all, drop-append-le, take-append-le, length-take-le}
+use lib.Seq.{take-all, drop-append-le, take-append-le}
 use borrow.Author.Tests.{eq-eqb, ne-eqb, eqb-true}
 use Rattle.format.specs.Basics.Lists.{bit, count, pickBelow}
 use Rattle.format.specs.Layout.Chain.{END, FREE, isFree, freeBelow}

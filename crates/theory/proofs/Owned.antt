@@ -1,9 +1,9 @@
 -- A chain becomes another: what is owned stays in order, and the allocated units are counted by their owners.
-use mathlib.Core.Path.{_≡_, refl, sym, ap, _∙_}
-use mathlib.Core.Logic.{_≢_, _⊎_, inl, inr}
-use mathlib.Core.Bool.{Bool, true, false, not}
-use mathlib.Core.List.{List, [], _∷_, _++_}
-use Prim.Native.Nat.{ℕ, zero, suc, _+_, _≤_, _<_}
+use mathlib.Core.Path.{_≡_, sym, ap, _∙_}
+use mathlib.Core.Logic.{_≢_, inl, inr}
+use mathlib.Core.Bool.{not}
+use mathlib.Core.List.{List, [], _++_}
+use Prim.Native.Nat.{ℕ, _+_, _≤_, _<_}
 use native.Mathlib.Omega.{arith}
 use native.Mathlib.Decide.{ℕ-discrete, decLt}
 use lib.ListN.{length, take, getD, set, length-set}
@@ -11,7 +11,7 @@ use lib.Seq.{getD-set-same, getD-set-other}
 use borrow.Author.Tests.{eq-eqb, ne-eqb}
 use Rattle.format.specs.Basics.Lists.{bit, count}
 use Rattle.format.specs.Layout.Chain.{END, FREE, isFree, isAllocated, freeBelow, allocatedBelow}
-use Rattle.theory.specs.Sums.{sumBelow, owners, lengths}
+use Rattle.theory.specs.Sums.{owners, lengths}
 use Rattle.theory.specs.Links.{Linked, freed, chained, rechain}
 use Rattle.theory.specs.Owned.{Owned, MayBecome}
 use Rattle.theory.proofs.Counts.{sum-ext, sum-add, sum-count}

@@ -1,14 +1,11 @@
 -- How often a unit stands in the lists of a list.
-use mathlib.Core.Path.{_≡_, refl, sym, ap, ap₂, _∙_}
-use mathlib.Core.Logic.{_≢_, _⊎_, inl, inr}
-use mathlib.Core.Bool.{Bool, true, false, not, cond}
+use mathlib.Core.Path.{_≡_, refl}
+use mathlib.Core.Logic.{_≢_}
 use mathlib.Core.List.{List, [], _∷_, _++_}
 use Prim.Native.Nat.{ℕ, zero, suc, _+_, _≤_, _<_}
 use native.Mathlib.Omega.{arith}
-use native.Mathlib.Decide.{ℕ-discrete, decLt}
-use lib.Dec.{eqb}
-use lib.ListN.{length, take, drop, getD, set, length-append, take-append-drop}
-use borrow.Author.Tests.{eq-eqb, ne-eqb}
+use native.Mathlib.Decide.{decLt}
+use lib.ListN.{length, getD, set}
 use Rattle.format.specs.Basics.Lists.{count, listBelow, joinBelow}
 use Rattle.theory.specs.Sums.{sumBelow, owners, lengths}
 use Rattle.theory.proofs.Counts.{count-append, sum-add, sum-zero, sum-count}

@@ -1,14 +1,11 @@
 -- The numbers below a bound that pass a test.
-use mathlib.Core.Path.{_≡_, refl, sym, ap, ap₂, _∙_}
-use mathlib.Core.Logic.{_≢_, _⊎_, inl, inr}
+use mathlib.Core.Path.{_≡_, refl}
+use mathlib.Core.Logic.{_≢_, inl, inr}
 use mathlib.Core.Bool.{Bool, true, false, not, cond}
-use mathlib.Core.List.{List, [], _∷_, _++_}
+use mathlib.Core.List.{[], _∷_}
 use Prim.Native.Nat.{ℕ, zero, suc, _+_, _≤_, _<_}
 use native.Mathlib.Omega.{arith}
-use native.Mathlib.Decide.{ℕ-discrete, decLt}
-use lib.Dec.{eqb}
-use lib.ListN.{length, take, drop, getD, set, length-append, take-append-drop}
-use borrow.Author.Tests.{eq-eqb, ne-eqb}
+use lib.ListN.{length, length-append}
 use Rattle.format.specs.Basics.Lists.{bit, count, pickBelow}
 use Rattle.theory.specs.Sums.{sumBelow}
 use Rattle.theory.proofs.Counts.{eqb-cases, bit-self, bit-other, count-append}

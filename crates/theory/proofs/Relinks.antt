@@ -1,9 +1,9 @@
 -- Tables that are changed along chains: freeing, chaining, and both.
 use mathlib.Core.Path.{_≡_, refl, sym, ap, ap₂, _∙_}
-use mathlib.Core.Logic.{_≢_, _⊎_, inl, inr}
+use mathlib.Core.Logic.{inl, inr}
 use mathlib.Core.Bool.{Bool, true, false, cond}
 use mathlib.Core.List.{List, [], _∷_, _++_, append-assoc}
-use Prim.Native.Nat.{ℕ, zero, suc, _+_, _-_, _≤_, _<_}
+use Prim.Native.Nat.{ℕ, zero, suc, _-_, _≤_, _<_}
 use native.Mathlib.Omega.{arith}
 use native.Mathlib.Decide.{decLt}
 use lib.Dec.{eqb}
@@ -12,7 +12,7 @@ use native.Mathlib.Numerals.{sub-one}
 use lib.Seq.{split-at, take-suc, take-all, take-take, getD-take, drop-cons}
 use borrow.Author.Tests.{eq-eqb, ne-eqb}
 use Rattle.format.specs.Basics.Lists.{bit, count}
-use Rattle.format.specs.Layout.Chain.{END, FREE, chain, units, startOf}
+use Rattle.format.specs.Layout.Chain.{END, FREE, startOf}
 use Rattle.theory.specs.Links.{Linked, freed, chained, rechain}
 use Rattle.theory.proofs.Counts.{eqb-cases, bit-self, count-append, count-split}
 use Rattle.theory.proofs.Chains.{linked-agree, linked-once}

@@ -1,7 +1,6 @@
 -- The answer number of each call ("What the desk answers").
 use Prim.Native.Nat.{ℕ, zero, suc, _+_}
 use mathlib.Core.Bool.{cond}
-use mathlib.Core.List.{List}
 use lib.Dec.{ltb}
 use lib.ListN.{length}
 use Rattle.format.specs.Basics.Bytes.{Bytes}
