@@ -9,6 +9,11 @@ use lib.ListN.{length, getD, set, length-append, length-set, List·getD-append}
 use lib.Seq.{ext-getD, getD-set-same, getD-set-other, getD-at}
 use Rattle.format.specs.Basics.Lists.{listBelow, joinBelow}
 
+pub listBelow-ext : {A : Type 0} (n : ℕ) (f h : ℕ → A) → ((i : ℕ) → i < n → h i ≡ f i) → listBelow n h ≡ listBelow n f
+unfolding listBelow
+listBelow-ext zero f h e = refl
+listBelow-ext (suc n) f h e = rw (listBelow-ext n f h (λ i l. e i (omega arith)), e n (omega arith))
+
 pub length-below : {A : Type 0} (n : ℕ) (f : ℕ → A) → length (listBelow n f) ≡ n
 unfolding listBelow
 length-below zero f = refl

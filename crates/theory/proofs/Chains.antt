@@ -114,15 +114,6 @@ module _ (f : ℕ → ℕ) (N : ℕ) (lim : N ≤ END) where
 
 -- ---- following a chain whose length is not known: the limit is fuel enough
 
-length-follow : (f : ℕ → ℕ) (N n s : ℕ) → length (follow f N n s) ≤ n
-unfolding follow
-length-follow f N zero s = omega arith
-length-follow f N (suc n) s = go (ltb s N) (length-follow f N n (f s))
-  where
-    go : (b : Bool) → length (follow f N n (f s)) ≤ n → length (cond b (s ∷ follow f N n (f s)) []) ≤ suc n
-    go true h = omega arith
-    go false h = omega arith
-
 follow-chain : (f : ℕ → ℕ) (N n m s : ℕ) → N ≤ END → n ≤ m → chain f N n s ≡ true → follow f N m s ≡ units f n s
 unfolding follow units chain
 follow-chain f N zero zero s lim h t = refl
@@ -132,8 +123,11 @@ follow-chain f N (suc n) (suc m) s lim h t =
     let q = both (ltb s N) (chain f N n (f s)) t in
     rw (q .0) (ap (λ (x : List ℕ). s ∷ x) (follow-chain f N n m (f s) lim (omega arith) (q .1)))
 
-pub follow-is : (f : ℕ → ℕ) (N s : ℕ) → N ≤ END → chain f N (length (follow f N N s)) s ≡ true → follow f N N s ≡ units f (length (follow f N N s)) s
-follow-is f N s lim t = follow-chain f N (length (follow f N N s)) N s lim (length-follow f N N s) t
+-- what is followed is the chain, whatever its length
+pub follow-is : (f : ℕ → ℕ) (N n s : ℕ) → N ≤ END → chain f N n s ≡ true → follow f N N s ≡ units f n s
+follow-is f N n s lim t =
+    let l = linked-short f N lim (units f n s) (chain-linked f N n s t .0) in
+    follow-chain f N n N s lim (omega (arith, length-units f n s)) t
 
 pub follow-units : (f : ℕ → ℕ) (N n s : ℕ) → units f (length (follow f N n s)) s ≡ follow f N n s
 unfolding follow units
@@ -143,3 +137,27 @@ follow-units f N (suc n) s = go (ltb s N) (follow-units f N n (f s))
     go : (b : Bool) → units f (length (follow f N n (f s))) (f s) ≡ follow f N n (f s) → units f (length (cond b (s ∷ follow f N n (f s)) [])) s ≡ cond b (s ∷ follow f N n (f s)) []
     go true h = ap (λ r. s ∷ r) h
     go false h = refl
+
+pub units-agree : (f h : ℕ → ℕ) (n s : ℕ) → ((x : ℕ) → 0 < count x (units f n s) → h x ≡ f x) → units h n s ≡ units f n s
+unfolding units
+units-agree f h zero s e = refl
+units-agree f h (suc n) s e =
+    let q = bit-self s in
+    rw (e s (omega arith)) (ap (λ (x : List ℕ). s ∷ x) (units-agree f h n (f s) (λ x p. e x (omega arith))))
+
+first-counts : (s : ℕ) (xs : List ℕ) → 0 < count s (s ∷ xs)
+first-counts s xs = let q = bit-self s in omega arith
+
+more-counts : (x s : ℕ) (xs : List ℕ) → 0 < count x xs → 0 < count x (s ∷ xs)
+more-counts x s xs h = omega arith
+
+pub follow-agree : (f h : ℕ → ℕ) (N n s : ℕ) → ((x : ℕ) → 0 < count x (follow f N n s) → h x ≡ f x) → follow h N n s ≡ follow f N n s
+unfolding follow
+follow-agree f h N zero s e = refl
+follow-agree f h N (suc n) s e = go (ltb s N) e (λ k. follow-agree f h N n (f s) k)
+  where
+    go : (b : Bool) → ((x : ℕ) → 0 < count x (cond b (s ∷ follow f N n (f s)) []) → h x ≡ f x)
+        → (((x : ℕ) → 0 < count x (follow f N n (f s)) → h x ≡ f x) → follow h N n (f s) ≡ follow f N n (f s))
+        → cond b (s ∷ follow h N n (h s)) [] ≡ cond b (s ∷ follow f N n (f s)) []
+    go true k r = rw (k s (first-counts s (follow f N n (f s)))) (ap (λ (x : List ℕ). s ∷ x) (r (λ x p. k x (more-counts x s (follow f N n (f s)) p))))
+    go false k r = refl

@@ -1,16 +1,18 @@
 -- What units hold, laid end to end: its length, where a number of it lies, and that units can be given another content.
 use mathlib.Core.Path.{_≡_, refl, sym, ap, ap₂, _∙_}
-use mathlib.Core.Logic.{inl, inr}
+use mathlib.Core.Logic.{_≢_, inl, inr}
 use mathlib.Core.List.{List, [], _∷_, _++_, append-assoc}
 use Prim.Native.Nat.{ℕ, zero, suc, _+_, _*_, _≤_, _<_}
 use native.Mathlib.Omega.{arith}
-use lib.ListN.{length, take, drop, getD, length-append, length-drop, take-append-drop, List·getD-append}
-use lib.Seq.{getD-append-add, length-take-le, take-at, drop-at}
+use lib.ListN.{length, take, drop, getD, set, length-append, length-drop, take-append-drop, List·getD-append}
+use lib.Seq.{set-append-left, getD-append-add, length-take-le, take-at, drop-at}
 use borrow.Author.Tests.{eq-eqb, ne-eqb}
+use native.Mathlib.Nat.{not-suc-le-zero, zero-mul, zero-add}
 use Rattle.format.specs.Basics.Lists.{bit, count}
 use Rattle.format.specs.Layout.Space.{laid}
 use Rattle.theory.specs.Blocks.{scatter}
-use Rattle.theory.proofs.Counts.{eqb-cases, bit-self, count-split}
+use Rattle.theory.proofs.Counts.{eqb-cases, bit-self, count-at, count-split}
+use Rattle.theory.proofs.Sets.{set-append-right}
 
 pub laid-agree : (d e : ℕ → List ℕ) (us : List ℕ) → ((s : ℕ) → 0 < count s us → e s ≡ d s) → laid e us ≡ laid d us
 laid-agree d e [] h = refl
@@ -82,3 +84,28 @@ module _ (B : ℕ) (d : ℕ → List ℕ) where
       let k = laid-length (take m us) (λ s q. h s (omega (arith, count-split s m us))) in
       let e = ap (laid d) (sym (take-append-drop m us)) ∙ laid-append d (take m us) (drop m us) in
       rw e (sym (take-at (laid d (take m us)) (laid d (drop m us)) (m * B) (rw (length-take-le m us l) at k)))
+
+pub scatter-ext : (B : ℕ) (ws c : List ℕ) (d d′ : ℕ → List ℕ) (s : ℕ) → (count s ws ≡ 0 → d′ s ≡ d s) → scatter B ws c d′ s ≡ scatter B ws c d s
+scatter-ext B [] c d d′ s h = h refl
+scatter-ext B (w ∷ ws) c d d′ s h =
+    elim (eqb-cases s w) [
+      | inl e ↦ rw (e .1)
+      | inr e ↦ rw (e .1) (scatter-ext B ws (drop B c) d d′ s (λ q. h (omega (arith, ap bit (e .1)))))
+    ]
+
+-- one number of one unit's content
+pub laid-one : (B : ℕ) (d d′ : ℕ → List ℕ) (us : List ℕ) → ((s : ℕ) → count s us ≤ 1) → ((s : ℕ) → 0 < count s us → length (d s) ≡ B)
+    → (k j v : ℕ) → k < length us → j < B → d′ (getD us k 0) ≡ set (d (getD us k 0)) j v
+    → ((s : ℕ) → 0 < count s us → s ≢ getD us k 0 → d′ s ≡ d s) → laid d′ us ≡ set (laid d us) (k * B + j) v
+laid-one B d d′ [] o f k j v hk hj here there = absurd (not-suc-le-zero hk)
+laid-one B d d′ (u ∷ us) o f zero j v hk hj here there =
+    let r : laid d′ us ≡ laid d us =
+    laid-agree d d′ us (λ s q. there s (omega arith) (λ e. omega (arith, o s, ap bit (eq-eqb s u e)))) in
+    rw (here, r, zero-mul, zero-add) (sym (set-append-left (d u) (laid d us) j v (omega (arith, f u (omega (arith, bit-self u))))))
+laid-one B d d′ (u ∷ us) o f (suc k) j v hk hj here there =
+    let hk′ : k < length us = omega arith in
+    let n : u ≢ getD us k 0 = λ q. omega (arith, o (getD us k 0), ap bit (eq-eqb (getD us k 0) u (sym q)), count-at us k 0 hk′) in
+    let r =
+    laid-one B d d′ us (λ s. omega (arith, o s)) (λ s q. f s (omega arith)) k j v hk′ hj here (λ s q. there s (omega arith)) in
+    let e : suc k * B + j ≡ length (d u) + (k * B + j) = omega (arith, f u (omega (arith, bit-self u))) in
+    rw (there u (omega (arith, bit-self u)) n, r, e) (sym (set-append-right (d u) (laid d us) (k * B + j) v))

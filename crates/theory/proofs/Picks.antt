@@ -1,12 +1,14 @@
 -- The numbers below a bound that pass a test.
-use mathlib.Core.Path.{_≡_, refl}
+use mathlib.Core.Path.{_≡_, refl, ap}
 use mathlib.Core.Logic.{_≢_, inl, inr}
 use mathlib.Core.Bool.{Bool, true, false, not, cond}
 use mathlib.Core.List.{[], _∷_}
 use Prim.Native.Nat.{ℕ, zero, suc, _+_, _≤_, _<_}
 use native.Mathlib.Omega.{arith}
+use native.Mathlib.Decide.{ℕ-discrete}
+use borrow.Author.Tests.{eq-eqb}
 use lib.ListN.{length, length-append}
-use Rattle.format.specs.Basics.Lists.{bit, count, pickBelow}
+use Rattle.format.specs.Basics.Lists.{bit, count, pickBelow, listBelow}
 use Rattle.theory.specs.Sums.{sumBelow}
 use Rattle.theory.proofs.Counts.{eqb-cases, bit-self, bit-other, count-append}
 
@@ -66,3 +68,14 @@ pick-both p (suc n) =
       length-append (pickBelow n (λ s. not (p s))) (cond (not (p n)) (n ∷ []) []),
       length-one (not (p n)) n,
     )
+
+-- what stands at a number below the bound is in the list of all
+pub count-below : (n : ℕ) (f : ℕ → ℕ) (j : ℕ) → j < n → 0 < count (f j) (listBelow n f)
+unfolding listBelow
+count-below zero f j h = absurd (omega arith)
+count-below (suc n) f j h =
+    let a = count-append (f j) (listBelow n f) (f n ∷ []) in
+    elim (ℕ-discrete j n) [
+      | yes e ↦ let q = ap bit (eq-eqb (f j) (f n) (ap f e)) in omega arith
+      | no e ↦ let r = count-below n f j (omega arith) in omega arith
+    ]

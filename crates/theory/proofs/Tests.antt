@@ -35,6 +35,12 @@ pub beq-self : (b : Bool) → Bool·beq b b ≡ true
 beq-self true = refl
 beq-self false = refl
 
+pub beq-equal : (a b : Bool) → Bool·beq a b ≡ true → a ≡ b
+beq-equal true true h = refl
+beq-equal true false h = sym h
+beq-equal false true h = h
+beq-equal false false h = refl
+
 pub leb-not : (a b : ℕ) → leb a b ≡ not (ltb b a)
 leb-not a b =
     elim (decLt b a) [

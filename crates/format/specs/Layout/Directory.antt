@@ -30,4 +30,4 @@ unfoldable pub entryIn : Geometry → Bytes → List ℕ → ℕ → Bytes
 entryIn g img sectors i = cond (ltb i (entryCount g sectors)) (part img (entryPlace g sectors i) entryBytes) []
 
 unfoldable pub directoryOf : Geometry → Bytes → List ℕ → Directory
-directoryOf g img sectors = record { count = entryCount g sectors; entry = λ i. entryIn g img sectors i }
+directoryOf g img sectors = record { count = entryCount g sectors; entry = entryIn g img sectors }

@@ -52,13 +52,11 @@ fatCell g img s = cellIn g img (fatSectors g img) (fatCells g img) s
 -- the space of sectors
 unfoldable pub sectorSpace : Geometry → Bytes → Space
 sectorSpace g img =
-    let table = fatSectors g img in
-    let cells = fatCells g img in
     record {
       limit = sectorCount g img;
-      cells = cells;
+      cells = fatCells g img;
       unit = g .sectorBytes;
-      cell = λ s. cellIn g img table cells s;
-      cellPlace = λ s. cellPlaceIn g table s;
+      cell = fatCell g img;
+      cellPlace = cellPlaceIn g (fatSectors g img);
       unitPlace = sectorPlace g;
     }

@@ -7,7 +7,7 @@ use Rattle.format.specs.Layout.Geometry.{Geometry, miniBytes, placeIn, c
 use Rattle.format.specs.Layout.Chain.{units}
 use Rattle.format.specs.Layout.Space.{Space, unitsFor}
 use Rattle.format.specs.Layout.Header.{directoryStart, miniFatStart, miniFatCount}
-use Rattle.format.specs.Layout.Tables.{cellPlaceIn, cellIn, fatSectors, difatSectors, sectorSpace}
+use Rattle.format.specs.Layout.Tables.{cellPlaceIn, cellIn, fatCell, fatSectors, difatSectors, sectorSpace}
 use Rattle.format.specs.Layout.Entry.{size, start}
 use Rattle.format.specs.Layout.Directory.{Directory, directorySectors, directoryOf, entryPlace}
 
@@ -20,7 +20,7 @@ unfoldable pub directory : Geometry → Bytes → Directory
 directory g img = let sectors = directorySectorsOf g img in directoryOf g img sectors
 
 unfoldable pub miniFatSectors : Geometry → Bytes → List ℕ
-miniFatSectors g img = units (sectorSpace g img .cell) (miniFatCount img) (miniFatStart img)
+miniFatSectors g img = units (fatCell g img) (miniFatCount img) (miniFatStart img)
 
 -- the sectors that hold the mini stream: the root's size and start say where it is
 unfoldable pub miniStreamSectors : Geometry → Bytes → List ℕ
@@ -40,8 +40,8 @@ miniSpace g img =
       limit = size (directory g img .entry 0) / miniBytes;
       cells = miniCells g img;
       unit = miniBytes;
-      cell = λ m. cellIn g img table (miniCells g img) m;
-      cellPlace = λ m. cellPlaceIn g table m;
+      cell = cellIn g img table (miniCells g img);
+      cellPlace = cellPlaceIn g table;
       unitPlace = λ m. placeIn g stream (miniBytes * m);
     }
 

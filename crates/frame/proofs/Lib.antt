@@ -1,0 +1,10 @@
+pub mod Bytes
+pub mod Kept
+pub mod Places
+pub mod Things
+pub mod Relink
+pub mod Blocks
+pub mod Accepted
+pub mod Sound
+pub mod Views
+pub mod Parts
