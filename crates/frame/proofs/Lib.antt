@@ -8,3 +8,15 @@ pub mod Accepted
 pub mod Sound
 pub mod Views
 pub mod Parts
+pub mod Streams
+pub mod Writing
+pub mod Entry
+pub mod Edited
+pub mod Crossing
+pub mod StreamEntry
+pub mod Change
+pub mod SectorChange
+pub mod MiniChange
+pub mod Resizing
+pub mod Final
+pub mod Chunks

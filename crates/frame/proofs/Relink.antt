@@ -3,24 +3,25 @@ use mathlib.Core.Path.{_≡_, refl, sym, ap, _∙_}
 use mathlib.Core.Logic.{inl, inr}
 use mathlib.Core.List.{List, [], _∷_}
 use mathlib.Core.Bool.{Bool, true, false, cond}
-use Prim.Native.Nat.{ℕ, _*_, _≤_, _<_}
+use Prim.Native.Nat.{min, _-_, ℕ, _*_, _≤_, _<_}
 use native.Mathlib.Decide.{decLt}
 use native.Mathlib.Omega.{arith}
 use lib.Dec.{eqb}
-use lib.ListN.{length}
+use lib.ListN.{length, drop, take}
 use Rattle.format.specs.Basics.Lists.{count, bit}
 use Rattle.format.specs.Basics.Bytes.{Bytes}
 use Rattle.format.specs.Layout.Geometry.{Geometry, cellsIn}
-use Rattle.format.specs.Layout.Chain.{FREE, startOf}
+use Rattle.format.specs.Layout.Chain.{FREE, startOf, END}
 use Rattle.format.specs.Layout.Space.{Space}
 use Rattle.format.specs.Layout.Tables.{cellPlaceIn, cellIn}
-use Rattle.format.specs.Calls.SetLength.{putCell, release, link}
-use Rattle.theory.specs.Links.{freed, rechain, chained}
-use Rattle.theory.proofs.Counts.{eqb-cases, bit-self}
+use Rattle.format.specs.Calls.SetLength.{putCell, release, link, relinked}
+use Rattle.theory.specs.Links.{freed, rechain, chained, Linked}
+use Rattle.theory.proofs.Counts.{eqb-cases, bit-self, count-split}
 use Rattle.theory.proofs.Relinks.{freed-in, freed-out, chained-out, chained-ext}
 use Rattle.frame.specs.Kept.{Sized, Kept, Off, Table}
 use Rattle.frame.proofs.Kept.{kept-refl, kept-trans}
 use Rattle.frame.proofs.Things.{written, cell-put, put-kept}
+use Rattle.theory.proofs.Cuts.{rechain-changes}
 
 module _ (g : Geometry) (z : Sized g) (len : ℕ) (secs : List ℕ) (t : Table g len secs) (sp : Space) (pl : (u : ℕ) → sp .cellPlace u ≡ cellPlaceIn g secs u) where
   -- the table that an image holds
@@ -95,7 +96,7 @@ module _ (g : Geometry) (z : Sized g) (len : ℕ) (secs : List ℕ) (t : Table g
             rw (e .1) (r ∙ chained-ext ws (cellsOf img1) (cellsOf img) s k2)
       ]
 
-  pub relink-cells : (us ws : List ℕ) → ((u : ℕ) → 0 < count u us → u < cellsIn g * length secs) → ((u : ℕ) → 0 < count u ws → u < cellsIn g * length secs)
+  relink-cells : (us ws : List ℕ) → ((u : ℕ) → 0 < count u us → u < cellsIn g * length secs) → ((u : ℕ) → 0 < count u ws → u < cellsIn g * length secs)
       → ((u : ℕ) → 0 < count u ws → u < 0x1_0000_0000) → ((u : ℕ) → count u ws ≤ 1)
       → (img : Bytes) → length img ≡ len → (s : ℕ) → cellsOf (link sp ws (release sp us img)) s ≡ rechain us ws (cellsOf img) s
   unfolding rechain
@@ -103,8 +104,33 @@ module _ (g : Geometry) (z : Sized g) (len : ℕ) (secs : List ℕ) (t : Table g
       link-cells ws bw b2 o (release sp us img) (release-kept secs own us bu img .size ∙ l) s
       ∙ chained-ext ws (cellsOf (release sp us img)) (freed us (cellsOf img)) s (release-cells us bu img l s)
 
-  pub relink-kept : (T : List ℕ) → ((s : ℕ) → 0 < count s secs → 0 < count s T) → (us ws : List ℕ)
+  relink-kept : (T : List ℕ) → ((s : ℕ) → 0 < count s secs → 0 < count s T) → (us ws : List ℕ)
       → ((u : ℕ) → 0 < count u us → u < cellsIn g * length secs) → ((u : ℕ) → 0 < count u ws → u < cellsIn g * length secs)
       → (img : Bytes) → Kept g (Off T) img (link sp ws (release sp us img))
   relink-kept T h us ws bu bw img =
       kept-trans g (Off T) img (release sp us img) (link sp ws (release sp us img)) (release-kept T h us bu img) (link-kept T h ws bw (release sp us img))
+
+  -- ---- the chain us becomes ws, of which the first units are the same
+
+  module _ (us ws : List ℕ) (bu : (u : ℕ) → 0 < count u us → u < cellsIn g * length secs) (bw : (u : ℕ) → 0 < count u ws → u < cellsIn g * length secs) where
+    abbrev kept : ℕ
+    kept = min (length us) (length ws)
+
+    released-in : (u : ℕ) → 0 < count u (drop kept us) → u < cellsIn g * length secs
+    released-in u q = bu u (omega (arith, count-split u kept us))
+
+    linked-in : (u : ℕ) → 0 < count u (drop (kept - 1) ws) → u < cellsIn g * length secs
+    linked-in u q = bw u (omega (arith, count-split u (kept - 1) ws))
+
+    pub relinked-kept : (T : List ℕ) → ((s : ℕ) → 0 < count s secs → 0 < count s T) → (img : Bytes) → Kept g (Off T) img (relinked sp us ws img)
+    unfolding relinked
+    relinked-kept T h img = relink-kept T h (drop kept us) (drop (kept - 1) ws) released-in linked-in img
+
+    pub relinked-cells : (img : Bytes) (N : ℕ) → length img ≡ len → N ≤ END → Linked (cellsOf img) N us → take kept us ≡ take kept ws
+        → ((u : ℕ) → 0 < count u ws → u < 0x1_0000_0000) → ((u : ℕ) → count u ws ≤ 1)
+        → (s : ℕ) → cellsOf (relinked sp us ws img) s ≡ rechain us ws (cellsOf img) s
+    unfolding relinked rechain
+    relinked-cells img N l lim h e w o s =
+        relink-cells (drop kept us) (drop (kept - 1) ws) released-in linked-in
+        (λ u q. w u (omega (arith, count-split u (kept - 1) ws))) (λ u. omega (arith, o u, count-split u (kept - 1) ws)) img l s
+        ∙ rechain-changes us ws (cellsOf img) N lim h o kept (omega arith) (omega arith) e s

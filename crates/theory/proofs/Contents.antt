@@ -5,7 +5,7 @@ use mathlib.Core.List.{List, [], _∷_, _++_, append-assoc}
 use Prim.Native.Nat.{ℕ, zero, suc, _+_, _*_, _≤_, _<_}
 use native.Mathlib.Omega.{arith}
 use lib.ListN.{length, take, drop, getD, set, length-append, length-drop, take-append-drop, List·getD-append}
-use lib.Seq.{set-append-left, getD-append-add, length-take-le, take-at, drop-at}
+use lib.Seq.{set-append-left, getD-append-add, length-take-le, take-at, drop-at, take-append-le}
 use borrow.Author.Tests.{eq-eqb, ne-eqb}
 use native.Mathlib.Nat.{not-suc-le-zero, zero-mul, zero-add}
 use Rattle.format.specs.Basics.Lists.{bit, count}
@@ -109,3 +109,9 @@ laid-one B d d′ (u ∷ us) o f (suc k) j v hk hj here there =
     laid-one B d d′ us (λ s. omega (arith, o s)) (λ s q. f s (omega arith)) k j v hk′ hj here (λ s q. there s (omega arith)) in
     let e : suc k * B + j ≡ length (d u) + (k * B + j) = omega (arith, f u (omega (arith, bit-self u))) in
     rw (there u (omega (arith, bit-self u)) n, r, e) (sym (set-append-right (d u) (laid d us) (k * B + j) v))
+
+-- more units behind a chain do not change its first bytes
+pub laid-prefix : (d : ℕ → List ℕ) (B : ℕ) (us ex : List ℕ) (n : ℕ) → ((s : ℕ) → 0 < count s us → length (d s) ≡ B) → n ≤ length us * B
+    → take n (laid d (us ++ ex)) ≡ take n (laid d us)
+laid-prefix d B us ex n f h =
+    ap (take n) (laid-append d us ex) ∙ take-append-le n (laid d us) (laid d ex) (rw (laid-length B d us f) h)

@@ -3,8 +3,8 @@ use mathlib.Core.Path.{_≡_, refl, ap, _∙_}
 use mathlib.Core.List.{List, _∷_, _++_, append-nil}
 use Prim.Native.Nat.{ℕ, zero, suc, _+_, _-_, _≤_}
 use native.Mathlib.Omega.{arith}
-use lib.ListN.{length, take, replicate, length-append, length-take, length-replicate}
-use lib.Seq.{take-all, take-append-add}
+use lib.ListN.{length, take, replicate, length-append, length-take, length-replicate, drop-of-length-le}
+use lib.Seq.{take-all, take-append-add, sets, length-take-le, sets-eq}
 use Rattle.format.specs.Basics.Lists.{fit}
 
 pub length-fit : (n : ℕ) (xs : List ℕ) → length (fit n xs) ≡ n
@@ -28,3 +28,15 @@ take-fit n m xs h k =
     rw (take-all m xs (omega arith), take-all n xs h)
     (ap (λ t. take t (xs ++ replicate (m - length xs) 0)) e ∙ take-append-add xs (replicate (m - length xs) 0) j
     ∙ ap (λ t. xs ++ t) (take-replicate j (m - length xs) 0 (omega arith)))
+
+-- zeros put over all that stands behind the first n
+pub zeros-fit : (c d : List ℕ) (n m : ℕ) → length c ≡ m → n ≤ m → take n c ≡ take n d → n ≤ length d → sets c n (replicate (m - n) 0) ≡ fit m (take n d)
+unfolding fit
+zeros-fit c d n m l h e k =
+    let r = length-replicate {A = ℕ} (m - n) 0 in
+    let t = length-take-le n d k in
+    let p : n + length (replicate {A = ℕ} (m - n) 0) ≡ m = omega arith in
+    sets-eq (replicate (m - n) 0) c n (omega arith)
+    ∙ ap (λ (x : List ℕ). take n c ++ replicate (m - n) 0 ++ x) (drop-of-length-le c {i = n + length (replicate {A = ℕ} (m - n) 0)} (omega arith))
+    ∙ append-nil (take n c ++ replicate (m - n) 0)
+    ∙ rw (e, take-all m (take n d) (omega arith), t)

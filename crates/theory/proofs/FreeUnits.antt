@@ -3,21 +3,21 @@ use mathlib.Core.Path.{_≡_, refl, sym, ap, ap₂, _∙_}
 use mathlib.Core.Logic.{_≢_, _⊎_, inl, inr}
 use mathlib.Core.Bool.{Bool, true, false, cond}
 use mathlib.Core.List.{List, [], _∷_, _++_}
-use Prim.Native.Nat.{ℕ, zero, suc, _+_, _≤_, _<_}
+use Prim.Native.Nat.{min, ℕ, zero, suc, _+_, _≤_, _<_}
 use native.Mathlib.Omega.{arith}
 use native.Mathlib.Decide.{ℕ-discrete, decLe, decLt}
 use lib.Dec.{eqb}
-use lib.ListN.{length, take, drop, length-append, drop-of-length-le}
-use lib.Seq.{take-all, drop-append-le, take-append-le}
+use lib.ListN.{length-take, length, take, drop, length-append, drop-of-length-le}
+use lib.Seq.{take-take, take-all, drop-append-le, take-append-le}
 use borrow.Author.Tests.{eq-eqb, ne-eqb, eqb-true}
 use Rattle.format.specs.Basics.Lists.{bit, count, pickBelow}
 use Rattle.format.specs.Layout.Chain.{END, FREE, isFree, freeBelow}
 use Rattle.theory.specs.Links.{Linked, freed, chained, rechain}
 use Rattle.theory.specs.Owned.{MayBecome}
-use Rattle.theory.proofs.Counts.{count-append, count-split}
+use Rattle.theory.proofs.Counts.{count-append, count-split, pigeonhole}
 use Rattle.theory.proofs.Picks.{pick-above, pick-below, one-ne, one-self, length-one}
 use Rattle.theory.proofs.Chains.{linked-once, linked-below, linked-not-free}
-use Rattle.theory.proofs.Relinks.{chained-linked, rechain-other}
+use Rattle.theory.proofs.Relinks.{chained-linked, rechain-out}
 
 -- ---- the free units after
 
@@ -156,5 +156,24 @@ module _ (f : ℕ → ℕ) (N : ℕ) (lim : N ≤ END) (us : List ℕ) (h : Link
           let a = parts s .0 in
           elim (decLt 0 (count s us)) [
             | yes p ↦ ((λ e. absurd (new s (omega arith) e)), λ e. absurd (linked-not-free f N lim us h s p e))
-            | no r ↦ let e = rechain-other f N lim us h ws s (omega arith) (omega arith) in ((λ q. sym e ∙ q), λ q. e ∙ q)
+            | no r ↦ let e = rechain-out us ws f s (omega arith) (omega arith) in ((λ q. sym e ∙ q), λ q. e ∙ q)
           ]
+
+-- what a chain becomes begins as the chain does
+pub resized-front : (m : ℕ) (us fr : List ℕ) → let ws = take m (us ++ fr) in take (min (length us) (length ws)) us ≡ take (min (length us) (length ws)) ws
+resized-front m us fr =
+    let k = min (length us) (length (take m (us ++ fr))) in
+    let l = length-take m (us ++ fr) in
+    let n : min (length us) (length (take m (us ++ fr))) ≤ m = omega arith in
+    sym (take-take k m (us ++ fr) n ∙ take-append-le k us fr (omega arith))
+
+-- own and free units together are at most the limit
+pub pool-short : (f : ℕ → ℕ) (N : ℕ) → N ≤ END → (us : List ℕ) → Linked f N us → length us + length (freeBelow f N) ≤ N
+pool-short f N lim us h =
+    let fr = freeBelow f N in
+    let a = length-append us fr in
+    let b =
+    pigeonhole (us ++ fr) N
+    (λ s q. elim (decLt 0 (count s us)) [ yes p ↦ linked-below f N us h s p | no p ↦ free-cell f N s (omega (arith, q, count-append s us fr)) .0 ])
+    (λ s. omega (arith, count-append s us fr, pool-once f N lim us h s)) in
+    omega arith

@@ -8,6 +8,7 @@ pub mod RoundUp
 pub mod OwnerCounts
 pub mod Chains
 pub mod Relinks
+pub mod Cuts
 pub mod FreeUnits
 pub mod Owned
 pub mod Contents

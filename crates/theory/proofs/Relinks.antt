@@ -1,23 +1,16 @@
 -- Tables that are changed along chains: freeing, chaining, and both.
-use mathlib.Core.Path.{_≡_, refl, sym, ap, ap₂, _∙_}
-use mathlib.Core.Logic.{inl, inr}
-use mathlib.Core.Bool.{Bool, true, false, cond}
-use mathlib.Core.List.{List, [], _∷_, _++_, append-assoc}
-use Prim.Native.Nat.{ℕ, zero, suc, _-_, _≤_, _<_}
+use mathlib.Core.Path.{_≡_, refl, sym, ap, _∙_}
+use mathlib.Core.Logic.{inl, inr, _≢_}
+use mathlib.Core.List.{List, [], _∷_}
+use Prim.Native.Nat.{ℕ, _≤_, _<_, _+_}
 use native.Mathlib.Omega.{arith}
 use native.Mathlib.Decide.{decLt}
-use lib.Dec.{eqb}
-use lib.ListN.{length, take, drop, getD}
-use native.Mathlib.Numerals.{sub-one}
-use lib.Seq.{split-at, take-suc, take-all, take-take, getD-take, drop-cons}
 use borrow.Author.Tests.{eq-eqb, ne-eqb}
 use Rattle.format.specs.Basics.Lists.{bit, count}
 use Rattle.format.specs.Layout.Chain.{END, FREE, startOf}
 use Rattle.theory.specs.Links.{Linked, freed, chained, rechain}
-use Rattle.theory.proofs.Counts.{eqb-cases, bit-self, count-append, count-split}
-use Rattle.theory.proofs.Chains.{linked-agree, linked-once}
-
--- ---- a changed table
+use Rattle.theory.proofs.Counts.{eqb-cases, bit-self}
+use Rattle.theory.proofs.Chains.{linked-agree}
 
 pub freed-out : (us : List ℕ) (f : ℕ → ℕ) (s : ℕ) → count s us ≡ 0 → freed us f s ≡ f s
 unfolding freed
@@ -58,99 +51,52 @@ chained-linked (w ∷ ws) f N d b = (
       (chained-linked ws f N (λ s. omega (arith, d s)) (λ s q. b s (omega arith))),
 )
 
--- ---- what is written of a table when the chain's front stays: the cells of the units that go and those of the units that come
-
 pub chained-ext : (ws : List ℕ) (f g : ℕ → ℕ) (s : ℕ) → f s ≡ g s → chained ws f s ≡ chained ws g s
 unfolding chained
 chained-ext [] f g s e = e
 chained-ext (w ∷ ws) f g s e = rw (chained-ext ws f g s e)
 
-chained-skip : (ks bs : List ℕ) (f : ℕ → ℕ) (s : ℕ) → count s ks ≡ 0 → chained (ks ++ bs) f s ≡ chained bs f s
-unfolding chained
-chained-skip [] bs f s q = refl
-chained-skip (a ∷ ks) bs f s q =
-    elim (eqb-cases s a) [
-      | inl e ↦ absurd (omega (arith, ap bit (e .1)))
-      | inr e ↦ rw (e .1) (chained-skip ks bs f s (omega arith))
-    ]
+-- ---- freeing and chaining at once
 
-freed-skip : (ks bs : List ℕ) (f : ℕ → ℕ) (s : ℕ) → count s ks ≡ 0 → freed (ks ++ bs) f s ≡ freed bs f s
+freed-ext : (us : List ℕ) (f h : ℕ → ℕ) (s : ℕ) → f s ≡ h s → freed us f s ≡ freed us h s
 unfolding freed
-freed-skip [] bs f s q = refl
-freed-skip (a ∷ ks) bs f s q =
-    elim (eqb-cases s a) [
-      | inl e ↦ absurd (omega (arith, ap bit (e .1)))
-      | inr e ↦ rw (e .1) (freed-skip ks bs f s (omega arith))
-    ]
+freed-ext [] f h s e = e
+freed-ext (u ∷ us) f h s e = rw (freed-ext us f h s e)
 
-head-seam : (ks bs cs : List ℕ) (l : ℕ) → startOf (ks ++ l ∷ bs) ≡ startOf (ks ++ l ∷ cs)
-head-seam [] bs cs l = refl
-head-seam (a ∷ ks) bs cs l = refl
+pub rechain-ext : (us ws : List ℕ) (f h : ℕ → ℕ) (s : ℕ) → f s ≡ h s → rechain us ws f s ≡ rechain us ws h s
+unfolding rechain
+rechain-ext us ws f h s e = chained-ext ws (freed us f) (freed us h) s (freed-ext us f h s e)
 
--- the front's cells are written as they were
-chained-front : (ks rest vs : List ℕ) (l : ℕ) (f g : ℕ → ℕ) (N s : ℕ) → Linked f N (ks ++ l ∷ rest) → 0 < count s ks → chained (ks ++ l ∷ vs) g s ≡ f s
+pub rechain-out : (us ws : List ℕ) (f : ℕ → ℕ) (s : ℕ) → count s us ≡ 0 → count s ws ≡ 0 → rechain us ws f s ≡ f s
+unfolding rechain
+rechain-out us ws f s p q = chained-out ws (freed us f) s q ∙ freed-out us f s p
+
+-- no cell becomes a mark
+start-not : (ws : List ℕ) (c : ℕ) → c ≢ END → count c ws ≡ 0 → startOf ws ≢ c
+start-not [] c n q e = n (sym e)
+start-not (w ∷ ws) c n q e = omega (arith, ap bit (eq-eqb c w (sym e)))
+
+chained-not : (ws : List ℕ) (f : ℕ → ℕ) (s c : ℕ) → c ≢ END → count c ws ≡ 0 → 0 < count s ws → chained ws f s ≢ c
 unfolding chained
-chained-front [] rest vs l f g N s h q = absurd (omega arith)
-chained-front (a ∷ ks) rest vs l f g N s h q =
-    elim (eqb-cases s a) [
-      | inl e ↦ rw (e .1) (head-seam ks vs rest l ∙ sym (h .1) ∙ ap f (sym (e .0)))
-      | inr e ↦ rw (e .1) (chained-front ks rest vs l f g N s (h .2) (omega (arith, ap bit (e .1))))
+chained-not [] f s c n q p = absurd (omega arith)
+chained-not (w ∷ ws) f s c n q p =
+    elim (eqb-cases s w) [
+      | inl e ↦ rw (e .1) (start-not ws c n (omega arith))
+      | inr e ↦ rw (e .1) (chained-not ws f s c n (omega arith) (omega (arith, ap bit (e .1))))
     ]
 
--- a chain that keeps its front up to l: the cells of the rest become free, and from l on the new units are linked.
--- A shorter chain: no new units. A longer one: no rest
-pub rechain-kept-front : (ks rest vs : List ℕ) (l : ℕ) (f : ℕ → ℕ) (N : ℕ) → N ≤ END → Linked f N (ks ++ l ∷ rest) → ((s : ℕ) → count s (ks ++ l ∷ vs) ≤ 1) →
-    (s : ℕ) → rechain (ks ++ l ∷ rest) (ks ++ l ∷ vs) f s ≡ chained (l ∷ vs) (freed rest f) s
-unfolding rechain chained freed
-rechain-kept-front ks rest vs l f N lim h d s =
-    let a = count-append s ks (l ∷ rest) in
-    let b = count-append s ks (l ∷ vs) in
-    let c = linked-once f N lim (ks ++ l ∷ rest) h s in
-    let e = d s in
-    elim (decLt 0 (count s ks)) [
-      | yes p ↦
-          chained-front ks rest vs l f (freed (ks ++ l ∷ rest) f) N s h p ∙ sym (freed-out rest f s (omega arith))
-          ∙ sym (chained-out (l ∷ vs) (freed rest f) s (omega arith))
-      | no q ↦
-          chained-skip ks (l ∷ vs) (freed (ks ++ l ∷ rest) f) s (omega arith)
-          ∙ elim (eqb-cases s l) [
-            | inl k ↦ rw (k .1)
-            | inr k ↦
-                rw (k .1) (chained-ext vs (freed (ks ++ l ∷ rest) f) (freed rest f) s (freed-skip ks (l ∷ rest) f s (omega arith) ∙ rw (k .1)))
-          ]
+pub rechain-not : (us ws : List ℕ) (f : ℕ → ℕ) (s c : ℕ) → c ≢ END → c ≢ FREE → count c ws ≡ 0 → 0 < count s us + count s ws → rechain us ws f s ≢ c
+unfolding rechain
+rechain-not us ws f s c n m q p =
+    elim (decLt 0 (count s ws)) [
+      | yes k ↦ chained-not ws (freed us f) s c n q k
+      | no k ↦ λ e. m (sym e ∙ chained-out ws (freed us f) s (omega arith) ∙ freed-in us f s (omega arith))
     ]
 
--- one more unit at the end, as a loop writes it
-pub chained-snoc : (ks : List ℕ) (l x : ℕ) (f : ℕ → ℕ) (s : ℕ) → ((t : ℕ) → count t (ks ++ l ∷ x ∷ []) ≤ 1) →
-    chained (ks ++ l ∷ x ∷ []) f s ≡ cond (eqb s x) END (cond (eqb s l) x (chained (ks ++ l ∷ []) f s))
-unfolding chained
-chained-snoc [] l x f s d =
-    elim (eqb-cases s l) [
-      | inl e ↦ rw (e .1, ne-eqb s x (λ k. omega (arith, d s, ap bit (e .1), ap bit (eq-eqb s x k))))
-      | inr e ↦ rw (e .1)
-    ]
-chained-snoc (a ∷ ks) l x f s d =
-    let r = chained-snoc ks l x f s (λ t. omega (arith, d t)) in
-    let o = count-append s ks (l ∷ x ∷ []) in
-    elim (eqb-cases s a) [
-      | inl e ↦
-          rw (
-            e .1,
-            ne-eqb s x (λ k. omega (arith, d s, ap bit (e .1), ap bit (eq-eqb s x k))),
-            ne-eqb s l (λ k. omega (arith, d s, ap bit (e .1), ap bit (eq-eqb s l k))),
-          )
-          (head-seam ks (x ∷ []) [] l)
-      | inr e ↦ rw (e .1) r
-    ]
-
-cond-same : (b : Bool) (a : ℕ) → a ≡ cond b a a
-cond-same true a = refl
-cond-same false a = refl
-
-pub freed-snoc : (us : List ℕ) (x : ℕ) (f : ℕ → ℕ) (s : ℕ) → freed (us ++ x ∷ []) f s ≡ cond (eqb s x) FREE (freed us f s)
-unfolding freed
-freed-snoc [] x f s = refl
-freed-snoc (u ∷ us) x f s = elim (eqb-cases s u) [ inl e ↦ rw (e .1) (cond-same (eqb s x) FREE) | inr e ↦ rw (e .1) (freed-snoc us x f s) ]
+-- the cell of a unit that goes is free
+pub rechain-released : (us ws : List ℕ) (f : ℕ → ℕ) (s : ℕ) → 0 < count s us → count s ws ≡ 0 → rechain us ws f s ≡ FREE
+unfolding rechain
+rechain-released us ws f s p q = chained-out ws (freed us f) s q ∙ freed-in us f s p
 
 -- a chain that is linked anew is as it was
 pub rechain-same : (us : List ℕ) (f : ℕ → ℕ) (N : ℕ) → Linked f N us → (s : ℕ) → rechain us us f s ≡ f s
@@ -168,55 +114,3 @@ rechain-same us f N h s =
           | inl e ↦ rw (e .1) (sym (k .1) ∙ ap f (sym (e .0)))
           | inr e ↦ rw (e .1) (again vs g (k .2) (omega (arith, ap bit (e .1))))
         ]
-
--- ---- shorter, longer, and other cells
-
-module _ (f : ℕ → ℕ) (N : ℕ) (lim : N ≤ END) (us : List ℕ) (h : Linked f N us) where
-  -- shorter: the new last cell is an end, and the cells of the units after it are free
-  pub rechain-shorter : (j : ℕ) → j < length us → (s : ℕ) → rechain us (take (suc j) us) f s ≡ cond (eqb s (getD us j 0)) END (freed (drop (suc j) us) f s)
-  unfolding chained
-  rechain-shorter j l s =
-      ap₂ (λ a b. rechain a b f s) (split-at us j 0 l) (take-suc us j 0 l)
-      ∙ rechain-kept-front (take j us) (drop (suc j) us) [] (getD us j 0) f N lim (rw (← (split-at us j 0 l)) h)
-      (λ t. rw (← (take-suc us j 0 l)) (omega (arith, count-split t (suc j) us, linked-once f N lim us h t)))
-      s
-
-  -- longer: from the old last cell on the new units are linked
-  pub rechain-longer : (j : ℕ) (vs : List ℕ) → suc j ≡ length us → ((s : ℕ) → count s (us ++ vs) ≤ 1) → (s : ℕ) → rechain us (us ++ vs) f s ≡ chained (getD us j 0 ∷ vs) f s
-  unfolding freed
-  rechain-longer j vs e d s =
-      let l : j < length us = omega arith in
-      let p : us ≡ take j us ++ getD us j 0 ∷ [] = sym (take-all (suc j) us (omega arith)) ∙ take-suc us j 0 l in
-      let q : us ++ vs ≡ take j us ++ getD us j 0 ∷ vs = ap (λ a. a ++ vs) p ∙ append-assoc (take j us) (getD us j 0 ∷ []) vs in
-      ap₂ (λ a b. rechain a b f s) p q
-      ∙ rechain-kept-front (take j us) [] vs (getD us j 0) f N lim (rw (← p) h) (λ t. rw (← q) (d t)) s
-
-  -- other chains' cells stay
-  pub rechain-other : (ws : List ℕ) (s : ℕ) → count s us ≡ 0 → count s ws ≡ 0 → rechain us ws f s ≡ f s
-  unfolding rechain chained
-  rechain-other ws s p q = chained-out ws (freed us f) s q ∙ freed-out us f s p
-
-  -- released cells are free
-  pub rechain-released : (ws : List ℕ) (s : ℕ) → 0 < count s us → count s ws ≡ 0 → rechain us ws f s ≡ FREE
-  unfolding rechain chained
-  rechain-released ws s p q = chained-out ws (freed us f) s q ∙ freed-in us f s p
-
--- ---- writing only what changes
-
--- Where two lists begin with the same k units, freeing what the old one has behind them and chaining the new one from the last of them on
--- is all there is to write.
-module _ (old new : List ℕ) (f : ℕ → ℕ) (N : ℕ) (lim : N ≤ END) (h : Linked f N old) (d : (s : ℕ) → count s new ≤ 1) where
-  pub rechain-changes : (k : ℕ) → k ≤ length old → k ≤ length new → take k old ≡ take k new → (s : ℕ)
-      → chained (drop (k - 1) new) (freed (drop k old) f) s ≡ rechain old new f s
-  unfolding rechain
-  rechain-changes zero a b e s = refl
-  rechain-changes (suc j) a b e s =
-      let p = split-at old j 0 a in
-      let q = split-at new j 0 b in
-      let front : take j old ≡ take j new = sym (take-take j (suc j) old (omega arith)) ∙ ap (take j) e ∙ take-take j (suc j) new (omega arith) in
-      let last : getD old j 0 ≡ getD new j 0 = sym (getD-take (suc j) old j 0 (omega arith)) ∙ ap (λ l. getD l j 0) e ∙ getD-take (suc j) new j 0 (omega arith) in
-      let o : old ≡ take j new ++ getD new j 0 ∷ drop (suc j) old = p ∙ ap₂ (λ ks l. ks ++ l ∷ drop (suc j) old) front last in
-      let c : drop (suc j - 1) new ≡ getD new j 0 ∷ drop (suc j) new = ap (λ n. drop n new) (sub-one (suc j)) ∙ drop-cons new j 0 b in
-      ap (λ l. chained l (freed (drop (suc j) old) f) s) c
-      ∙ sym (ap₂ (λ a b. rechain a b f s) o q
-      ∙ rechain-kept-front (take j new) (drop (suc j) old) (drop (suc j) new) (getD new j 0) f N lim (rw (← o) h) (λ t. rw (← q) (d t)) s)

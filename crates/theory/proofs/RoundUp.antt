@@ -1,7 +1,7 @@
 -- How many units hold a number of bytes.
 use mathlib.Core.Path.{_≡_}
 use Prim.Native.Nat.{ℕ, zero, suc, _+_, _-_, _*_, _/_, _≤_, _<_}
-use native.Mathlib.Nat.{lt-div-mul-add, div-mul-le-self, div-add-mod', mod-lt, div-lt-iff-lt-mul}
+use native.Mathlib.Nat.{mul-le-mul-right, lt-div-mul-add, div-mul-le-self, div-add-mod', mod-lt, div-lt-iff-lt-mul}
 use native.Mathlib.Omega.{arith}
 use native.Mathlib.Decide.{decLt}
 use Rattle.format.specs.Layout.Need.{roundUp}
@@ -26,3 +26,15 @@ round-lt j n d z h =
     let a = div-add-mod' (n + (d - 1)) d in
     let b = mod-lt (n + (d - 1)) z in
     div-lt-iff-lt-mul z .1 (omega arith)
+
+pub round-mono : (n m d : ℕ) → 0 < d → n ≤ m → roundUp n d ≤ roundUp m d
+unfolding roundUp
+round-mono n m d z h =
+    elim (decLt ((m + (d - 1)) / d) ((n + (d - 1)) / d)) [
+      | yes p ↦
+          let a = div-add-mod' (n + (d - 1)) d in
+          let b = div-add-mod' (m + (d - 1)) d in
+          let c = mod-lt (m + (d - 1)) z in
+          absurd (omega (arith, a, b, c, mul-le-mul-right d p))
+      | no p ↦ omega arith
+    ]

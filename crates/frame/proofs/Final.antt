@@ -1,0 +1,27 @@
+-- The interface that demand 3 uses, whole: over any sector size that is a multiple of 128 and at least 512, and so for version 3.
+use mathlib.Core.Path.{refl}
+use native.Mathlib.Omega.{arith}
+use lib.ListN.{length}
+use Rattle.format.specs.Layout.Geometry.{Geometry, version3}
+use Rattle.format.specs.Layout.Volume.{volume}
+use Rattle.frame.specs.Kept.{Sized}
+use Rattle.frame.specs.Frame.{Frame}
+use Rattle.frame.proofs.Blocks.{block-length}
+use Rattle.frame.proofs.Sound.{sound-of}
+use Rattle.frame.proofs.Parts.{sector-units, mini-units}
+use Rattle.frame.proofs.Writing.{writing}
+use Rattle.frame.proofs.Resizing.{resizing}
+use Rattle.frame.proofs.Accepted.{accepted-kept}
+
+pub frame : (g : Geometry) → Sized g → Frame g
+frame g z =
+    record {
+      sectorSized = λ img h u l. block-length (volume g img .sectors) (length img) (sector-units g z img (sound-of g z img (accepted-kept g img h))) img refl u l;
+      miniSized = λ img h u l. block-length (volume g img .minis) (length img) (mini-units g z img (sound-of g z img (accepted-kept g img h))) img refl u l;
+      resizing = λ img e new m. resizing g z img e new m;
+      writing = λ img e offset bytes m. writing g z img e offset bytes m;
+    }
+
+pub frame3 : Frame version3
+unfolding version3
+frame3 = frame version3 (record { wide = omega arith; even = refl })

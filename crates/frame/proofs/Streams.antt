@@ -1,0 +1,147 @@
+-- The units of a stream of an accepted image.
+use mathlib.Core.Path.{_≡_, refl, sym, ap, subst}
+use mathlib.Core.List.{List, []}
+use mathlib.Core.Bool.{Bool, true, false, cond, not, _||_}
+use Prim.Native.Nat.{ℕ, _+_, _*_, _/_, _%_, _<_}
+use native.Mathlib.Nat.{mul-le-mul-left}
+use native.Mathlib.Decide.{decLt}
+use native.Mathlib.Omega.{arith}
+use lib.Dec.{ltb}
+use lib.ListN.{length, getD}
+use borrow.Author.Tests.{ltb-true, ltb-false, le-leb}
+use Rattle.format.specs.Basics.Lists.{count}
+use Rattle.format.specs.Basics.Bytes.{Bytes, part}
+use Rattle.format.specs.Layout.Geometry.{Geometry, sectorPlace, placeIn, entriesIn, entryBytes, sectorCount}
+use Rattle.format.specs.Layout.Need.{cutoff, roundUp}
+use Rattle.format.specs.Layout.Space.{Space, unitsFor, chainFor}
+use Rattle.format.specs.Layout.Tables.{fatCell, sectorSpace}
+use Rattle.format.specs.Layout.Entry.{size, start, isStream}
+use Rattle.format.specs.Layout.Directory.{entryIn, entryPlace, entryCount}
+use Rattle.format.specs.Layout.Volume.{Volume, volume, systemSectors, miniStreamSectors, directory}
+use Rattle.format.specs.Layout.Stream.{spaceFor, streamUnits, streamSize}
+use Rattle.format.specs.Rules.Streams.{streamChain, streamRules, streamRight}
+use Rattle.format.specs.Rules.Owners.{ownSectors}
+use Rattle.theory.specs.Links.{Linked}
+use Rattle.theory.proofs.Chains.{linked-below, linked-short, chain-linked, length-units}
+use Rattle.theory.proofs.Counts.{count-at}
+use Rattle.theory.proofs.Tests.{below-at}
+use Rattle.theory.proofs.OwnerCounts.{count-join-at}
+use Rattle.frame.specs.Kept.{Sized, Kept, Off}
+use Rattle.frame.specs.Edits.{inSectors, inMinis}
+use Rattle.frame.proofs.Kept.{part-body}
+use Rattle.frame.proofs.Places.{fit-in, index-in}
+use Rattle.frame.proofs.Sound.{Sound, owners-at, miniStream-linked}
+use Rattle.frame.proofs.Parts.{mini-index, sixty}
+use Rattle.frame.specs.Groups.{ImageGroups}
+
+or-true : (a b : Bool) → not a || b ≡ true → a ≡ true → b ≡ true
+or-true true b h e = h
+or-true false b h e = absurd (subst (λ (t : Bool). lib.Dec.T t) (sym e) tt)
+
+-- an entry whose sector was not written
+pub kept-entryIn : (g : Geometry) (z : Sized g) (T : List ℕ) (a b : Bytes) → Kept g (Off T) a b → (secs : List ℕ) → ((s : ℕ) → 0 < count s secs → count s T ≡ 0)
+    → (i : ℕ) → entryIn g b secs i ≡ entryIn g a secs i
+unfolding entryIn entryPlace placeIn entryCount entriesIn entryBytes
+kept-entryIn g z T a b x secs off i = go (ltb i (g .sectorBytes / 128 * length secs)) refl
+  where
+    S128 : g .sectorBytes ≡ g .sectorBytes / 128 * 128
+    S128 = let e = z .even in omega arith
+
+    p : 0 < g .sectorBytes
+    p = let e = z .wide in omega arith
+
+    go : (t : Bool) → ltb i (g .sectorBytes / 128 * length secs) ≡ t
+        → cond t (part b (sectorPlace g (getD secs (128 * i / g .sectorBytes) 0) + 128 * i % g .sectorBytes) 128) []
+        ≡ cond t (part a (sectorPlace g (getD secs (128 * i / g .sectorBytes) 0) + 128 * i % g .sectorBytes) 128) []
+    go true h =
+        let k = count-at secs (128 * i / g .sectorBytes) 0 (index-in (g .sectorBytes) 128 (g .sectorBytes / 128) S128 p (length secs) i (ltb-true i (g .sectorBytes / 128 * length secs) h)) in
+        part-body g (Off T) a b x (getD secs (128 * i / g .sectorBytes) 0) (128 * i % g .sectorBytes) 128 (fit-in (g .sectorBytes) 128 (g .sectorBytes / 128) S128 p i)
+        (λ j l. off (getD secs (128 * i / g .sectorBytes) 0) k)
+    go false h = refl
+
+-- which space a length lies in
+pub space-big : (v : Volume) (n : ℕ) → ltb n cutoff ≡ false → spaceFor v n ≡ v .sectors
+unfolding spaceFor
+space-big v n h = rw h
+
+pub space-small : (v : Volume) (n : ℕ) → ltb n cutoff ≡ true → spaceFor v n ≡ v .minis
+unfolding spaceFor
+space-small v n h = rw h
+
+pub bigs-big : (n : ℕ) (us : List ℕ) → ltb n cutoff ≡ false → inSectors n us ≡ us
+unfolding inSectors
+bigs-big n us h = rw h
+
+pub bigs-small : (n : ℕ) (us : List ℕ) → ltb n cutoff ≡ true → inSectors n us ≡ []
+unfolding inSectors
+bigs-small n us h = rw h
+
+pub smalls-big : (n : ℕ) (us : List ℕ) → ltb n cutoff ≡ false → inMinis n us ≡ []
+unfolding inMinis
+smalls-big n us h = rw h
+
+pub smalls-small : (n : ℕ) (us : List ℕ) → ltb n cutoff ≡ true → inMinis n us ≡ us
+unfolding inMinis
+smalls-small n us h = rw h
+
+module _ (g : Geometry) (z : Sized g) (img : Bytes) (G : ImageGroups g img) (A : Sound g img) (e : ℕ)
+    (inside : e < volume g img .directory .count) (stream : isStream (volume g img .directory .entry e) ≡ true) where
+  chained : streamChain (volume g img) (volume g img .directory .entry e) ≡ true
+  unfolding streamRules streamRight
+  chained =
+      let v = volume g img in
+      or-true (isStream (v .directory .entry e)) (streamChain v (v .directory .entry e))
+      (below-at (v .directory .count) (streamRight v) (G .volume .chains) e inside) stream
+
+  pub linked : Linked (spaceFor (volume g img) (streamSize (volume g img) e) .cell) (spaceFor (volume g img) (streamSize (volume g img) e) .limit) (streamUnits (volume g img) e)
+  unfolding streamChain chainFor streamUnits unitsFor streamSize
+  linked =
+      let v = volume g img in
+      let n = size (v .directory .entry e) in
+      chain-linked (spaceFor v n .cell) (spaceFor v n .limit) (roundUp n (spaceFor v n .unit)) (start (v .directory .entry e)) chained .0
+
+  pub many : length (streamUnits (volume g img) e) ≡ roundUp (streamSize (volume g img) e) (spaceFor (volume g img) (streamSize (volume g img) e) .unit)
+  unfolding streamUnits unitsFor streamSize
+  many =
+      let v = volume g img in
+      let n = size (v .directory .entry e) in
+      length-units (spaceFor v n .cell) (roundUp n (spaceFor v n .unit)) (start (v .directory .entry e))
+
+  pub linked-big : ltb (streamSize (volume g img) e) cutoff ≡ false → Linked (fatCell g img) (sectorCount g img) (streamUnits (volume g img) e)
+  unfolding volume sectorSpace
+  linked-big h = subst (λ (sp : Space). Linked (sp .cell) (sp .limit) (streamUnits (volume g img) e)) (space-big (volume g img) (streamSize (volume g img) e) h) linked
+
+  pub linked-small : ltb (streamSize (volume g img) e) cutoff ≡ true → Linked (volume g img .minis .cell) (volume g img .minis .limit) (streamUnits (volume g img) e)
+  linked-small h = subst (λ (sp : Space). Linked (sp .cell) (sp .limit) (streamUnits (volume g img) e)) (space-small (volume g img) (streamSize (volume g img) e) h) linked
+
+  own-big : ltb (streamSize (volume g img) e) cutoff ≡ false → ownSectors (volume g img) e ≡ streamUnits (volume g img) e
+  unfolding ownSectors streamSize cutoff
+  own-big h =
+      let n = size (volume g img .directory .entry e) in
+      rw (stream, le-leb 4096 n (ltb-false n 4096 h))
+
+  -- a stream's sectors are none of the system's
+  pub big-apart : ltb (streamSize (volume g img) e) cutoff ≡ false → (s : ℕ) → 0 < count s (streamUnits (volume g img) e) → count s (systemSectors (volume g img)) ≡ 0
+  big-apart h s q =
+      let v = volume g img in
+      let b = linked-below (fatCell g img) (sectorCount g img) (streamUnits v e) (linked-big h) s q in
+      let o = owners-at g z img G s b in
+      let j = count-join-at s (v .directory .count) (ownSectors v) e inside in
+      let c = ap (count s) (own-big h) in
+      omega arith
+
+-- sectors are few, and so are mini sectors
+pub mini-few : (g : Geometry) (z : Sized g) (img : Bytes) → ImageGroups g img → Sound g img → volume g img .minis .limit < 0x100_0000
+mini-few g z img G A =
+    let N = sectorCount g img in
+    let l = miniStreamSectors g img in
+    let few = A .few in
+    let a = linked-short (fatCell g img) N (omega arith) l (miniStream-linked g z img G) in
+    let b = mul-le-mul-left (g .sectorBytes / 64) a in
+    let c : g .sectorBytes * N ≡ g .sectorBytes / 64 * N * 64 = omega (arith, ap (λ (n : ℕ). n * N) (sixty g z img A)) in
+    elim (decLt (volume g img .minis .limit) 0x100_0000) [
+      | yes p ↦ p
+      | no p ↦
+          let q = mini-index g z img A 0xFF_FFFF (omega arith) in
+          absurd (omega (arith, q, b, c, A .long, A .short))
+    ]
