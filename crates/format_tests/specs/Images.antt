@@ -101,7 +101,21 @@ hollow free =
     ++ (rootEntry 1 END 0 ++ entry log 2 1 NOSTREAM NOSTREAM NOSTREAM END 0 ++ blank ++ blank)
     ++ replicate (512 * free) 0xEE
 
+-- `log` of 4,096 bytes in sectors 4 to 11, `Jets` of 10 bytes in mini sector 0, one free mini sector and one free sector
+unfoldable pub smallAndLarge : Bytes
+smallAndLarge =
+    header 2 1
+    ++ cells (FATSECT ∷ END ∷ END ∷ END ∷ 5 ∷ 6 ∷ 7 ∷ 8 ∷ 9 ∷ 10 ∷ 11 ∷ END ∷ [])
+    ++ (rootEntry 1 3 128
+    ++ entry Site 1 1 NOSTREAM NOSTREAM 2 0 0
+    ++ entry log 2 1 NOSTREAM 3 NOSTREAM 4 4096
+    ++ entry Jets 2 0 NOSTREAM NOSTREAM NOSTREAM 0 10)
+    ++ cells (END ∷ [])
+    ++ (replicate 10 0xB0 ++ replicate 502 0xEE)
+    ++ replicate 4096 0xA0
+    ++ replicate 512 0xEE
+
 -- all of these, opened at once
 unfoldable pub built : Unit {0}
-unfolding words header cells nameField entry blank rootEntry Site log LOG Jets gone below smallest withThird bare threeSiblings site large hollow
+unfolding words header cells nameField entry blank rootEntry Site log LOG Jets gone below smallest withThird bare threeSiblings site large hollow smallAndLarge
 built = tt

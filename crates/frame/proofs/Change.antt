@@ -30,8 +30,8 @@ use Rattle.frame.proofs.Blocks.{Units, block-length}
 use Rattle.frame.proofs.Sound.{Sound, sound-of}
 use Rattle.frame.specs.Edits.{SameFields, Relinked, Refilled, MayResize}
 use Rattle.frame.proofs.Parts.{dirs-in, table-of, sector-units, mini-units, entry-is, entry-count-is}
-use Rattle.frame.proofs.Streams.{space-big, linked-big}
-use Rattle.frame.proofs.Entry.{stamped, stampedIn, twin-of, start-new, size-new, entry-length}
+use Rattle.frame.proofs.Streams.{space-large, stream-in-sectors}
+use Rattle.frame.proofs.Entry.{stamped, stampedIn, fields-new, start-new, size-new, entry-length}
 use Rattle.frame.proofs.Edited.{withCells, withData, withEntry}
 use lib.ListN.{length-append}
 use lib.Seq.{take-append-add}
@@ -92,25 +92,25 @@ module _ (g : Geometry) (z : Sized g) (img : Bytes) (e new : ℕ) (m : MayResize
   abbrev dirs : List ℕ
   dirs = directorySectorsOf g img
 
-  pub G : ImageGroups g img
-  G = accepted-kept g img (m .accepted)
+  pub groups : ImageGroups g img
+  groups = accepted-kept g img (m .accepted)
 
-  pub A : Sound g img
-  A = sound-of g z img G
+  pub sound : Sound g img
+  sound = sound-of g z img groups
 
-  pub en : (e ≢ 0) × (nameBytes (v .directory .entry e) ≤ 64) × (commonFields (v .directory .entry e) ≡ true)
+  pub entry-facts : (e ≢ 0) × (nameBytes (v .directory .entry e) ≤ 64) × (commonFields (v .directory .entry e) ≡ true)
   unfolding entryRules entryRight
-  en = stream-entry e (v .directory .entry e) (below-at (v .directory .count) (entryRight (v .directory)) (G .volume .entries) e (m .inside)) (m .stream)
+  entry-facts = stream-entry e (v .directory .entry e) (below-at (v .directory .count) (entryRight (v .directory)) (groups .volume .entries) e (m .inside)) (m .stream)
 
-  pub inside′ : e < entryCount g dirs
-  inside′ = rw (sym (entry-count-is g img)) (m .inside)
+  pub entry-inside : e < entryCount g dirs
+  entry-inside = rw (sym (entry-count-is g img)) (m .inside)
 
-  pub dtab : Table g (length img) dirs
-  dtab = table-of g z img A dirs (dirs-in g z img A)
+  pub directory-table : Table g (length img) dirs
+  directory-table = table-of g z img sound dirs (dirs-in g z img sound)
 
-  pub ws-is : (sp : Space) → editSpace v e new ≡ sp → ws ≡ take (roundUp new (sp .unit)) (us ++ freeUnits sp)
+  pub new-units-are : (sp : Space) → editSpace v e new ≡ sp → ws ≡ take (roundUp new (sp .unit)) (us ++ freeUnits sp)
   unfolding newUnits
-  ws-is sp q = ap (λ (s : Space). take (roundUp new (s .unit)) (us ++ freeUnits s)) q
+  new-units-are sp q = ap (λ (s : Space). take (roundUp new (s .unit)) (us ++ freeUnits s)) q
 
   pub enough : (sp : Space) → editSpace v e new ≡ sp → roundUp new (sp .unit) ≤ length us + length (freeUnits sp)
   enough sp q = subst (λ (s : Space). roundUp new (s .unit) ≤ length us + length (freeUnits s)) q (m .enough)
@@ -126,7 +126,7 @@ module _ (g : Geometry) (z : Sized g) (img : Bytes) (e new : ℕ) (m : MayResize
       let c = round-mono n new B p (omega arith) in
       let k = roundUp new B - length us in
       let w : ws ≡ us ++ take k (freeUnits sp) =
-      ws-is sp q ∙ ap (λ (j : ℕ). take j (us ++ freeUnits sp)) (let x : roundUp new B ≡ length us + k = omega arith in x) ∙ take-append-add us (freeUnits sp) k in
+      new-units-are sp q ∙ ap (λ (j : ℕ). take j (us ++ freeUnits sp)) (let x : roundUp new B ≡ length us + k = omega arith in x) ∙ take-append-add us (freeUnits sp) k in
       let x : n ≤ length us * B = omega (arith, a, ap (λ (j : ℕ). j * B) l) in
       let y : length us * B ≤ length ws * B =
       mul-le-mul-right B (let t : length us ≤ length ws = omega (arith, ap length w, length-append us (take k (freeUnits sp))) in t) in (
@@ -141,12 +141,12 @@ module _ (g : Geometry) (z : Sized g) (img : Bytes) (e new : ℕ) (m : MayResize
   resized-is = rw (m .differs)
 
   pub unit-some : (t : Bool) → 0 < cond t (v .minis) (v .sectors) .unit
-  unit-some true = mini-units g z img A .some
-  unit-some false = sector-units g z img A .some
+  unit-some true = mini-units g z img sound .some
+  unit-some false = sector-units g z img sound .some
 
-  pub none : n ≡ 0 → us ≡ []
+  pub no-units : n ≡ 0 → us ≡ []
   unfolding streamUnits unitsFor streamSize units spaceFor
-  none q =
+  no-units q =
       let sp = spaceFor v (size (v .directory .entry e)) in
       ap (λ (k : ℕ). units (sp .cell) k (start (v .directory .entry e)))
       (ap (λ (k : ℕ). roundUp k (sp .unit)) q ∙ round-zero (sp .unit) (unit-some (ltb (size (v .directory .entry e)) cutoff)))
@@ -160,29 +160,29 @@ module _ (g : Geometry) (z : Sized g) (img : Bytes) (e new : ℕ) (m : MayResize
       linked h = by (ltb n cutoff) refl
         where
           by : (t : Bool) → ltb n cutoff ≡ t → Linked (fatCell g img) (sectorCount g img) us
-          by true k = subst (λ (l : List ℕ). Linked (fatCell g img) (sectorCount g img) l) (sym (none (not-crossed n new (m .within) h k))) tt
-          by false k = linked-big g z img G A e (m .inside) (m .stream) k
+          by true k = subst (λ (l : List ℕ). Linked (fatCell g img) (sectorCount g img) l) (sym (no-units (not-crossed n new (m .within) h k))) tt
+          by false k = stream-in-sectors g z img groups sound e (m .inside) (m .stream) k
 
       go : (t : Bool) → ltb M cutoff ≡ t → new < 0x1_0000_0000
       go true h = small-new n new h
       go false h =
           let N = sectorCount g img in
-          let f = A .few in
+          let f = sound .few in
           let p = pool-short (fatCell g img) N (omega arith) us (linked h) in
-          let q = enough (v .sectors) (space-big v M h) in
+          let q = enough (v .sectors) (space-large v M h) in
           let B = v .sectors .unit in
-          let r = round-enough new B (sector-units g z img A .some) in
+          let r = round-enough new B (sector-units g z img sound .some) in
           let k : roundUp new B ≤ N = omega (arith, q, p, ap length (sectors-free g img)) in
           let t = mul-le-mul-left B k in
-          omega (arith, r, t, mul-comm B (roundUp new B), ap (λ (x : ℕ). x * N) (sector-unit g img), A .long, A .short)
+          omega (arith, r, t, mul-comm B (roundUp new B), ap (λ (x : ℕ). x * N) (sector-unit g img), sound .long, sound .short)
 
   -- what the written entry says
   pub entry-new : (w : Bytes) → startOf ws < 0x1_0000_0000 → volume g w .directory .entry e ≡ stamped (v .directory .entry e) (startOf ws) new
       → SameFields (v .directory .entry e) (volume g w .directory .entry e) × (start (volume g w .directory .entry e) ≡ startOf ws) × (size (volume g w .directory .entry e) ≡ new)
   entry-new w hs q =
       let b = v .directory .entry e in
-      let l : length b ≡ 128 = ap length (entry-is g img e) ∙ entry-length g z (length img) dirs dtab img e 0 0 inside′ refl in (
-        subst (λ (x : Bytes). SameFields b x) (sym q) (twin-of b (startOf ws) new l hs fits (en .1) (en .2)),
+      let l : length b ≡ 128 = ap length (entry-is g img e) ∙ entry-length g z (length img) dirs directory-table img e 0 0 entry-inside refl in (
+        subst (λ (x : Bytes). SameFields b x) (sym q) (fields-new b (startOf ws) new l hs fits (entry-facts .1) (entry-facts .2)),
         ap start q ∙ start-new b (startOf ws) new l hs fits,
         ap size q ∙ size-new b (startOf ws) new l hs fits,
       )

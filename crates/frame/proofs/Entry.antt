@@ -37,8 +37,8 @@ S128 : (g : Geometry) → Sized g → g .sectorBytes ≡ entriesIn g * 128
 unfolding entriesIn entryBytes
 S128 g z = let e = z .even in omega arith
 
-pos : (g : Geometry) → Sized g → 0 < g .sectorBytes
-pos g z = let w = z .wide in omega arith
+sector-some : (g : Geometry) → Sized g → 0 < g .sectorBytes
+sector-some g z = let w = z .wide in omega arith
 
 module _ (g : Geometry) (z : Sized g) (len : ℕ) (secs : List ℕ) (t : Table g len secs) (img : Bytes) (e s n : ℕ) (he : e < entryCount g secs) where
   pub stamp-kept : Kept g (Off secs) img (stampedIn g secs img e s n)
@@ -46,8 +46,8 @@ module _ (g : Geometry) (z : Sized g) (len : ℕ) (secs : List ℕ) (t : Table g
   stamp-kept =
       let p = placeIn g secs (128 * e) in
       kept-trans g (Off secs) img (sets img (p + 116) (le32 s)) (sets (sets img (p + 116) (le32 s)) (p + 120) (le64 n))
-      (thing-kept g 128 (entriesIn g) (S128 g z) (pos g z) len secs t img e 116 (le32 s) he (omega (arith, length-le32 s)) secs (λ x q. q))
-      (thing-kept g 128 (entriesIn g) (S128 g z) (pos g z) len secs t (sets img (p + 116) (le32 s)) e 120 (le64 n) he (omega (arith, length-le64 n)) secs (λ x q. q))
+      (thing-kept g 128 (entriesIn g) (S128 g z) (sector-some g z) len secs t img e 116 (le32 s) he (omega (arith, length-le32 s)) secs (λ x q. q))
+      (thing-kept g 128 (entriesIn g) (S128 g z) (sector-some g z) len secs t (sets img (p + 116) (le32 s)) e 120 (le64 n) he (omega (arith, length-le64 n)) secs (λ x q. q))
 
   pub stamp-other : (i : ℕ) → i ≢ e → entryIn g (stampedIn g secs img e s n) secs i ≡ entryIn g img secs i
   unfolding stampedIn put64 put32 putBytes entryPlace entryBytes entryCount entryIn
@@ -59,8 +59,8 @@ module _ (g : Geometry) (z : Sized g) (len : ℕ) (secs : List ℕ) (t : Table g
       go true h =
           let hi = ltb-true i (entriesIn g * length secs) h in
           let p = placeIn g secs (128 * e) in
-          thing-other g 128 (entriesIn g) (S128 g z) (pos g z) len secs t (sets img (p + 116) (le32 s)) e 120 (le64 n) he (omega (arith, length-le64 n)) i hi q
-          ∙ thing-other g 128 (entriesIn g) (S128 g z) (pos g z) len secs t img e 116 (le32 s) he (omega (arith, length-le32 s)) i hi q
+          thing-other g 128 (entriesIn g) (S128 g z) (sector-some g z) len secs t (sets img (p + 116) (le32 s)) e 120 (le64 n) he (omega (arith, length-le64 n)) i hi q
+          ∙ thing-other g 128 (entriesIn g) (S128 g z) (sector-some g z) len secs t img e 116 (le32 s) he (omega (arith, length-le32 s)) i hi q
       go false h = refl
 
   pub stamp-same : entryIn g (stampedIn g secs img e s n) secs e ≡ stamped (entryIn g img secs e) s n
@@ -68,14 +68,14 @@ module _ (g : Geometry) (z : Sized g) (len : ℕ) (secs : List ℕ) (t : Table g
   stamp-same =
       let p = placeIn g secs (128 * e) in
       rw (lt-ltb e (entriesIn g * length secs) he)
-      (thing-same g 128 (entriesIn g) (S128 g z) (pos g z) len secs t (sets img (p + 116) (le32 s)) e 120 (le64 n) he (omega (arith, length-le64 n))
-      ∙ ap (λ (b : Bytes). sets b 120 (le64 n)) (thing-same g 128 (entriesIn g) (S128 g z) (pos g z) len secs t img e 116 (le32 s) he (omega (arith, length-le32 s))))
+      (thing-same g 128 (entriesIn g) (S128 g z) (sector-some g z) len secs t (sets img (p + 116) (le32 s)) e 120 (le64 n) he (omega (arith, length-le64 n))
+      ∙ ap (λ (b : Bytes). sets b 120 (le64 n)) (thing-same g 128 (entriesIn g) (S128 g z) (sector-some g z) len secs t img e 116 (le32 s) he (omega (arith, length-le32 s))))
 
   pub entry-length : length img ≡ len → length (entryIn g img secs e) ≡ 128
   unfolding entryPlace entryBytes entryCount entryIn part
   entry-length l =
       let p = placeIn g secs (128 * e) in
-      let r = thing-room g 128 (entriesIn g) (S128 g z) (pos g z) len secs t e he in
+      let r = thing-room g 128 (entriesIn g) (S128 g z) (sector-some g z) len secs t e he in
       rw (lt-ltb e (entriesIn g * length secs) he) (length-take-le 128 (drop p img) (rw (length-drop p img) (omega arith)))
 
 -- ---- the fields
@@ -194,8 +194,8 @@ module _ (b : Bytes) (s n : ℕ) where
         let q = both (leb (colour b) 1) (allZero (part b 124 4)) h in
         rw (colour-low, q .0, high) zeros4
 
-    pub twin-of : nameBytes b ≤ 64 → commonFields b ≡ true → SameFields b (stamped b s n)
-    twin-of h c =
+    pub fields-new : nameBytes b ≤ 64 → commonFields b ≡ true → SameFields b (stamped b s n)
+    fields-new h c =
         record {
           name = name-low h;
           kind = kind-low;

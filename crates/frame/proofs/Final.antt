@@ -1,4 +1,4 @@
--- The interface that demand 3 uses, whole: over any sector size that is a multiple of 128 and at least 512, and so for version 3.
+-- The frame laws that the history uses, whole: for every sector size that is a multiple of 128 and at least 512, and so for version 3.
 use mathlib.Core.Path.{refl}
 use native.Mathlib.Omega.{arith}
 use lib.ListN.{length}

@@ -1,9 +1,11 @@
+-- The frame laws, in the order of reading: bytes and places; what each view reads where nothing was written; the single steps of an edit; the two edits.
 pub mod Bytes
 pub mod Kept
 pub mod Places
 pub mod Things
 pub mod Relink
 pub mod Blocks
+pub mod Chunks
 pub mod Accepted
 pub mod Sound
 pub mod Views
@@ -19,4 +21,3 @@ pub mod SectorChange
 pub mod MiniChange
 pub mod Resizing
 pub mod Final
-pub mod Chunks

@@ -1,4 +1,4 @@
--- All that two volumes share, where only sectors T were written; and the record that demand 3 asks for.
+-- All that the views of two images share, where only the sectors T were written.
 use mathlib.Core.Path.{_≡_, refl, sym, ap, _∙_}
 use mathlib.Core.List.{List}
 use mathlib.Core.Bool.{Bool, true, _&&_}
@@ -7,7 +7,7 @@ use native.Mathlib.Nat.{add-zero, mul-comm}
 use native.Mathlib.Omega.{arith}
 use lib.Dec.{eqb}
 use lib.ListN.{length, getD}
-use Rattle.format.specs.Basics.Lists.{count, member}
+use Rattle.format.specs.Basics.Lists.{count}
 use Rattle.format.specs.Basics.Bytes.{Bytes, part}
 use Rattle.format.specs.Layout.Geometry.{Geometry, placeIn, cellsIn, miniBytes, sectorCount}
 use Rattle.format.specs.Layout.Need.{roundUp}
@@ -18,14 +18,14 @@ use Rattle.format.specs.Layout.Tables.{cellIn, fatSectors, difatSectors, fatCel
 use Rattle.format.specs.Rules.Tables.{tableCounts, difatEnds, difatRest, tableSectors, tableMarks, tableRules, markRight}
 use Rattle.format.specs.Layout.Entry.{size, start}
 use Rattle.format.specs.Layout.Directory.{directorySectors, directoryOf, entryIn, entryCount}
-use Rattle.format.specs.Layout.Volume.{Volume, volume, systemSectors, miniSpace, miniCells, directorySectorsOf, miniFatSectors, miniStreamSectors, directory, root}
+use Rattle.format.specs.Layout.Volume.{volume, systemSectors, miniSpace, miniCells, directorySectorsOf, miniFatSectors, miniStreamSectors, directory, root}
 use Rattle.theory.proofs.Counts.{count-at}
 use Rattle.theory.proofs.Tests.{below-ext}
 use Rattle.theory.proofs.Chains.{length-units, follow-agree, units-agree}
 use Rattle.frame.specs.Kept.{Sized, Kept, Off, Table}
 use Rattle.frame.specs.Edits.{SameParts, Preserved}
 use Rattle.frame.proofs.Kept.{part-body, place-in, place-eq}
-use Rattle.frame.proofs.Places.{fit-in, index-in}
+use Rattle.frame.proofs.Places.{thing-fits, thing-index}
 use Rattle.frame.proofs.Things.{thing-far, thing-room}
 use Rattle.frame.proofs.Blocks.{Units}
 use Rattle.frame.proofs.Sound.{Sound, sys-count}
@@ -84,9 +84,9 @@ module _ (g : Geometry) (z : Sized g) (img : Bytes) (A : Sound g img) where
   miniStream-in s = omega (arith, sys-count (volume g img) s)
 
   -- the five lists of the system do not meet
-  pub five : (s : ℕ) → count s (fatSectors g img) + count s (difatSectors g img) + count s (directorySectorsOf g img) + count s (miniFatSectors g img) + count s (miniStreamSectors g img) ≤ 1
+  pub system-apart : (s : ℕ) → count s (fatSectors g img) + count s (difatSectors g img) + count s (directorySectorsOf g img) + count s (miniFatSectors g img) + count s (miniStreamSectors g img) ≤ 1
   unfolding volume
-  five s = omega (arith, sys-count (volume g img) s, A .once s)
+  system-apart s = omega (arith, sys-count (volume g img) s, A .once s)
 
   pub sector-units : Units (volume g img .sectors) (length img)
   unfolding volume sectorSpace
@@ -97,11 +97,11 @@ module _ (g : Geometry) (z : Sized g) (img : Bytes) (A : Sound g img) where
         room = λ x hx. rw (A .long) (place-in g (sectorCount g img) x (g .sectorBytes) hx (omega arith));
       }
 
-  pub sixty : g .sectorBytes ≡ g .sectorBytes / 64 * 64
-  sixty = let e = z .even in omega arith
+  pub minis-in-sector : g .sectorBytes ≡ g .sectorBytes / 64 * 64
+  minis-in-sector = let e = z .even in omega arith
 
-  pub pos : 0 < g .sectorBytes
-  pos = let w = z .wide in omega arith
+  pub sector-some : 0 < g .sectorBytes
+  sector-some = let w = z .wide in omega arith
 
   -- every mini sector lies in the mini stream
   pub mini-index : (m : ℕ) → m < volume g img .minis .limit → m < g .sectorBytes / 64 * length (miniStreamSectors g img)
@@ -109,9 +109,9 @@ module _ (g : Geometry) (z : Sized g) (img : Bytes) (A : Sound g img) where
   mini-index m h =
       let r = directory g img .entry 0 in
       let R = roundUp (size r) (g .sectorBytes) in
-      let a = round-enough (size r) (g .sectorBytes) pos in
+      let a = round-enough (size r) (g .sectorBytes) sector-some in
       let b = A .rootSize in
-      let c : g .sectorBytes * R ≡ g .sectorBytes / 64 * R * 64 = omega (arith, ap (λ (n : ℕ). n * R) sixty) in
+      let c : g .sectorBytes * R ≡ g .sectorBytes / 64 * R * 64 = omega (arith, ap (λ (n : ℕ). n * R) minis-in-sector) in
       rw (length-units (fatCell g img) R (start r)) (omega (arith, a, b, c, h, mul-comm (g .sectorBytes) R))
 
   pub mini-units : Units (volume g img .minis) (length img)
@@ -120,8 +120,8 @@ module _ (g : Geometry) (z : Sized g) (img : Bytes) (A : Sound g img) where
       record {
         some = omega arith;
         far = λ x y i j n hx hy hi hj.
-            thing-far g 64 (g .sectorBytes / 64) sixty pos (length img) (miniStreamSectors g img) (table-of (miniStreamSectors g img) miniStream-in) x y i j n (mini-index x hx) (mini-index y hy) hi hj;
-        room = λ x hx. thing-room g 64 (g .sectorBytes / 64) sixty pos (length img) (miniStreamSectors g img) (table-of (miniStreamSectors g img) miniStream-in) x (mini-index x hx);
+            thing-far g 64 (g .sectorBytes / 64) minis-in-sector sector-some (length img) (miniStreamSectors g img) (table-of (miniStreamSectors g img) miniStream-in) x y i j n (mini-index x hx) (mini-index y hy) hi hj;
+        room = λ x hx. thing-room g 64 (g .sectorBytes / 64) minis-in-sector sector-some (length img) (miniStreamSectors g img) (table-of (miniStreamSectors g img) miniStream-in) x (mini-index x hx);
       }
 
 -- ---- two images
@@ -133,8 +133,8 @@ unfolding block volume miniSpace placeIn miniBytes
 mini-place g z c A T a b x o u h =
     let l = miniStreamSectors g c in
     let k = 64 * u / g .sectorBytes in
-    let p = count-at l k 0 (index-in (g .sectorBytes) 64 (g .sectorBytes / 64) (sixty g z c A) (pos g z c A) (length l) u (mini-index g z c A u h)) in
-    part-body g (Off T) a b x (getD l k 0) (64 * u % g .sectorBytes) 64 (fit-in (g .sectorBytes) 64 (g .sectorBytes / 64) (sixty g z c A) (pos g z c A) u) (λ i q. o (getD l k 0) p)
+    let p = count-at l k 0 (thing-index (g .sectorBytes) 64 (g .sectorBytes / 64) (minis-in-sector g z c A) (sector-some g z c A) (length l) u (mini-index g z c A u h)) in
+    part-body g (Off T) a b x (getD l k 0) (64 * u % g .sectorBytes) 64 (thing-fits (g .sectorBytes) 64 (g .sectorBytes / 64) (minis-in-sector g z c A) (sector-some g z c A) u) (λ i q. o (getD l k 0) p)
 
 pub sector-place : (g : Geometry) (c : Bytes) (T : List ℕ) (a b : Bytes) (x : Kept g (Off T) a b) (u : ℕ) → count u T ≡ 0 → block (volume g c .sectors) b u ≡ block (volume g c .sectors) a u
 unfolding block volume sectorSpace
@@ -248,9 +248,9 @@ module _ (g : Geometry) (z : Sized g) (T : List ℕ) (a b : Bytes) (x : Kept g (
         (λ s l. rw (kept-fat g z T a b x A off, kept-difat g z T a b x A off, marks s l .0, marks s l .1)))
         ∙ G .tables)
 
-    pub kept-all : ImageGroups g a → ((s : ℕ) → s < sectorCount g a → (eqb (fatCell g b s) FATSECT ≡ eqb (fatCell g a s) FATSECT) × (eqb (fatCell g b s) DIFSECT ≡ eqb (fatCell g a s) DIFSECT))
+    pub preserved : ImageGroups g a → ((s : ℕ) → s < sectorCount g a → (eqb (fatCell g b s) FATSECT ≡ eqb (fatCell g a s) FATSECT) × (eqb (fatCell g b s) DIFSECT ≡ eqb (fatCell g a s) DIFSECT))
         → Preserved g a b
-    kept-all G marks =
+    preserved G marks =
         record {
           length = x .size;
           header = kept-header g z T a b x ∙ G .header;

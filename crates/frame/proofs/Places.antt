@@ -10,8 +10,8 @@ use native.Mathlib.Omega.{arith}
 
 -- U bytes hold c things of w bytes
 module _ (U w c : ℕ) (e : U ≡ c * w) (z : 0 < U) where
-  pub fit-in : (k : ℕ) → w * k % U + w ≤ U
-  fit-in k = go (decLt k (suc (w * k / U) * c))
+  pub thing-fits : (k : ℕ) → w * k % U + w ≤ U
+  thing-fits k = go (decLt k (suc (w * k / U) * c))
     where
       d : w * k / U * U + w * k % U ≡ w * k
       d = div-add-mod' (w * k) U
@@ -25,8 +25,8 @@ module _ (U w c : ℕ) (e : U ≡ c * w) (z : 0 < U) where
           let h′ : suc (w * k / U) * c ≤ k = omega arith in
           omega (arith, d, m, mul-le-mul-left w h′, ap (λ (x : ℕ). w * k / U * x) e, e, mul-comm w c)
 
-  pub apart-in : (x y : ℕ) → x ≢ y → w * x / U ≡ w * y / U → (w * x % U + w ≤ w * y % U) ⊎ (w * y % U + w ≤ w * x % U)
-  apart-in x y n q = go (decLt x y) (decLt y x)
+  pub things-apart : (x y : ℕ) → x ≢ y → w * x / U ≡ w * y / U → (w * x % U + w ≤ w * y % U) ⊎ (w * y % U + w ≤ w * x % U)
+  things-apart x y n q = go (decLt x y) (decLt y x)
     where
       dx : w * x / U * U + w * x % U ≡ w * x
       dx = div-add-mod' (w * x) U
@@ -43,8 +43,8 @@ module _ (U w c : ℕ) (e : U ≡ c * w) (z : 0 < U) where
       go (no a) (no b) = absurd (n (omega arith))
 
   -- thing k of n units' lies in one of them
-  pub index-in : (n k : ℕ) → k < c * n → w * k / U < n
-  index-in n k h = div-lt-iff-lt-mul z .1 (go (decLt 0 w))
+  pub thing-index : (n k : ℕ) → k < c * n → w * k / U < n
+  thing-index n k h = div-lt-iff-lt-mul z .1 (go (decLt 0 w))
     where
       go : Dec (0 < w) → w * k < n * U
       go (yes p) = let r = mul-le-mul-left w h in omega (arith, ap (λ (x : ℕ). n * x) e, r, p)

@@ -1,4 +1,4 @@
--- Cells released and linked: the table is the theory's.
+-- Cells released and linked, in the bytes of an image: the table is freed and chained.
 use mathlib.Core.Path.{_≡_, refl, sym, ap, _∙_}
 use mathlib.Core.Logic.{inl, inr}
 use mathlib.Core.List.{List, [], _∷_}

@@ -15,8 +15,8 @@ use Rattle.frame.specs.Kept.{Sized}
 use Rattle.frame.specs.Edits.{MayResize, IsResized}
 use Rattle.frame.proofs.Edited.{withEntry}
 use Rattle.frame.proofs.Change.{resized-is}
-use Rattle.frame.proofs.SectorChange.{sp-big, in-sectors}
-use Rattle.frame.proofs.MiniChange.{sp-small, in-minis}
+use Rattle.frame.proofs.SectorChange.{space-is-sectors, in-sectors}
+use Rattle.frame.proofs.MiniChange.{space-is-minis, in-minis}
 
 module _ (g : Geometry) (z : Sized g) (img : Bytes) (e new : ℕ) (m : MayResize g img e new) where
   abbrev v : Volume
@@ -41,5 +41,5 @@ module _ (g : Geometry) (z : Sized g) (img : Bytes) (e new : ℕ) (m : MayResize
   resizing = subst (λ (w : Bytes). IsResized g img e new M w) (sym (resized-is g z img e new m)) (go (ltb M cutoff) refl)
     where
       go : (t : Bool) → ltb M cutoff ≡ t → IsResized g img e new M (withEntry g dirs (editSpace v e new) img us ws n new e)
-      go true h = subst (λ (sp : Space). IsResized g img e new M (withEntry g dirs sp img us ws n new e)) (sym (sp-small g z img e new m h)) (in-minis g z img e new m h)
-      go false h = subst (λ (sp : Space). IsResized g img e new M (withEntry g dirs sp img us ws n new e)) (sym (sp-big g z img e new m h)) (in-sectors g z img e new m h)
+      go true h = subst (λ (sp : Space). IsResized g img e new M (withEntry g dirs sp img us ws n new e)) (sym (space-is-minis g z img e new m h)) (in-minis g z img e new m h)
+      go false h = subst (λ (sp : Space). IsResized g img e new M (withEntry g dirs sp img us ws n new e)) (sym (space-is-sectors g z img e new m h)) (in-sectors g z img e new m h)

@@ -31,12 +31,12 @@ use Rattle.frame.proofs.Blocks.{block-length}
 use Rattle.frame.proofs.Sound.{Sound, sound-of, marks-at}
 use Rattle.frame.proofs.Views.{kept-fat}
 use Rattle.frame.specs.Edits.{inSectors, inMinis, MayResize, IsResized}
-use Rattle.frame.proofs.Parts.{fat-cells-is, fat-cell-is, five, fat-in, difat-in, dirs-in, miniFat-in, miniStream-in, table-of, sector-units, mini-units, kept-entry, kept-all, kept-miniCell, mini-block, sector-place, entry-is, entry-at}
-use Rattle.frame.proofs.Streams.{space-big, bigs-big, smalls-big, linked-big, many, big-apart}
+use Rattle.frame.proofs.Parts.{fat-cells-is, fat-cell-is, system-apart, fat-in, difat-in, dirs-in, miniFat-in, miniStream-in, table-of, sector-units, mini-units, kept-entry, preserved, kept-miniCell, mini-block, sector-place, entry-is, entry-at}
+use Rattle.frame.proofs.Streams.{space-large, inSectors-large, inMinis-large, stream-in-sectors, stream-units-long, stream-apart}
 use Rattle.frame.proofs.Writing.{sectors-put, sector-limit, sector-cell, sector-block-at, sector-sized}
 use Rattle.frame.proofs.Entry.{stamped}
 use Rattle.frame.proofs.Edited.{Setup, withEntry, touched-count, edit-kept, edit-cells, edit-other, edit-same, edit-bytes}
-use Rattle.frame.proofs.Change.{relinked-at, refilled-at, same-cells, start-word, sectors-free, sectors-place, en, inside′, dtab, ws-is, grows, none, entry-new}
+use Rattle.frame.proofs.Change.{relinked-at, refilled-at, same-cells, start-word, sectors-free, sectors-place, entry-facts, entry-inside, directory-table, new-units-are, grows, no-units, entry-new}
 use Rattle.frame.specs.Groups.{ImageGroups}
 use Rattle.frame.proofs.Crossing.{not-crossed}
 use Rattle.theory.proofs.RoundUp.{round-zero}
@@ -71,9 +71,9 @@ module _ (g : Geometry) (z : Sized g) (img : Bytes) (e new : ℕ) (m : MayResize
   abbrev N : ℕ
   N = sectorCount g img
 
-  pub sp-big : editSpace v e new ≡ v .sectors
+  pub space-is-sectors : editSpace v e new ≡ v .sectors
   unfolding editSpace
-  sp-big = space-big v M hb
+  space-is-sectors = space-large v M hb
 
   lim : N ≤ END
   lim = let f = sound .few in omega arith
@@ -85,25 +85,25 @@ module _ (g : Geometry) (z : Sized g) (img : Bytes) (e new : ℕ) (m : MayResize
       go true h = k (not-crossed n new (m .within) hb h)
       go false h = f h
 
-  L : Linked (fatCell g img) N us
-  L = by-size (linked-big g z img groups sound e (m .inside) (m .stream)) (λ q. subst (λ (l : List ℕ). Linked (fatCell g img) N l) (sym (none g z img e new m q)) tt)
+  linked : Linked (fatCell g img) N us
+  linked = by-size (stream-in-sectors g z img groups sound e (m .inside) (m .stream)) (λ q. subst (λ (l : List ℕ). Linked (fatCell g img) N l) (sym (no-units g z img e new m q)) tt)
 
   long : length us ≡ roundUp n (v .sectors .unit)
   long =
-      by-size (λ h. many g z img groups sound e (m .inside) (m .stream) ∙ ap (λ (s : Space). roundUp n (s .unit)) (space-big v n h))
-      (λ q. ap length (none g z img e new m q) ∙ sym (ap (λ (k : ℕ). roundUp k (v .sectors .unit)) q ∙ round-zero (v .sectors .unit) (sector-units g z img sound .some)))
+      by-size (λ h. stream-units-long g z img groups sound e (m .inside) (m .stream) ∙ ap (λ (s : Space). roundUp n (s .unit)) (space-large v n h))
+      (λ q. ap length (no-units g z img e new m q) ∙ sym (ap (λ (k : ℕ). roundUp k (v .sectors .unit)) q ∙ round-zero (v .sectors .unit) (sector-units g z img sound .some)))
 
   us-sys : (s : ℕ) → 0 < count s us → count s (systemSectors v) ≡ 0
-  us-sys s p = by-size (λ h. big-apart g z img groups sound e (m .inside) (m .stream) h s p) (λ q. absurd (omega (arith, p, ap (count s) (none g z img e new m q))))
+  us-sys s p = by-size (λ h. stream-apart g z img groups sound e (m .inside) (m .stream) h s p) (λ q. absurd (omega (arith, p, ap (count s) (no-units g z img e new m q))))
 
-  comes : MayBecome N (fatCell g img) us ws
-  comes =
-      subst (λ (l : List ℕ). MayBecome N (fatCell g img) us l) (sym (ws-is g z img e new m (v .sectors) sp-big ∙ ap (λ (l : List ℕ). take (roundUp new (v .sectors .unit)) (us ++ l)) (sectors-free g img)))
-      (resized-becomes (fatCell g img) N lim us L (roundUp new (v .sectors .unit)))
+  becomes : MayBecome N (fatCell g img) us ws
+  becomes =
+      subst (λ (l : List ℕ). MayBecome N (fatCell g img) us l) (sym (new-units-are g z img e new m (v .sectors) space-is-sectors ∙ ap (λ (l : List ℕ). take (roundUp new (v .sectors .unit)) (us ++ l)) (sectors-free g img)))
+      (resized-becomes (fatCell g img) N lim us linked (roundUp new (v .sectors .unit)))
 
   ws-sys : (s : ℕ) → 0 < count s ws → count s (systemSectors v) ≡ 0
   ws-sys s p =
-      elim (comes .from s p .1) [
+      elim (becomes .from s p .1) [
         | inl a ↦ us-sys s a
         | inr a ↦ elim (decLt 0 (count s (systemSectors v))) [ yes k ↦ absurd (sound .allocated s k a) | no k ↦ omega arith ]
       ]
@@ -115,47 +115,47 @@ module _ (g : Geometry) (z : Sized g) (img : Bytes) (e new : ℕ) (m : MayResize
   us-off s p = elim (decLt 0 (count s us)) [ yes k ↦ absurd (omega (arith, us-sys s k)) | no k ↦ omega arith ]
 
   us-lim : (u : ℕ) → 0 < count u us → u < v .sectors .limit
-  us-lim u p = rw (sector-limit g img) (linked-below (fatCell g img) N us L u p)
+  us-lim u p = rw (sector-limit g img) (linked-below (fatCell g img) N us linked u p)
 
   ws-lim : (u : ℕ) → 0 < count u ws → u < v .sectors .limit
-  ws-lim u p = rw (sector-limit g img) (comes .from u p .0)
+  ws-lim u p = rw (sector-limit g img) (becomes .from u p .0)
 
   cells-in : (u : ℕ) → u < v .sectors .limit → u < cellsIn g * length (fatSectors g img)
   cells-in u p = omega (arith, p, sector-limit g img, sound .enough, fat-cells-is g img)
 
   front : take (min (length us) (length ws)) us ≡ take (min (length us) (length ws)) ws
   front =
-      subst (λ (l : List ℕ). take (min (length us) (length l)) us ≡ take (min (length us) (length l)) l) (sym (ws-is g z img e new m (v .sectors) sp-big))
+      subst (λ (l : List ℕ). take (min (length us) (length l)) us ≡ take (min (length us) (length l)) l) (sym (new-units-are g z img e new m (v .sectors) space-is-sectors))
       (resized-front (roundUp new (v .sectors .unit)) us (freeUnits (v .sectors)))
 
   setup : Setup g img (v .sectors) (fatSectors g img) ws dirs us ws n new e (λ u. count u (systemSectors v) ≡ 0)
   setup =
       record {
-        tab = table-of g z img sound (fatSectors g img) (fat-in g z img sound);
-        dtab = (dtab g z img e new m);
-        pl = sectors-place g img;
-        un = sector-units g z img sound;
-        uin = λ u p. cells-in u (us-lim u p);
-        win = λ u p. cells-in u (ws-lim u p);
-        ulim = us-lim;
-        wlim = ws-lim;
-        word = λ u p. let f = sound .few in omega (arith, comes .from u p .0);
-        once = comes .diff;
+        table = table-of g z img sound (fatSectors g img) (fat-in g z img sound);
+        directoryTable = (directory-table g z img e new m);
+        places = sectors-place g img;
+        units = sector-units g z img sound;
+        oldCells = λ u p. cells-in u (us-lim u p);
+        newCells = λ u p. cells-in u (ws-lim u p);
+        oldBelow = us-lim;
+        newBelow = ws-lim;
+        newWords = λ u p. let f = sound .few in omega (arith, becomes .from u p .0);
+        once = becomes .diff;
         few = rw (sector-limit g img) lim;
         chain = subst (λ (k : ℕ). Linked (cellIn g img (fatSectors g img) (cellsIn g * length (fatSectors g img))) k us) (sym (sector-limit g img))
-            (linked-agree (fatCell g img) (cellIn g img (fatSectors g img) (cellsIn g * length (fatSectors g img))) N us (λ s p. sym (fat-cell-is g img s)) L);
+            (linked-agree (fatCell g img) (cellIn g img (fatSectors g img) (cellsIn g * length (fatSectors g img))) N us (λ s p. sym (fat-cell-is g img s)) linked);
         front = front;
-        inside = (inside′ g z img e new m);
-        three = λ s.
+        inside = (entry-inside g z img e new m);
+        apart = λ s.
             elim (decLt 0 (count s ws)) [
-              | yes k ↦ omega (arith, ws-sys s k, fat-in g z img sound s, dirs-in g z img sound s, comes .diff s)
-              | no k ↦ omega (arith, five g z img sound s)
+              | yes k ↦ omega (arith, ws-sys s k, fat-in g z img sound s, dirs-in g z img sound s, becomes .diff s)
+              | no k ↦ omega (arith, system-apart g z img sound s)
             ];
-        put = sectors-put g z img sound ws (comes .diff) ws-lim;
-        wok = ws-sys;
-        blk = λ T a b x h u l k.
+        putKept = sectors-put g z img sound ws (becomes .diff) ws-lim;
+        newAllowed = ws-sys;
+        blockKept = λ T a b x h u l k.
             sector-place g img T a b x u (elim (decLt 0 (count u T)) [ yes c ↦ absurd (omega (arith, h u c, k, fat-in g z img sound u, dirs-in g z img sound u)) | no c ↦ omega arith ]);
-        grows = grows g z img e new m (v .sectors) sp-big (sector-units g z img sound) long us-lim;
+        grows = grows g z img e new m (v .sectors) space-is-sectors (sector-units g z img sound) long us-lim;
       }
 
   abbrev w : Bytes
@@ -174,7 +174,7 @@ module _ (g : Geometry) (z : Sized g) (img : Bytes) (e new : ℕ) (m : MayResize
   off l f h s p = omega (arith, T-count s, h s, ws-off s (omega (arith, f s)))
 
   offDifat : (s : ℕ) → 0 < count s (difatSectors g img) → count s T ≡ 0
-  offDifat = off (difatSectors g img) (difat-in g z img sound) (λ s. omega (arith, five g z img sound s))
+  offDifat = off (difatSectors g img) (difat-in g z img sound) (λ s. omega (arith, system-apart g z img sound s))
 
   cell : (s : ℕ) → fatCell g w s ≡ rechain us ws (fatCell g img) s
   cell s =
@@ -197,7 +197,7 @@ module _ (g : Geometry) (z : Sized g) (img : Bytes) (e new : ℕ) (m : MayResize
   other = edit-other g z img (v .sectors) (fatSectors g img) ws dirs us ws n new e (λ u. count u (systemSectors v) ≡ 0) setup
 
   entry0 : entryIn g w dirs 0 ≡ entryIn g img dirs 0
-  entry0 = other 0 (λ q. (en g z img e new m) .0 (sym q))
+  entry0 = other 0 (λ q. (entry-facts g z img e new m) .0 (sym q))
 
   same-entry : volume g w .directory .entry e ≡ stamped (v .directory .entry e) (startOf ws) new
   same-entry =
@@ -213,7 +213,7 @@ module _ (g : Geometry) (z : Sized g) (img : Bytes) (e new : ℕ) (m : MayResize
       elim (decLt 0 (count s us + count s ws)) [
         | yes p ↦
             let y : count s (systemSectors v) ≡ 0 = elim (decLt 0 (count s us)) [ yes k ↦ us-sys s k | no k ↦ ws-sys s (omega arith) ] in
-            let o : count c ws ≡ 0 = elim (decLt 0 (count c ws)) [ yes k ↦ absurd (omega (arith, comes .from c k .0)) | no k ↦ omega arith ] in
+            let o : count c ws ≡ 0 = elim (decLt 0 (count c ws)) [ yes k ↦ absurd (omega (arith, becomes .from c k .0)) | no k ↦ omega arith ] in
             ne-eqb (fatCell g w s) c (λ t. rechain-not us ws (fatCell g img) s c n1 n2 o p (sym (cell s) ∙ t)) ∙ sym (q ∙ le-ltb 0 (count s l) (omega (arith, f s, y)))
         | no p ↦ ap (λ (x : ℕ). eqb x c) (cell s ∙ rechain-out us ws (fatCell g img) s (omega arith) (omega arith))
       ]
@@ -222,13 +222,13 @@ module _ (g : Geometry) (z : Sized g) (img : Bytes) (e new : ℕ) (m : MayResize
   out l h u k = elim (decLt 0 (count u l)) [ yes p ↦ absurd (omega (arith, h u p)) | no p ↦ omega arith ]
 
   mini-same : (u : ℕ) → u < v .minis .limit → block (volume g w .minis) w u ≡ block (v .minis) img u
-  mini-same = mini-block g z T img w K sound offDifat cells entry0 (off (miniStreamSectors g img) (miniStream-in g z img sound) (λ s. omega (arith, five g z img sound s)))
+  mini-same = mini-block g z T img w K sound offDifat cells entry0 (off (miniStreamSectors g img) (miniStream-in g z img sound) (λ s. omega (arith, system-apart g z img sound s)))
 
   pub in-sectors : IsResized g img e new M w
   in-sectors =
-      let t = entry-new g z img e new m w (start-word ws (setup .word)) same-entry in
+      let t = entry-new g z img e new m w (start-word ws (setup .newWords)) same-entry in
       record {
-        kept = kept-all g z T img w K sound offDifat cells entry0 groups
+        kept = preserved g z T img w K sound offDifat cells entry0 groups
             (λ s l. (
               mark FATSECT (omega arith) (omega arith) (let f = sound .few in omega arith) s l (fatSectors g img) (fat-in g z img sound) (marks-at g z img groups s l .0),
               mark DIFSECT (omega arith) (omega arith) (let f = sound .few in omega arith) s l (difatSectors g img) (difat-in g z img sound) (marks-at g z img groups s l .1),
@@ -237,20 +237,20 @@ module _ (g : Geometry) (z : Sized g) (img : Bytes) (e new : ℕ) (m : MayResize
         fields = t .0;
         start = t .1;
         size = t .2;
-        sectorCells = relinked-at (v .sectors) (volume g w .sectors) us (inSectors M us) ws (inSectors M ws) (bigs-big M us hb) (bigs-big M ws hb)
+        sectorCells = relinked-at (v .sectors) (volume g w .sectors) us (inSectors M us) ws (inSectors M ws) (inSectors-large M us hb) (inSectors-large M ws hb)
             (record {
               cells = λ u l. sector-cell g w u ∙ cell u ∙ rechain-ext us ws (fatCell g img) (v .sectors .cell) u (sym (sector-cell g img u));
               rest = λ u l. sector-cell g w u ∙ cell u ∙ rechain-out us ws (fatCell g img) u (out us us-lim u l) (out ws ws-lim u l) ∙ sym (sector-cell g img u);
             });
-        miniCells = relinked-at (v .minis) (volume g w .minis) [] (inMinis M us) [] (inMinis M ws) (smalls-big M us hb) (smalls-big M ws hb)
-            (same-cells (v .minis) (volume g w .minis) (kept-miniCell g z T img w K sound offDifat cells entry0 (off (miniFatSectors g img) (miniFat-in g z img sound) (λ s. omega (arith, five g z img sound s)))));
-        sectorBytes = refilled-at (v .sectors) (volume g w .sectors) img w (systemSectors v) ws (inSectors M ws) (target (v .sectors .unit) (block (v .sectors) img) us ws n new) (bigs-big M ws hb)
+        miniCells = relinked-at (v .minis) (volume g w .minis) [] (inMinis M us) [] (inMinis M ws) (inMinis-large M us hb) (inMinis-large M ws hb)
+            (same-cells (v .minis) (volume g w .minis) (kept-miniCell g z T img w K sound offDifat cells entry0 (off (miniFatSectors g img) (miniFat-in g z img sound) (λ s. omega (arith, system-apart g z img sound s)))));
+        sectorBytes = refilled-at (v .sectors) (volume g w .sectors) img w (systemSectors v) ws (inSectors M ws) (target (v .sectors .unit) (block (v .sectors) img) us ws n new) (inSectors-large M ws hb)
             (record {
               bytes = λ u l q. sector-block-at g img w u
                   ∙ edit-bytes g z img (v .sectors) (fatSectors g img) ws dirs us ws n new e (λ u. count u (systemSectors v) ≡ 0) setup u l q;
               sized = λ u l. sector-sized g z img w sound (K .size) u l;
             });
-        miniBytes = refilled-at (v .minis) (volume g w .minis) img w [] [] (inMinis M ws) (target (v .minis .unit) (block (v .minis) img) us ws n new) (smalls-big M ws hb)
+        miniBytes = refilled-at (v .minis) (volume g w .minis) img w [] [] (inMinis M ws) (target (v .minis .unit) (block (v .minis) img) us ws n new) (inMinis-large M ws hb)
             (record {
               bytes = λ u l q. mini-same u l;
               sized = λ u l. ap length (mini-same u l) ∙ block-length (v .minis) (length img) (mini-units g z img sound) img refl u l;

@@ -1,13 +1,13 @@
 -- What acceptance says of the sectors, as facts.
-use mathlib.Core.Path.{_≡_, refl, sym, _∙_, subst}
+use mathlib.Core.Path.{_≡_, refl, _∙_, subst}
 use mathlib.Core.Logic.{_≢_}
 use mathlib.Core.List.{List, _++_}
-use mathlib.Core.Bool.{Bool, true, false, _&&_, Bool·beq}
+use mathlib.Core.Bool.{true, _&&_, Bool·beq}
 use Prim.Native.Nat.{ℕ, zero, suc, _+_, _-_, _*_, _/_, _%_, _≤_, _<_}
 use native.Mathlib.Nat.{div-add-mod', mul-le-mul-left}
 use native.Mathlib.Decide.{decLt}
 use native.Mathlib.Omega.{arith}
-use lib.Dec.{eqb, ltb, leb}
+use lib.Dec.{eqb, leb}
 use lib.ListN.{length}
 use borrow.Author.Tests.{lt-ltb, ltb-true, leb-true, eqb-true}
 use Rattle.format.specs.Basics.Lists.{allBelow, all, joinBelow, count, member, distinct}
@@ -18,7 +18,7 @@ use Rattle.format.specs.Layout.Need.{roundUp}
 use Rattle.format.specs.Layout.Header.{fatCount, difatCount, miniFatCount, directoryStart, miniFatStart}
 use Rattle.format.specs.Layout.Chain.{FREE, END, FATSECT, DIFSECT, chain, follow}
 use Rattle.format.specs.Layout.Space.{chainFor, unitsFor}
-use Rattle.format.specs.Rules.Cells.{plainCell, restFree}
+use Rattle.format.specs.Rules.Cells.{restFree}
 use Rattle.format.specs.Layout.Tables.{fatSectors, difatSectors, fatCells, fatCell, sectorSpace}
 use Rattle.format.specs.Rules.Tables.{difatNeed, tableCounts, difatEnds, difatRest, tableSectors, tableMarks, tableRules, isSector, markRight}
 use Rattle.format.specs.Layout.Entry.{size, start}

@@ -29,9 +29,9 @@ use Rattle.theory.proofs.OwnerCounts.{count-join-at}
 use Rattle.frame.specs.Kept.{Sized, Kept, Off}
 use Rattle.frame.specs.Edits.{inSectors, inMinis}
 use Rattle.frame.proofs.Kept.{part-body}
-use Rattle.frame.proofs.Places.{fit-in, index-in}
+use Rattle.frame.proofs.Places.{thing-fits, thing-index}
 use Rattle.frame.proofs.Sound.{Sound, owners-at, miniStream-linked}
-use Rattle.frame.proofs.Parts.{mini-index, sixty}
+use Rattle.frame.proofs.Parts.{mini-index, minis-in-sector}
 use Rattle.frame.specs.Groups.{ImageGroups}
 
 or-true : (a b : Bool) → not a || b ≡ true → a ≡ true → b ≡ true
@@ -54,35 +54,35 @@ kept-entryIn g z T a b x secs off i = go (ltb i (g .sectorBytes / 128 * length s
         → cond t (part b (sectorPlace g (getD secs (128 * i / g .sectorBytes) 0) + 128 * i % g .sectorBytes) 128) []
         ≡ cond t (part a (sectorPlace g (getD secs (128 * i / g .sectorBytes) 0) + 128 * i % g .sectorBytes) 128) []
     go true h =
-        let k = count-at secs (128 * i / g .sectorBytes) 0 (index-in (g .sectorBytes) 128 (g .sectorBytes / 128) S128 p (length secs) i (ltb-true i (g .sectorBytes / 128 * length secs) h)) in
-        part-body g (Off T) a b x (getD secs (128 * i / g .sectorBytes) 0) (128 * i % g .sectorBytes) 128 (fit-in (g .sectorBytes) 128 (g .sectorBytes / 128) S128 p i)
+        let k = count-at secs (128 * i / g .sectorBytes) 0 (thing-index (g .sectorBytes) 128 (g .sectorBytes / 128) S128 p (length secs) i (ltb-true i (g .sectorBytes / 128 * length secs) h)) in
+        part-body g (Off T) a b x (getD secs (128 * i / g .sectorBytes) 0) (128 * i % g .sectorBytes) 128 (thing-fits (g .sectorBytes) 128 (g .sectorBytes / 128) S128 p i)
         (λ j l. off (getD secs (128 * i / g .sectorBytes) 0) k)
     go false h = refl
 
 -- which space a length lies in
-pub space-big : (v : Volume) (n : ℕ) → ltb n cutoff ≡ false → spaceFor v n ≡ v .sectors
+pub space-large : (v : Volume) (n : ℕ) → ltb n cutoff ≡ false → spaceFor v n ≡ v .sectors
 unfolding spaceFor
-space-big v n h = rw h
+space-large v n h = rw h
 
 pub space-small : (v : Volume) (n : ℕ) → ltb n cutoff ≡ true → spaceFor v n ≡ v .minis
 unfolding spaceFor
 space-small v n h = rw h
 
-pub bigs-big : (n : ℕ) (us : List ℕ) → ltb n cutoff ≡ false → inSectors n us ≡ us
+pub inSectors-large : (n : ℕ) (us : List ℕ) → ltb n cutoff ≡ false → inSectors n us ≡ us
 unfolding inSectors
-bigs-big n us h = rw h
+inSectors-large n us h = rw h
 
-pub bigs-small : (n : ℕ) (us : List ℕ) → ltb n cutoff ≡ true → inSectors n us ≡ []
+pub inSectors-small : (n : ℕ) (us : List ℕ) → ltb n cutoff ≡ true → inSectors n us ≡ []
 unfolding inSectors
-bigs-small n us h = rw h
+inSectors-small n us h = rw h
 
-pub smalls-big : (n : ℕ) (us : List ℕ) → ltb n cutoff ≡ false → inMinis n us ≡ []
+pub inMinis-large : (n : ℕ) (us : List ℕ) → ltb n cutoff ≡ false → inMinis n us ≡ []
 unfolding inMinis
-smalls-big n us h = rw h
+inMinis-large n us h = rw h
 
-pub smalls-small : (n : ℕ) (us : List ℕ) → ltb n cutoff ≡ true → inMinis n us ≡ us
+pub inMinis-small : (n : ℕ) (us : List ℕ) → ltb n cutoff ≡ true → inMinis n us ≡ us
 unfolding inMinis
-smalls-small n us h = rw h
+inMinis-small n us h = rw h
 
 module _ (g : Geometry) (z : Sized g) (img : Bytes) (G : ImageGroups g img) (A : Sound g img) (e : ℕ)
     (inside : e < volume g img .directory .count) (stream : isStream (volume g img .directory .entry e) ≡ true) where
@@ -100,19 +100,19 @@ module _ (g : Geometry) (z : Sized g) (img : Bytes) (G : ImageGroups g img) (A :
       let n = size (v .directory .entry e) in
       chain-linked (spaceFor v n .cell) (spaceFor v n .limit) (roundUp n (spaceFor v n .unit)) (start (v .directory .entry e)) chained .0
 
-  pub many : length (streamUnits (volume g img) e) ≡ roundUp (streamSize (volume g img) e) (spaceFor (volume g img) (streamSize (volume g img) e) .unit)
+  pub stream-units-long : length (streamUnits (volume g img) e) ≡ roundUp (streamSize (volume g img) e) (spaceFor (volume g img) (streamSize (volume g img) e) .unit)
   unfolding streamUnits unitsFor streamSize
-  many =
+  stream-units-long =
       let v = volume g img in
       let n = size (v .directory .entry e) in
       length-units (spaceFor v n .cell) (roundUp n (spaceFor v n .unit)) (start (v .directory .entry e))
 
-  pub linked-big : ltb (streamSize (volume g img) e) cutoff ≡ false → Linked (fatCell g img) (sectorCount g img) (streamUnits (volume g img) e)
+  pub stream-in-sectors : ltb (streamSize (volume g img) e) cutoff ≡ false → Linked (fatCell g img) (sectorCount g img) (streamUnits (volume g img) e)
   unfolding volume sectorSpace
-  linked-big h = subst (λ (sp : Space). Linked (sp .cell) (sp .limit) (streamUnits (volume g img) e)) (space-big (volume g img) (streamSize (volume g img) e) h) linked
+  stream-in-sectors h = subst (λ (sp : Space). Linked (sp .cell) (sp .limit) (streamUnits (volume g img) e)) (space-large (volume g img) (streamSize (volume g img) e) h) linked
 
-  pub linked-small : ltb (streamSize (volume g img) e) cutoff ≡ true → Linked (volume g img .minis .cell) (volume g img .minis .limit) (streamUnits (volume g img) e)
-  linked-small h = subst (λ (sp : Space). Linked (sp .cell) (sp .limit) (streamUnits (volume g img) e)) (space-small (volume g img) (streamSize (volume g img) e) h) linked
+  pub stream-in-minis : ltb (streamSize (volume g img) e) cutoff ≡ true → Linked (volume g img .minis .cell) (volume g img .minis .limit) (streamUnits (volume g img) e)
+  stream-in-minis h = subst (λ (sp : Space). Linked (sp .cell) (sp .limit) (streamUnits (volume g img) e)) (space-small (volume g img) (streamSize (volume g img) e) h) linked
 
   own-big : ltb (streamSize (volume g img) e) cutoff ≡ false → ownSectors (volume g img) e ≡ streamUnits (volume g img) e
   unfolding ownSectors streamSize cutoff
@@ -121,10 +121,10 @@ module _ (g : Geometry) (z : Sized g) (img : Bytes) (G : ImageGroups g img) (A :
       rw (stream, le-leb 4096 n (ltb-false n 4096 h))
 
   -- a stream's sectors are none of the system's
-  pub big-apart : ltb (streamSize (volume g img) e) cutoff ≡ false → (s : ℕ) → 0 < count s (streamUnits (volume g img) e) → count s (systemSectors (volume g img)) ≡ 0
-  big-apart h s q =
+  pub stream-apart : ltb (streamSize (volume g img) e) cutoff ≡ false → (s : ℕ) → 0 < count s (streamUnits (volume g img) e) → count s (systemSectors (volume g img)) ≡ 0
+  stream-apart h s q =
       let v = volume g img in
-      let b = linked-below (fatCell g img) (sectorCount g img) (streamUnits v e) (linked-big h) s q in
+      let b = linked-below (fatCell g img) (sectorCount g img) (streamUnits v e) (stream-in-sectors h) s q in
       let o = owners-at g z img G s b in
       let j = count-join-at s (v .directory .count) (ownSectors v) e inside in
       let c = ap (count s) (own-big h) in
@@ -138,7 +138,7 @@ mini-few g z img G A =
     let few = A .few in
     let a = linked-short (fatCell g img) N (omega arith) l (miniStream-linked g z img G) in
     let b = mul-le-mul-left (g .sectorBytes / 64) a in
-    let c : g .sectorBytes * N ≡ g .sectorBytes / 64 * N * 64 = omega (arith, ap (λ (n : ℕ). n * N) (sixty g z img A)) in
+    let c : g .sectorBytes * N ≡ g .sectorBytes / 64 * N * 64 = omega (arith, ap (λ (n : ℕ). n * N) (minis-in-sector g z img A)) in
     elim (decLt (volume g img .minis .limit) 0x100_0000) [
       | yes p ↦ p
       | no p ↦

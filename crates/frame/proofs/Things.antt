@@ -20,7 +20,7 @@ use Rattle.theory.proofs.Sets.{drop-sets-add, take-sets-in, getD-sets-out}
 use Rattle.frame.specs.Kept.{Sized, Kept, Off, Table}
 use Rattle.frame.proofs.Bytes.{part-same, u32-put, length-le32}
 use Rattle.frame.proofs.Kept.{place-eq, kept-sets}
-use Rattle.frame.proofs.Places.{fit-in, apart-in, index-in}
+use Rattle.frame.proofs.Places.{thing-fits, things-apart, thing-index}
 
 -- ---- things of w bytes, c to a sector
 
@@ -32,8 +32,8 @@ module _ (g : Geometry) (w c : ℕ) (e : g .sectorBytes ≡ c * w) (z : 0 < g .s
       → placeIn g secs (w * x) + i ≢ placeIn g secs (w * y) + j
   unfolding placeIn
   thing-far x y i j n hx hy hi hj q =
-      let fx = fit-in (g .sectorBytes) w c e z x in
-      let fy = fit-in (g .sectorBytes) w c e z y in
+      let fx = thing-fits (g .sectorBytes) w c e z x in
+      let fy = thing-fits (g .sectorBytes) w c e z y in
       let kx = w * x / g .sectorBytes in
       let ky = w * y / g .sectorBytes in
       let rx = w * x % g .sectorBytes in
@@ -42,19 +42,19 @@ module _ (g : Geometry) (w c : ℕ) (e : g .sectorBytes ≡ c * w) (z : 0 < g .s
       place-eq g (getD secs kx 0) (getD secs ky 0) (rx + i) (ry + j) (omega arith) (omega arith)
       (sym (add-assoc (sectorPlace g (getD secs kx 0)) rx i) ∙ q ∙ add-assoc (sectorPlace g (getD secs ky 0)) ry j) in
       let k =
-      once-at secs (t .once) kx ky (index-in (g .sectorBytes) w c e z (length secs) x hx) (index-in (g .sectorBytes) w c e z (length secs) y hy) (p .0) in
-      elim (apart-in (g .sectorBytes) w c e z x y n k) [ inl h ↦ omega (arith, p .1) | inr h ↦ omega (arith, p .1) ]
+      once-at secs (t .once) kx ky (thing-index (g .sectorBytes) w c e z (length secs) x hx) (thing-index (g .sectorBytes) w c e z (length secs) y hy) (p .0) in
+      elim (things-apart (g .sectorBytes) w c e z x y n k) [ inl h ↦ omega (arith, p .1) | inr h ↦ omega (arith, p .1) ]
 
   -- the sector of a thing is one of the table's
   pub thing-sector : (y : ℕ) → y < c * length secs → 0 < count (getD secs (w * y / g .sectorBytes) 0) secs
-  thing-sector y hy = count-at secs (w * y / g .sectorBytes) 0 (index-in (g .sectorBytes) w c e z (length secs) y hy)
+  thing-sector y hy = count-at secs (w * y / g .sectorBytes) 0 (thing-index (g .sectorBytes) w c e z (length secs) y hy)
 
   -- it lies in the image
   pub thing-room : (y : ℕ) → y < c * length secs → placeIn g secs (w * y) + w ≤ len
   unfolding placeIn
   thing-room y hy =
       let a = t .room (getD secs (w * y / g .sectorBytes) 0) (thing-sector y hy) in
-      let b = fit-in (g .sectorBytes) w c e z y in
+      let b = thing-fits (g .sectorBytes) w c e z y in
       omega arith
 
   module _ (img : Bytes) (y j : ℕ) (vs : Bytes) (hy : y < c * length secs) (fits : j + length vs ≤ w) where
@@ -74,7 +74,7 @@ module _ (g : Geometry) (w c : ℕ) (e : g .sectorBytes ≡ c * w) (z : 0 < g .s
     thing-kept T h =
         let s = getD secs (w * y / g .sectorBytes) 0 in
         let a = h s (thing-sector y hy) in
-        let f = fit-in (g .sectorBytes) w c e z y in
+        let f = thing-fits (g .sectorBytes) w c e z y in
         rw (add-assoc (sectorPlace g s) (w * y % g .sectorBytes) j)
         (kept-sets g (Off T) img s (w * y % g .sectorBytes + j) vs (omega arith) (λ k l m o. omega arith))
 

@@ -1,28 +1,26 @@
 -- What is read off an image where only sectors T were written, none of them a DIFAT sector: header, DIFAT, and any table's cells elsewhere.
 use mathlib.Core.Path.{_≡_, _∙_, fun-ext, refl, ap}
-use mathlib.Core.List.{List, [], _∷_}
+use mathlib.Core.List.{List}
 use mathlib.Core.Bool.{Bool, true, false, cond}
 use Prim.Native.Nat.{ℕ, zero, suc, _+_, _-_, _*_, _/_, _%_, _≤_, _<_}
-use native.Mathlib.Nat.{div-add-mod', mod-lt, div-lt-iff-lt-mul, not-suc-le-zero, mul-comm}
-use native.Mathlib.Decide.{ℕ-discrete}
+use native.Mathlib.Nat.{mod-lt, div-lt-iff-lt-mul, mul-comm}
 use native.Mathlib.Omega.{arith}
 use lib.Dec.{eqb, ltb}
 use lib.ListN.{length, getD}
-use borrow.Author.Tests.{eq-eqb, ltb-true, ltb-false}
-use Rattle.format.specs.Basics.Lists.{listBelow, count, bit}
+use borrow.Author.Tests.{ltb-true, ltb-false}
+use Rattle.format.specs.Basics.Lists.{count}
 use Rattle.format.specs.Basics.Bytes.{Bytes, part, number, u16at, u32at}
 use Rattle.format.specs.Layout.Geometry.{Geometry, sectorPlace, placeIn, cellsIn, difatIn, headerDifat, sectorCount}
-use Rattle.format.specs.Layout.Need.{roundUp}
 use Rattle.format.specs.Rules.Header.{headerRules}
 use Rattle.format.specs.Layout.Header.{fatCount, difatCount, difatStart, miniFatCount, directoryStart, miniFatStart, difatPlace}
-use Rattle.format.specs.Layout.Chain.{FREE, units, follow}
+use Rattle.format.specs.Layout.Chain.{FREE}
 use Rattle.format.specs.Layout.Tables.{difatSector, difatEntry, cellPlaceIn, cellIn, fatSectors, difatSectors, fatCells}
 use Rattle.format.specs.Rules.Tables.{difatNeed, tableCounts, difatEnds, difatRest, tableSectors, spareEntryFree, isSector}
-use Rattle.theory.proofs.Counts.{count-append, count-at}
+use Rattle.theory.proofs.Counts.{count-at}
 use Rattle.theory.proofs.Tests.{below-ext}
 use Rattle.frame.specs.Kept.{Sized, Kept, Off}
 use Rattle.frame.proofs.Kept.{number-head, part-head, number-body}
-use Rattle.frame.proofs.Places.{fit-in, index-in}
+use Rattle.frame.proofs.Places.{thing-fits, thing-index}
 use Rattle.frame.proofs.Sound.{Sound}
 use Rattle.theory.proofs.Picks.{count-below}
 use Rattle.theory.proofs.RoundUp.{round-enough}
@@ -99,15 +97,15 @@ module _ (g : Geometry) (z : Sized g) (T : List ℕ) (a b : Bytes) (x : Kept g (
       S4 : g .sectorBytes ≡ g .sectorBytes / 4 * 4
       S4 = let e = z .even in omega arith
 
-      pos : 0 < g .sectorBytes
-      pos = let e = z .wide in omega arith
+      sector-some : 0 < g .sectorBytes
+      sector-some = let e = z .wide in omega arith
 
       go : (t : Bool) → ltb s (g .sectorBytes / 4 * length secs) ≡ t
           → cond t (number (part b (sectorPlace g (getD secs (4 * s / g .sectorBytes) 0) + 4 * s % g .sectorBytes) 4)) FREE
           ≡ cond t (number (part a (sectorPlace g (getD secs (4 * s / g .sectorBytes) 0) + 4 * s % g .sectorBytes) 4)) FREE
       go true h =
-          let k = count-at secs (4 * s / g .sectorBytes) 0 (index-in (g .sectorBytes) 4 (g .sectorBytes / 4) S4 pos (length secs) s (ltb-true s (g .sectorBytes / 4 * length secs) h)) in
-          number-body g (Off T) a b x (getD secs (4 * s / g .sectorBytes) 0) (4 * s % g .sectorBytes) 4 (fit-in (g .sectorBytes) 4 (g .sectorBytes / 4) S4 pos s)
+          let k = count-at secs (4 * s / g .sectorBytes) 0 (thing-index (g .sectorBytes) 4 (g .sectorBytes / 4) S4 sector-some (length secs) s (ltb-true s (g .sectorBytes / 4 * length secs) h)) in
+          number-body g (Off T) a b x (getD secs (4 * s / g .sectorBytes) 0) (4 * s % g .sectorBytes) 4 (thing-fits (g .sectorBytes) 4 (g .sectorBytes / 4) S4 sector-some s)
           (λ i l. off (getD secs (4 * s / g .sectorBytes) 0) k)
       go false h = refl
 

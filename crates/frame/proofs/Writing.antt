@@ -3,7 +3,6 @@ use mathlib.Core.Path.{_≡_, refl, sym, ap, _∙_, subst}
 use mathlib.Core.List.{List, [], _∷_}
 use mathlib.Core.Bool.{Bool, true, false}
 use Prim.Native.Nat.{ℕ, _+_, _*_, _/_, _≤_, _<_}
-use native.Mathlib.Nat.{mul-comm}
 use native.Mathlib.Decide.{decLt}
 use native.Mathlib.Omega.{arith}
 use lib.Dec.{eqb, ltb}
@@ -30,8 +29,8 @@ use Rattle.frame.proofs.Kept.{kept-sets}
 use Rattle.frame.proofs.Things.{thing-kept}
 use Rattle.frame.proofs.Blocks.{block-length, chain-put, chain-kept}
 use Rattle.frame.proofs.Sound.{Sound, sound-of}
-use Rattle.frame.proofs.Parts.{five, fat-in, difat-in, dirs-in, miniFat-in, miniStream-in, table-of, sector-units, mini-units, mini-index, sixty, pos, kept-fatCell, sector-block, kept-entry, kept-all, kept-miniCell, mini-block-at, mini-block}
-use Rattle.frame.proofs.Streams.{kept-entryIn, space-big, space-small, bigs-big, bigs-small, smalls-big, smalls-small, linked-big, linked-small, many, big-apart, mini-few}
+use Rattle.frame.proofs.Parts.{system-apart, fat-in, difat-in, dirs-in, miniFat-in, miniStream-in, table-of, sector-units, mini-units, mini-index, minis-in-sector, sector-some, kept-fatCell, sector-block, kept-entry, preserved, kept-miniCell, mini-block-at, mini-block}
+use Rattle.frame.proofs.Streams.{kept-entryIn, space-large, space-small, inSectors-large, inSectors-small, inMinis-large, inMinis-small, stream-in-sectors, stream-in-minis, stream-units-long, stream-apart, mini-few}
 use Rattle.frame.specs.Groups.{ImageGroups}
 use Rattle.frame.proofs.Accepted.{accepted-kept}
 use Rattle.theory.proofs.RoundUp.{round-enough}
@@ -52,7 +51,7 @@ unfolding volume miniSpace miniBytes
 minis-put g z a A us o b xs img i h =
     let T = miniStreamSectors g a in
     chain-kept (volume g a .minis) (length a) (mini-units g z a A) us o b g (Off T)
-    (λ m y j v q l. thing-kept g 64 (g .sectorBytes / 64) (sixty g z a A) (pos g z a A) (length a) T (table-of g z a A T (miniStream-in g z a A)) m y j (v ∷ [])
+    (λ m y j v q l. thing-kept g 64 (g .sectorBytes / 64) (minis-in-sector g z a A) (sector-some g z a A) (length a) T (table-of g z a A T (miniStream-in g z a A)) m y j (v ∷ [])
     (mini-index g z a A y (b y q)) (omega arith) T (λ s p. p))
     xs img i h
 
@@ -97,25 +96,25 @@ module _ (g : Geometry) (z : Sized g) (img : Bytes) (e offset : ℕ) (bytes : By
   room : (sp : Space) → spaceFor v n ≡ sp → 0 < sp .unit → offset + length bytes ≤ length us * sp .unit
   room sp q p =
       let r = round-enough n (sp .unit) p in
-      let c : length us ≡ roundUp n (sp .unit) = many g z img G A e (m .inside) (m .stream) ∙ ap (λ (s : Space). roundUp n (s .unit)) q in
+      let c : length us ≡ roundUp n (sp .unit) = stream-units-long g z img G A e (m .inside) (m .stream) ∙ ap (λ (s : Space). roundUp n (s .unit)) q in
       omega (arith, r, m .fits, ap (λ (k : ℕ). k * sp .unit) c)
 
   write-big : ltb n cutoff ≡ false → IsWritten g img e offset bytes (putChain (v .sectors) us img offset bytes)
   write-big h =
       record {
-        kept = kept-all g z us img w K A offDifat cells entry0 G (λ s l. (ap (λ (c : ℕ). eqb c FATSECT) (cell s), ap (λ (c : ℕ). eqb c DIFSECT) (cell s)));
+        kept = preserved g z us img w K A offDifat cells entry0 G (λ s l. (ap (λ (c : ℕ). eqb c FATSECT) (cell s), ap (λ (c : ℕ). eqb c DIFSECT) (cell s)));
         entries = λ i. kept-entry g z us img w K A offDifat cells entry0 i (kept-entryIn g z us img w K (directorySectorsOf g img) (off (directorySectorsOf g img) (dirs-in g z img A)) i);
         sectorCells = λ u. sector-cell g w u ∙ cell u ∙ sym (sector-cell g img u);
         miniCells = λ u. kept-miniCell g z us img w K A offDifat cells entry0 (off (miniFatSectors g img) (miniFat-in g z img A)) u;
-        sectorBytes = subst (λ (l : List ℕ). Refilled (v .sectors) (volume g w .sectors) img w (systemSectors v) l (putBytes (laid (block (v .sectors) img) us) offset bytes)) (sym (bigs-big n us h)) bigBytes;
-        miniBytes = subst (λ (l : List ℕ). Refilled (v .minis) (volume g w .minis) img w [] l (putBytes (laid (block (v .minis) img) us) offset bytes)) (sym (smalls-big n us h)) smallBytes;
+        sectorBytes = subst (λ (l : List ℕ). Refilled (v .sectors) (volume g w .sectors) img w (systemSectors v) l (putBytes (laid (block (v .sectors) img) us) offset bytes)) (sym (inSectors-large n us h)) bigBytes;
+        miniBytes = subst (λ (l : List ℕ). Refilled (v .minis) (volume g w .minis) img w [] l (putBytes (laid (block (v .minis) img) us) offset bytes)) (sym (inMinis-large n us h)) smallBytes;
       }
     where
       w : Bytes
       w = putChain (v .sectors) us img offset bytes
 
       L : Linked (fatCell g img) (sectorCount g img) us
-      L = linked-big g z img G A e (m .inside) (m .stream) h
+      L = stream-in-sectors g z img G A e (m .inside) (m .stream) h
 
       o : (s : ℕ) → count s us ≤ 1
       o = linked-once (fatCell g img) (sectorCount g img) (let f = A .few in omega arith) us L
@@ -124,7 +123,7 @@ module _ (g : Geometry) (z : Sized g) (img : Bytes) (e offset : ℕ) (bytes : By
       b s q = rw (sector-limit g img) (linked-below (fatCell g img) (sectorCount g img) us L s q)
 
       r : offset + length bytes ≤ length us * v .sectors .unit
-      r = room (v .sectors) (space-big v n h) (sector-units g z img A .some)
+      r = room (v .sectors) (space-large v n h) (sector-units g z img A .some)
 
       K : Kept g (Off us) img w
       K = sectors-put g z img A us o b bytes img offset r
@@ -132,7 +131,7 @@ module _ (g : Geometry) (z : Sized g) (img : Bytes) (e offset : ℕ) (bytes : By
       off : (l : List ℕ) → ((s : ℕ) → count s l ≤ count s (systemSectors v)) → (s : ℕ) → 0 < count s l → count s us ≡ 0
       off l f s q =
           elim (decLt 0 (count s us)) [
-            | yes p ↦ absurd (omega (arith, f s, q, big-apart g z img G A e (m .inside) (m .stream) h s p))
+            | yes p ↦ absurd (omega (arith, f s, q, stream-apart g z img G A e (m .inside) (m .stream) h s p))
             | no p ↦ (let k : count s us ≡ 0 = omega arith in k)
           ]
 
@@ -167,12 +166,12 @@ module _ (g : Geometry) (z : Sized g) (img : Bytes) (e offset : ℕ) (bytes : By
   write-small : ltb n cutoff ≡ true → IsWritten g img e offset bytes (putChain (v .minis) us img offset bytes)
   write-small h =
       record {
-        kept = kept-all g z T img w K A offDifat cells entry0 G (λ s l. (ap (λ (c : ℕ). eqb c FATSECT) (cell s), ap (λ (c : ℕ). eqb c DIFSECT) (cell s)));
+        kept = preserved g z T img w K A offDifat cells entry0 G (λ s l. (ap (λ (c : ℕ). eqb c FATSECT) (cell s), ap (λ (c : ℕ). eqb c DIFSECT) (cell s)));
         entries = λ i. kept-entry g z T img w K A offDifat cells entry0 i (kept-entryIn g z T img w K (directorySectorsOf g img) offDirs i);
         sectorCells = λ u. sector-cell g w u ∙ cell u ∙ sym (sector-cell g img u);
         miniCells = λ u. kept-miniCell g z T img w K A offDifat cells entry0 offMini u;
-        sectorBytes = subst (λ (l : List ℕ). Refilled (v .sectors) (volume g w .sectors) img w (systemSectors v) l (putBytes (laid (block (v .sectors) img) us) offset bytes)) (sym (bigs-small n us h)) bigBytes;
-        miniBytes = subst (λ (l : List ℕ). Refilled (v .minis) (volume g w .minis) img w [] l (putBytes (laid (block (v .minis) img) us) offset bytes)) (sym (smalls-small n us h)) smallBytes;
+        sectorBytes = subst (λ (l : List ℕ). Refilled (v .sectors) (volume g w .sectors) img w (systemSectors v) l (putBytes (laid (block (v .sectors) img) us) offset bytes)) (sym (inSectors-small n us h)) bigBytes;
+        miniBytes = subst (λ (l : List ℕ). Refilled (v .minis) (volume g w .minis) img w [] l (putBytes (laid (block (v .minis) img) us) offset bytes)) (sym (inMinis-small n us h)) smallBytes;
       }
     where
       T : List ℕ
@@ -182,7 +181,7 @@ module _ (g : Geometry) (z : Sized g) (img : Bytes) (e offset : ℕ) (bytes : By
       w = putChain (v .minis) us img offset bytes
 
       L : Linked (v .minis .cell) (v .minis .limit) us
-      L = linked-small g z img G A e (m .inside) (m .stream) h
+      L = stream-in-minis g z img G A e (m .inside) (m .stream) h
 
       o : (s : ℕ) → count s us ≤ 1
       o = linked-once (v .minis .cell) (v .minis .limit) (let f = mini-few g z img G A in omega arith) us L
@@ -197,16 +196,16 @@ module _ (g : Geometry) (z : Sized g) (img : Bytes) (e offset : ℕ) (bytes : By
       K = minis-put g z img A us o b bytes img offset r
 
       offDifat : (s : ℕ) → 0 < count s (difatSectors g img) → count s T ≡ 0
-      offDifat s q = omega (arith, five g z img A s)
+      offDifat s q = omega (arith, system-apart g z img A s)
 
       offFat : (s : ℕ) → 0 < count s (fatSectors g img) → count s T ≡ 0
-      offFat s q = omega (arith, five g z img A s)
+      offFat s q = omega (arith, system-apart g z img A s)
 
       offDirs : (s : ℕ) → 0 < count s (directorySectorsOf g img) → count s T ≡ 0
-      offDirs s q = omega (arith, five g z img A s)
+      offDirs s q = omega (arith, system-apart g z img A s)
 
       offMini : (s : ℕ) → 0 < count s (miniFatSectors g img) → count s T ≡ 0
-      offMini s q = omega (arith, five g z img A s)
+      offMini s q = omega (arith, system-apart g z img A s)
 
       cell : (s : ℕ) → fatCell g w s ≡ fatCell g img s
       cell = kept-fatCell g z T img w K A offDifat offFat
@@ -239,4 +238,4 @@ module _ (g : Geometry) (z : Sized g) (img : Bytes) (e offset : ℕ) (bytes : By
     where
       go : (t : Bool) → ltb n cutoff ≡ t → IsWritten g img e offset bytes (putChain (spaceFor v n) us img offset bytes)
       go true h = subst (λ (sp : Space). IsWritten g img e offset bytes (putChain sp us img offset bytes)) (sym (space-small v n h)) (write-small h)
-      go false h = subst (λ (sp : Space). IsWritten g img e offset bytes (putChain sp us img offset bytes)) (sym (space-big v n h)) (write-big h)
+      go false h = subst (λ (sp : Space). IsWritten g img e offset bytes (putChain sp us img offset bytes)) (sym (space-large v n h)) (write-big h)

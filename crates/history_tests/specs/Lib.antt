@@ -1,0 +1,2 @@
+-- The claim on one image.
+pub mod Witness
