@@ -17,7 +17,7 @@ use Rattle.theory.proofs.Counts.{count-at}
 use Rattle.theory.proofs.Contents.{scatter-same, laid-one, scatter-ext}
 use Rattle.theory.proofs.Sets.{drop-sets-add, take-sets-in, getD-sets-out}
 use Rattle.frame.specs.Kept.{Where, Kept}
-use Rattle.frame.proofs.Bytes.{part-same}
+use Rattle.theory.proofs.Bytes.{part-same}
 use Rattle.frame.proofs.Kept.{kept-refl, kept-trans}
 
 -- units that do not meet, in an image of len bytes

@@ -20,7 +20,7 @@ use Rattle.theory.proofs.Sets.{getD-sets-in, getD-sets-out}
 use Rattle.theory.proofs.Tests.{both}
 use Rattle.frame.specs.Kept.{Sized, Kept, Off, Table}
 use Rattle.frame.specs.Edits.{SameFields}
-use Rattle.frame.proofs.Bytes.{part-same, number-same, number-put, number-le32, number-le64, length-le32, length-le64}
+use Rattle.theory.proofs.Bytes.{part-same, number-same, number-put, number-le32, number-le64, length-le32, length-le64}
 use Rattle.frame.proofs.Kept.{kept-trans}
 use Rattle.frame.proofs.Things.{thing-other, thing-same, thing-kept, thing-room}
 use Rattle.theory.proofs.Below.{listBelow-ext}

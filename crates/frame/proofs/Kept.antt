@@ -11,7 +11,7 @@ use Rattle.format.specs.Basics.Bytes.{Bytes, part, number}
 use Rattle.format.specs.Layout.Geometry.{Geometry, sectorPlace}
 use Rattle.theory.proofs.Sets.{getD-sets-out}
 use Rattle.frame.specs.Kept.{Where, Kept}
-use Rattle.frame.proofs.Bytes.{number-same, part-same}
+use Rattle.theory.proofs.Bytes.{number-same, part-same}
 
 -- two different units do not meet
 pub apart : (U u w : ℕ) → u < w → u * U + U ≤ w * U

@@ -1,5 +1,4 @@
 -- The frame laws, in the order of reading: bytes and places; what each view reads where nothing was written; the single steps of an edit; the two edits.
-pub mod Bytes
 pub mod Kept
 pub mod Places
 pub mod Things

@@ -18,7 +18,7 @@ use Rattle.format.specs.Layout.Tables.{cellPlaceIn, cellIn}
 use Rattle.theory.proofs.Counts.{eqb-cases, count-at, once-at}
 use Rattle.theory.proofs.Sets.{drop-sets-add, take-sets-in, getD-sets-out}
 use Rattle.frame.specs.Kept.{Sized, Kept, Off, Table}
-use Rattle.frame.proofs.Bytes.{part-same, u32-put, length-le32}
+use Rattle.theory.proofs.Bytes.{part-same, u32-put, length-le32}
 use Rattle.frame.proofs.Kept.{place-eq, kept-sets}
 use Rattle.frame.proofs.Places.{thing-fits, things-apart, thing-index}
 

@@ -4,6 +4,8 @@ pub mod Tests
 pub mod Picks
 pub mod Below
 pub mod Sets
+pub mod Bytes
+pub mod ByteTests
 pub mod RoundUp
 pub mod OwnerCounts
 pub mod Chains

@@ -53,6 +53,9 @@ le64 v = le32 v ++ le32 (v / 0x1_0000_0000)
 unfoldable pub putBytes : Bytes → ℕ → Bytes → Bytes
 putBytes b i new = sets b i new
 
+unfoldable pub put16 : Bytes → ℕ → ℕ → Bytes
+put16 b i v = putBytes b i (le16 v)
+
 unfoldable pub put32 : Bytes → ℕ → ℕ → Bytes
 put32 b i v = putBytes b i (le32 v)
 

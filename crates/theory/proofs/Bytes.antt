@@ -1,14 +1,15 @@
--- Numbers in bytes: read back, elsewhere, by their bytes.
+-- Numbers in bytes: by their bytes, where nothing was written, and read back.
 use mathlib.Core.Path.{_≡_, refl, sym, ap, _∙_}
 use mathlib.Core.List.{[], _∷_, _++_}
 use Prim.Native.Nat.{ℕ, zero, suc, _+_, _-_, _*_, _/_, _%_, _≤_, _<_}
-use native.Mathlib.Nat.{div-div-eq-div-mul, div-add-mod', mod-eq-of-lt, add-suc, suc-add, zero-add, add-zero}
+use native.Mathlib.Nat.{div-div-eq-div-mul, div-add-mod', mod-eq-of-lt, add-suc, suc-add, zero-add, add-zero, add-assoc, mul-add-mod-self-right}
+use native.Mathlib.Numerals.{add-one}
 use native.Mathlib.Omega.{arith}
 use lib.Arith.{mod-mul}
-use lib.ListN.{length, getD, take, drop, length-take, length-drop}
+use lib.ListN.{length, getD, set, take, drop, length-take, length-drop}
 use lib.Seq.{sets, getD-take, getD-drop, ext-getD, take-nil, drop-nil, take-length}
-use Rattle.format.specs.Basics.Bytes.{Bytes, part, number, u32at, u64at, le16, le32, le64, putBytes, put32, put64}
+use Rattle.format.specs.Basics.Bytes.{Bytes, part, number, u16at, u32at, u64at, le16, le32, le64, putBytes, put16, put32, put64}
 use Rattle.theory.proofs.Sets.{getD-sets-in}
 
 pub number-cons : (b : Bytes) (i n : ℕ) → number (part b i (suc n)) ≡ getD b i 0 + 256 * number (part b (suc i) n)
 unfolding number part
@@ -82,3 +83,68 @@ u32-put b p v h l = number-put b p (le32 v) h ∙ number-le32 v ∙ mod-eq-of-lt
 pub u64-put : (b : Bytes) (p v : ℕ) → p + 8 ≤ length b → v < 18446744073709551616 → u64at (put64 b p v) p ≡ v
 unfolding u64at put64 putBytes le64 le32 le16
 u64-put b p v h l = number-put b p (le64 v) h ∙ number-le64 v l
+
+-- ---- as code reads and writes them, byte by byte
+
+number-none : (b : Bytes) (i : ℕ) → number (part b i 0) ≡ 0
+unfolding number part
+number-none b i = refl
+
+number-next : (b : Bytes) (i n : ℕ) → number (part b i (suc n)) ≡ getD b i 0 + 256 * number (part b (i + 1) n)
+number-next b i n = rw add-one (number-cons b i n)
+
+pub u16-bytes : (b : Bytes) (o : ℕ) → u16at b o ≡ getD b o 0 + 256 * getD b (o + 1) 0
+unfolding u16at
+u16-bytes b o = rw (number-next b o 1, number-next b (o + 1) 0, number-none) (omega arith)
+
+pub u32-bytes : (b : Bytes) (o : ℕ) → u32at b o ≡ getD b o 0 + 256 * getD b (o + 1) 0 + 65536 * getD b (o + 2) 0 + 16777216 * getD b (o + 3) 0
+unfolding u32at
+u32-bytes b o =
+    rw (number-next b o 3, number-next b (o + 1) 2, number-next b (o + 1 + 1) 1, number-next b (o + 1 + 1 + 1) 0, number-none)
+    (simp add-assoc (omega arith))
+
+pub u64-halves : (b : Bytes) (o : ℕ) → u64at b o ≡ u32at b o + 4294967296 * u32at b (o + 4)
+unfolding u64at u32at
+u64-halves b o =
+    rw (
+      number-next b o 7,
+      number-next b (o + 1) 6,
+      number-next b (o + 1 + 1) 5,
+      number-next b (o + 1 + 1 + 1) 4,
+      number-next b o 3,
+      number-next b (o + 1) 2,
+      number-next b (o + 1 + 1) 1,
+      number-next b (o + 1 + 1 + 1) 0,
+      number-none,
+    )
+    (simp add-assoc (omega arith))
+
+pub u32-lt : (b : Bytes) (o : ℕ) → ((i : ℕ) → getD b i 0 < 256) → u32at b o < 4294967296
+u32-lt b o h = omega (arith, u32-bytes b o, h o, h (o + 1), h (o + 2), h (o + 3))
+
+pub put16-sets : (b : Bytes) (o v : ℕ) → put16 b o v ≡ set (set b o (v % 256)) (o + 1) (v / 256 % 256)
+unfolding put16 putBytes le16
+put16-sets b o v = let a : suc o ≡ o + 1 = omega arith in rw (← a)
+
+pub put32-sets : (b : Bytes) (o v : ℕ)
+    → put32 b o v ≡ set (set (set (set b o (v % 256)) (o + 1) (v / 256 % 256)) (o + 2) (v / 65536 % 256)) (o + 3) (v / 16777216 % 256)
+unfolding put32 putBytes le32 le16
+put32-sets b o v =
+    let a : suc o ≡ o + 1 = omega arith in
+    let c : suc (suc o) ≡ o + 2 = omega arith in
+    let d : suc (suc (suc o)) ≡ o + 3 = omega arith in
+    rw (← a, ← c, ← d, div-div-eq-div-mul)
+
+-- a byte of the low half
+low-byte : (v k m : ℕ) → v / k ≡ v / 4294967296 * m * 256 + v % 4294967296 / k → v % 4294967296 / k % 256 ≡ v / k % 256
+low-byte v k m h = rw (h, mul-add-mod-self-right)
+
+pub put64-halves : (b : Bytes) (o v : ℕ) → put64 b o v ≡ put32 (put32 b o (v % 4294967296)) (o + 4) (v / 4294967296)
+unfolding put64 put32 putBytes le64 le32 le16
+put64-halves b o v =
+    let e0 : v % 4294967296 % 256 ≡ v % 256 = omega arith in
+    let e1 = low-byte v 256 65536 (omega arith) in
+    let e2 = low-byte v 65536 256 (omega arith) in
+    let e3 = low-byte v 16777216 1 (omega arith) in
+    let a : o + 4 ≡ suc (suc (suc (suc o))) = omega arith in
+    simp (a, add-assoc, div-div-eq-div-mul, e0, e1, e2, e3)
