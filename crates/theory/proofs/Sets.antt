@@ -1,12 +1,13 @@
 -- What a run of stores does to a part of a list.
-use mathlib.Core.Path.{_≡_, refl, ap, _∙_}
+use mathlib.Core.Path.{_≡_, refl, ap, _∙_, sym}
 use mathlib.Core.Logic.{_≢_}
 use mathlib.Core.List.{List, [], _∷_, _++_}
 use Prim.Native.Nat.{ℕ, zero, suc, _+_, _≤_, _<_}
 use native.Mathlib.Nat.{add-suc, suc-add, add-zero}
 use native.Mathlib.Omega.{arith}
 use lib.ListN.{length, getD, take, drop, set, length-set}
-use lib.Seq.{sets, take-take, drop-set-add, drop-set-lt, take-set-le, take-set-lt, set-append-left, getD-set-same, getD-set-other}
+use native.Mathlib.Numerals.{add-one}
+use lib.Seq.{drop-cons, set-at, append-snoc, take-suc, length-take-le, sets, take-take, drop-set-add, drop-set-lt, take-set-le, take-set-lt, set-append-left, getD-set-same, getD-set-other}
 
 module _ {A : Type 0} where
   pub drop-sets-add : (n : ℕ) (l : List A) (i : ℕ) (vs : List A) → drop n (sets l (n + i) vs) ≡ sets (drop n l) i vs
@@ -57,3 +58,13 @@ module _ {A : Type 0} where
   sub-take w (suc n) zero l h = absurd (native.Mathlib.Nat.not-suc-le-zero (let q : suc (n + w) ≤ 0 = omega arith in q))
   sub-take w (suc n) (suc m) [] h = refl
   sub-take w (suc n) (suc m) (x ∷ xs) h = sub-take w n m xs (omega arith)
+
+  -- one more element copied
+  pub copy-more : (d s : List A) (i : ℕ) (z : A) → i < length d → i < length s
+      → set (take i s ++ drop i d) i (getD s i z) ≡ take (i + 1) s ++ drop (i + 1) d
+  copy-more d s i z a b =
+      rw (add-one)
+      (ap (λ (r : List A). set (take i s ++ r) i (getD s i z)) (drop-cons d i z a)
+      ∙ set-at (take i s) (getD d i z) (drop (suc i) d) (getD s i z) i (length-take-le i s (omega arith))
+      ∙ sym (append-snoc (take i s) (getD s i z) (drop (suc i) d))
+      ∙ ap (λ (r : List A). r ++ drop (suc i) d) (sym (take-suc s i z b)))
