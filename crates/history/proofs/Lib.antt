@@ -5,3 +5,8 @@ pub mod OwnerFacts
 pub mod SystemFacts
 pub mod Good
 pub mod GoodBack
+pub mod EntryFacts
+pub mod CellCases
+pub mod EditedUnits
+pub mod Edited
+pub mod Filled
