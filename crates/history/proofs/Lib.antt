@@ -10,3 +10,7 @@ pub mod CellCases
 pub mod EditedUnits
 pub mod Edited
 pub mod Filled
+pub mod Sums
+pub mod Forest
+pub mod Counting
+pub mod Names
