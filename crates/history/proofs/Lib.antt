@@ -14,3 +14,8 @@ pub mod Sums
 pub mod Forest
 pub mod Counting
 pub mod Names
+pub mod Hits
+pub mod Siblings
+pub mod Paths
+pub mod Refusals
+pub mod Rows
