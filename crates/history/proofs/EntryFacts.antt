@@ -3,12 +3,15 @@ use Prim.Native.Nat.{ℕ, zero, suc, _%_, _-_, _<_}
 use mathlib.Core.Path.{_≡_, ap, refl}
 use mathlib.Core.Bool.{true, _&&_, _||_, false}
 use native.Mathlib.Omega.{arith}
+use native.Mathlib.Decide.{decLt}
 use lib.Dec.{eqb, leb}
-use borrow.Author.Tests.{eqb-true}
-use Rattle.format.specs.Basics.Bytes.{Bytes, u16at, part, allZero}
+use borrow.Author.Tests.{eqb-true, le-ltb}
+use Rattle.format.specs.Basics.Bytes.{Bytes, u16at, part, allZero, byteAt}
 use Rattle.format.specs.Layout.Name.{legalName}
 use Rattle.format.specs.Layout.Entry.{NOSTREAM, name, nameBytes, kind, child, clsid, created, modified, isStream, isStorage, isRoot, start, sizeField, isBlank}
-use Rattle.format.specs.Layout.Volume.{Volume}
+use Rattle.format.specs.Layout.Volume.{Volume, volume, directory}
+use Rattle.format.specs.Layout.Geometry.{Geometry}
+use Rattle.format.specs.Layout.Directory.{directoryOf, entryIn}
 use Rattle.format.specs.Rules.Entries.{entryFields, streamFields, storageFields, nameFields, commonFields, rootFields, entryRight, blankFields, entryRules}
 use Rattle.theory.proofs.Tests.{both, below-at, or-only, and-true-of}
 use Rattle.frame.specs.Edits.{SameFields}
@@ -72,3 +75,12 @@ module _ {v : Volume} (o : Good v) where
 
   pub root-no-stream : 0 < v .directory .count → isStream (v .directory .entry 0) ≡ false
   root-no-stream h = ap (λ n. eqb n 2) (root-kind (v .directory .entry 0) (entry-fields 0 h))
+
+-- entry 0 of an image is no stream: it is the root, or there is no entry at all
+pub root-plain : (g : Geometry) (img : Bytes) → Good (volume g img) → isStream (volume g img .directory .entry 0) ≡ false
+unfolding volume directory directoryOf entryIn kind byteAt
+root-plain g img o =
+    elim (decLt 0 (volume g img .directory .count)) [
+      | yes p ↦ root-no-stream o p
+      | no q ↦ rw (le-ltb 0 (volume g img .directory .count) (omega arith))
+    ]

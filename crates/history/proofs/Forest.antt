@@ -15,7 +15,7 @@ use Rattle.format.specs.Layout.Tree.{Forest, broken, node, named, grow, entries
 use Rattle.theory.proofs.Counts.{count-append, eqb-cases}
 use Rattle.theory.proofs.Tests.{both}
 
-named-below : (d : Directory) (x : ℕ) → named d x ≡ true → x < d .count
+pub named-below : (d : Directory) (x : ℕ) → named d x ≡ true → x < d .count
 named-below d x h = ltb-true x (d .count) (both (ltb 0 x) (ltb x (d .count)) h .1)
 
 pub count-node : (s : ℕ) (l : Forest) (e : ℕ) (b r : Forest) → count s (entries (node l e b r)) ≡ count s (entries l) + (bit (eqb s e) + (count s (entries b) + count s (entries r)))

@@ -19,3 +19,5 @@ pub mod Siblings
 pub mod Paths
 pub mod Refusals
 pub mod Rows
+pub mod Finding
+pub mod Lengths
