@@ -2,7 +2,7 @@
 use Prim.Native.Nat.{ℕ, _*_, _≤_, _<_}
 use mathlib.Core.Path.{_≡_, refl, sym, ap, _∙_, subst}
 use mathlib.Core.Logic.{_≢_}
-use mathlib.Core.Bool.{Bool, true}
+use mathlib.Core.Bool.{Bool, true, false}
 use mathlib.Core.List.{List, []}
 use native.Mathlib.Omega.{arith}
 use lib.Dec.{ltb}
@@ -12,21 +12,28 @@ use Rattle.format.specs.Basics.Bytes.{Bytes}
 use Rattle.format.specs.Basics.Lists.{count}
 use Rattle.format.specs.Layout.Need.{cutoff}
 use Rattle.format.specs.Layout.Entry.{isStream, size}
-use Rattle.format.specs.Layout.Volume.{Volume}
+use Rattle.format.specs.Layout.Volume.{Volume, volume}
 use Rattle.format.specs.Layout.Stream.{spaceFor, streamUnits, streamSize, contents}
 use Rattle.format.specs.Layout.Space.{laid, block}
+use Rattle.format.specs.Layout.Geometry.{Geometry}
+use Rattle.format.specs.Rules.Verdict.{Accepted}
 use Rattle.theory.specs.Blocks.{Kept, Edited}
 use Rattle.theory.proofs.Chains.{linked-below}
 use Rattle.theory.proofs.Contents.{laid-length}
 use Rattle.theory.proofs.Edits.{edited-content, edited-others}
 use Rattle.theory.proofs.RoundUp.{round-enough}
 use Rattle.theory.proofs.Below.{length-below}
+use Rattle.frame.specs.Frame.{Frame}
 use Rattle.history.specs.Good.{spaceOf, systemOf, unitsOf, entryUnits, Good, Changed, sideOf}
 use Rattle.history.proofs.EditedUnits.{units-self, in-entry-units, entry-units-at, edit-becomes, edit-cells, units-other, edited-units, size-other}
 
 -- every unit lies whole in the image
 abbrev pub Sized : Volume → Bytes → Type 0
 Sized v img = (b : Bool) (u : ℕ) → u < spaceOf v b .limit → length (block (spaceOf v b) img u) ≡ spaceOf v b .unit
+
+pub frame-sized : {g : Geometry} → Frame g → (img : Bytes) → Accepted g img → Sized (volume g img) img
+frame-sized fr img acc true = fr .miniSized img acc
+frame-sized fr img acc false = fr .sectorSized img acc
 
 pub contents-read : (v : Volume) (img : Bytes) (i n : ℕ) (us : List ℕ) → streamSize v i ≡ n → streamUnits v i ≡ us →
     contents v img i ≡ take n (laid (block (spaceOf v (ltb n cutoff)) img) us)

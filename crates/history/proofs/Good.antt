@@ -18,6 +18,7 @@ use Rattle.format.specs.Layout.Volume.{Volume, volume, root, systemSectors, min
 use Rattle.format.specs.Layout.Stream.{spaceFor, streamUnits, streamSize}
 use Rattle.format.specs.Rules.Streams.{streamChain, streamRules, streamRight}
 use Rattle.format.specs.Rules.Owners.{ownedSectors, ownedMinis, ownersIn, ownerRules}
+use Rattle.format.specs.Rules.Verdict.{Accepted}
 use Rattle.theory.specs.Links.{Linked}
 use Rattle.theory.specs.Sums.{owners}
 use Rattle.theory.specs.Owned.{Owned}
@@ -26,7 +27,7 @@ use Rattle.theory.proofs.Tests.{both, below-at}
 use Rattle.theory.proofs.Below.{length-below, getD-below}
 use Rattle.theory.proofs.RoundUp.{round-enough}
 use Rattle.history.specs.Good.{spaceOf, systemOf, unitsOf, entryUnits, Chain, Good, sideOf}
-use Rattle.history.proofs.Judged.{Judged}
+use Rattle.history.proofs.Judged.{Judged, accepted-judged}
 use Rattle.history.proofs.OwnerFacts.{units-linked, make-owned, sector-owners, mini-owners}
 use Rattle.history.proofs.SystemFacts.{bounded, sector-bytes, sector-limit, directory-chain, directory-long, mini-table, mini-cells, mini-rest, root-size, mini-fat-chain, mini-stream-chain, system-facts}
 
@@ -120,3 +121,6 @@ module _ {g : Geometry} {img : Bytes} (pos : 0 < g .sectorBytes) (ok : Judged g 
         chains = stream-chain;
         owned = all-owned;
       }
+
+pub accepted-good : (g : Geometry) (img : Bytes) → 0 < g .sectorBytes → Accepted g img → Good (volume g img)
+accepted-good g img pos acc = judged-good pos (accepted-judged g img acc)

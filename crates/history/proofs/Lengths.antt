@@ -1,15 +1,14 @@
 -- A change of length on a good volume: which units the stream gets, in which space, and what its bytes are then.
-use Prim.Native.Nat.{ℕ, _+_, _-_, _*_, _/_, _≤_, _<_, max}
+use Prim.Native.Nat.{ℕ, _+_, _*_, _≤_, _<_, max}
 use mathlib.Core.Path.{_≡_, refl, sym, ap, _∙_, subst}
 use mathlib.Core.Logic.{_⊎_, inl, inr}
 use mathlib.Core.Bool.{Bool, true, false, cond, _&&_, Bool·beq}
 use mathlib.Core.List.{List, [], _∷_, _++_}
-use native.Mathlib.Nat.{div-mul-le-self, le-div-iff-mul-le}
 use native.Mathlib.Omega.{arith}
 use native.Mathlib.Decide.{ℕ-discrete, decLt}
 use lib.Dec.{ltb, leb}
 use lib.ListN.{length, take, length-append}
-use lib.Seq.{length-take-le, take-length}
+use lib.Seq.{length-take-le}
 use borrow.Author.Tests.{lt-ltb, le-ltb, le-leb}
 use Rattle.format.specs.Basics.Bytes.{Bytes}
 use Rattle.format.specs.Basics.Lists.{fit, count}
@@ -26,18 +25,13 @@ use Rattle.theory.specs.Blocks.{target}
 use Rattle.theory.proofs.Counts.{pigeonhole}
 use Rattle.theory.proofs.Chains.{linked-below}
 use Rattle.theory.proofs.FreeUnits.{resized-becomes}
-use Rattle.theory.proofs.Fits.{fit-cut}
 use Rattle.theory.proofs.Edits.{target-length, target-is}
 use Rattle.theory.proofs.RoundUp.{round-enough, round-zero}
 use Rattle.theory.proofs.Tests.{clash, neither}
 use Rattle.history.specs.Good.{spaceOf, unitsOf, Good}
 use Rattle.history.proofs.Filled.{Sized, contents-read}
-
-pub round-mono : (n k d : ℕ) → 0 < d → n ≤ k → roundUp n d ≤ roundUp k d
-unfolding roundUp
-round-mono n k d pos h =
-    let a = div-mul-le-self (n + (d - 1)) d in
-    le-div-iff-mul-le {k = d} {x = (n + (d - 1)) / d} {y = k + (d - 1)} pos .1 (omega arith)
+use Rattle.history.proofs.Sides.{cond-side}
+use Rattle.history.proofs.Extra.{round-mono}
 
 -- two lengths that do not cross lie in the space of the greater, or are 0
 pub sides-uncrossed : (old new : ℕ) → crosses old new ≡ false →
@@ -72,24 +66,10 @@ sides-uncrossed old new h =
       )
     ]
 
-pub fit-zero : (xs : Bytes) → fit 0 xs ≡ []
-fit-zero xs = fit-cut 0 xs (omega arith)
-
-pub fit-same : (xs : Bytes) → fit (length xs) xs ≡ xs
-fit-same xs = fit-cut (length xs) xs (omega arith) ∙ take-length xs
-
 new-units-in : (v : Volume) (e new : ℕ) → newUnits v e new ≡ take (roundUp new (spaceOf v (ltb (max (streamSize v e) new) cutoff) .unit))
     (streamUnits v e ++ freeUnits (spaceOf v (ltb (max (streamSize v e) new) cutoff)))
 unfolding newUnits editSpace spaceFor
 new-units-in v e new = refl
-
-cond-pick : (b sm old : Bool) (us : List ℕ) → (old ≡ sm) ⊎ (us ≡ []) → cond (Bool·beq b old) us [] ≡ cond (Bool·beq b sm) us []
-cond-pick b sm old us (inl h) = rw h
-cond-pick b sm old us (inr h) = rw h (nil (Bool·beq b old) ∙ sym (nil (Bool·beq b sm)))
-  where
-    nil : (t : Bool) → cond {A = List ℕ} t [] [] ≡ []
-    nil true = refl
-    nil false = refl
 
 module _ (v : Volume) (img : Bytes) (o : Good v) (sized : Sized v img) (e new : ℕ) (inside : e < v .directory .count) (stream : isStream (v .directory .entry e) ≡ true)
     (within : crosses (streamSize v e) new ≡ false) where
@@ -124,7 +104,7 @@ module _ (v : Volume) (img : Bytes) (o : Good v) (sized : Sized v img) (e new : 
   -- the old units, by space
   pub old-units : (b : Bool) → unitsOf v b e ≡ cond (Bool·beq b sm) us []
   unfolding unitsOf
-  old-units b = rw stream (cond-pick b sm (ltb old cutoff) us old-side)
+  old-units b = rw stream (cond-side b sm (ltb old cutoff) us old-side)
 
   us-linked : Linked (sp .cell) (sp .limit) us
   us-linked =
@@ -156,7 +136,7 @@ module _ (v : Volume) (img : Bytes) (o : Good v) (sized : Sized v img) (e new : 
         let a = pigeonhole (newUnits v e new) (sp .limit) (λ s q. new-units-become .from s q .0) (new-units-become .diff) in
         omega (arith, new-units-length)
 
-    new-units-none : new ≡ 0 → newUnits v e new ≡ []
+    pub new-units-none : new ≡ 0 → newUnits v e new ≡ []
     new-units-none z = new-units-are ∙ ap (λ n. take n (us ++ freeBelow (sp .cell) (sp .limit))) (ap (λ n. roundUp n (sp .unit)) z ∙ round-zero (sp .unit) (o .unit sm))
 
     us-full : (s : ℕ) → 0 < count s us → length (block sp img s) ≡ sp .unit

@@ -1,4 +1,5 @@
 -- Demand 3, step by step.
+pub mod Extra
 pub mod Alike
 pub mod Judged
 pub mod OwnerFacts
@@ -20,4 +21,7 @@ pub mod Paths
 pub mod Refusals
 pub mod Rows
 pub mod Finding
+pub mod Sides
 pub mod Lengths
+pub mod Resized
+pub mod Written

@@ -1,0 +1,145 @@
+-- A change of length is a `Changed` of the volume, and it cuts the stream's bytes or fills them up with zeros.
+use Prim.Native.Nat.{ℕ, _+_, _≤_, _<_, max}
+use mathlib.Core.Path.{_≡_, sym, ap, _∙_}
+use mathlib.Core.Logic.{_⊎_, inl, inr}
+use mathlib.Core.Bool.{Bool, true, false, not, cond, Bool·beq}
+use mathlib.Core.List.{List, []}
+use lib.Dec.{ltb}
+use lib.ListN.{length, take}
+use Rattle.format.specs.Basics.Bytes.{Bytes}
+use Rattle.format.specs.Basics.Lists.{fit}
+use Rattle.format.specs.Layout.Geometry.{Geometry}
+use Rattle.format.specs.Layout.Need.{cutoff, roundUp}
+use Rattle.format.specs.Layout.Space.{freeUnits, block}
+use Rattle.format.specs.Layout.Entry.{size, start}
+use Rattle.format.specs.Layout.Volume.{Volume, volume}
+use Rattle.format.specs.Layout.Stream.{spaceFor, streamUnits, contents, streamSize}
+use Rattle.format.specs.Layout.Chain.{startOf}
+use Rattle.format.specs.Rules.Verdict.{Accepted}
+use Rattle.format.specs.Calls.SetLength.{editSpace, newUnits, resized}
+use Rattle.theory.specs.Blocks.{target}
+use Rattle.theory.proofs.Tests.{beq-self}
+use Rattle.theory.proofs.RoundUp.{round-zero}
+use Rattle.frame.specs.Edits.{inSectors, inMinis, Relinked, Refilled, MayResize, IsResized}
+use Rattle.frame.specs.Frame.{Frame}
+use Rattle.history.specs.Good.{spaceOf, systemOf, Good, Changed}
+use Rattle.history.proofs.Good.{accepted-good}
+use Rattle.history.proofs.Filled.{Sized, edited-contents, frame-sized}
+use Rattle.history.proofs.Lengths.{sides-uncrossed, old-units, new-units-become, new-units-length, content-long, content-fits, new-units-none}
+use Rattle.history.proofs.Extra.{fit-zero}
+use Rattle.history.proofs.Sides.{becomes-side, beq-not, cond-beq-false, cond-nil, full-side, refilled-side, cond-beq-true}
+
+module _ (g : Geometry) (pos : 0 < g .sectorBytes) (fr : Frame g) (img : Bytes) (acc : Accepted g img) where
+  abbrev v : Volume
+  v = volume g img
+
+  abbrev good : Good v
+  good = accepted-good g img pos acc
+
+  abbrev sized : Sized v img
+  sized = frame-sized fr img acc
+
+  module _ (e new : ℕ) (may : MayResize g img e new) where
+    abbrev old : ℕ
+    old = streamSize v e
+
+    abbrev sm : Bool
+    sm = ltb (max old new) cutoff
+
+    abbrev us : List ℕ
+    us = streamUnits v e
+
+    abbrev nu : List ℕ
+    nu = newUnits v e new
+
+    abbrev newIn : Bool → List ℕ
+    newIn b = cond (Bool·beq b sm) nu []
+
+    abbrev contentIn : Bool → Bytes
+    contentIn b = cond (Bool·beq b sm) (target (spaceOf v b .unit) (block (spaceOf v b) img) us nu old new) []
+
+    enough : roundUp new (spaceOf v sm .unit) ≤ length us + length (freeUnits (spaceOf v sm))
+    unfolding editSpace spaceFor
+    enough = may .enough
+
+    resizing : IsResized g img e new (max old new) (resized v img e new)
+    resizing = fr .resizing img e new may
+
+    sides : ((ltb old cutoff ≡ sm) ⊎ (old ≡ 0)) × ((ltb new cutoff ≡ sm) ⊎ (new ≡ 0))
+    sides = sides-uncrossed old new (may .within)
+
+    long : length nu ≡ roundUp new (spaceOf v sm .unit)
+    long = new-units-length v img good sized e new (may .inside) (may .stream) (may .within) enough
+
+    no-units : new ≡ 0 → nu ≡ []
+    no-units = new-units-none v img good sized e new (may .inside) (may .stream) (may .within) enough
+
+    units-here : newIn (ltb new cutoff) ≡ nu
+    units-here =
+        elim (sides .1) [
+          | inl h ↦ ap (λ b. cond (Bool·beq b sm) nu []) h ∙ ap (λ t. cond t nu []) (beq-self sm)
+          | inr z ↦ ap (λ xs. cond (Bool·beq (ltb new cutoff) sm) xs []) (no-units z) ∙ cond-nil (Bool·beq (ltb new cutoff) sm) ∙ sym (no-units z)
+        ]
+
+    units-there : newIn (not (ltb new cutoff)) ≡ []
+    units-there =
+        elim (sides .1) [
+          | inl h ↦ ap (λ b. cond (Bool·beq (not b) sm) nu []) h ∙ ap (λ t. cond t nu []) (beq-not sm)
+          | inr z ↦ ap (λ xs. cond (Bool·beq (not (ltb new cutoff)) sm) xs []) (no-units z) ∙ cond-nil (Bool·beq (not (ltb new cutoff)) sm)
+        ]
+
+    need-here : roundUp new (spaceOf v sm .unit) ≡ roundUp new (spaceOf v (ltb new cutoff) .unit)
+    need-here =
+        elim (sides .1) [
+          | inl h ↦ ap (λ b. roundUp new (spaceOf v b .unit)) (sym h)
+          | inr z ↦
+              ap (λ n. roundUp n (spaceOf v sm .unit)) z ∙ round-zero (spaceOf v sm .unit) (good .unit sm)
+              ∙ sym (ap (λ n. roundUp n (spaceOf v (ltb new cutoff) .unit)) z ∙ round-zero (spaceOf v (ltb new cutoff) .unit) (good .unit (ltb new cutoff)))
+        ]
+
+    new-cells : (b : Bool) → Relinked (spaceOf v b) (spaceOf (volume g (resized v img e new)) b) (cond (Bool·beq b sm) us []) (newIn b)
+    unfolding inSectors inMinis
+    new-cells true = rw (← cond-beq-true sm us, ← cond-beq-true sm nu) (resizing .miniCells)
+    new-cells false = rw (← cond-beq-false sm us, ← cond-beq-false sm nu) (resizing .sectorCells)
+
+    new-bytes : (b : Bool) → Refilled (spaceOf v b) (spaceOf (volume g (resized v img e new)) b) img (resized v img e new) (systemOf v b) (newIn b)
+        (target (spaceOf v b .unit) (block (spaceOf v b) img) us nu old new)
+    unfolding inSectors inMinis
+    new-bytes true = rw (← cond-beq-true sm nu) (resizing .miniBytes)
+    new-bytes false = rw (← cond-beq-false sm nu) (resizing .sectorBytes)
+
+    new-size : streamSize (volume g (resized v img e new)) e ≡ new
+    unfolding streamSize
+    new-size = resizing .size
+
+    pub resize-changed : Changed v (volume g (resized v img e new)) img (resized v img e new) e new newIn contentIn
+    resize-changed =
+        record {
+          parts = resizing .kept .parts;
+          inside = may .inside;
+          stream = may .stream;
+          others = resizing .others;
+          fields = resizing .fields;
+          start = resizing .start ∙ ap startOf (sym units-here);
+          size = new-size;
+          cells = λ b. rw (old-units v img good sized e new (may .inside) (may .stream) (may .within) b) (new-cells b);
+          bytes = λ b. refilled-side (spaceOf v b) (spaceOf (volume g (resized v img e new)) b) img (resized v img e new) (systemOf v b) nu
+              (target (spaceOf v b .unit) (block (spaceOf v b) img) us nu old new) (Bool·beq b sm) (new-bytes b);
+          becomes = λ b. rw (old-units v img good sized e new (may .inside) (may .stream) (may .within) b)
+              (becomes-side v us nu b sm (new-units-become v img good sized e new (may .inside) (may .stream) (may .within)));
+          full = λ b. full-side v nu (λ b. target (spaceOf v b .unit) (block (spaceOf v b) img) us nu old new) b sm
+              (content-long v img good sized e new (may .inside) (may .stream) (may .within) enough);
+          need = ap length units-here ∙ long ∙ need-here;
+          none = units-there;
+        }
+
+    pub resize-contents : contents (volume g (resized v img e new)) (resized v img e new) e ≡ fit new (contents v img e)
+    resize-contents =
+        edited-contents good resize-changed sized
+        ∙ elim (sides .1) [
+          | inl h ↦
+              ap (λ b. take new (cond (Bool·beq b sm) (target (spaceOf v b .unit) (block (spaceOf v b) img) us nu old new) [])) h
+              ∙ ap (λ t. take new (cond t (target (spaceOf v sm .unit) (block (spaceOf v sm) img) us nu old new) [])) (beq-self sm)
+              ∙ content-fits v img good sized e new (may .inside) (may .stream) (may .within) enough h
+          | inr z ↦ ap (λ n. take n (contentIn (ltb new cutoff))) z ∙ sym (ap (λ n. fit n (contents v img e)) z ∙ fit-zero (contents v img e))
+        ]
