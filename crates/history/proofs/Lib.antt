@@ -25,3 +25,9 @@ pub mod Sides
 pub mod Lengths
 pub mod Resized
 pub mod Written
+pub mod AnswerNumbers
+pub mod Room
+pub mod Answers
+pub mod EditStep
+pub mod LengthStep
+pub mod Demand
