@@ -65,12 +65,12 @@ module _ (d d′ : Directory) (a : Alike d d′) where
   coloured-same =
       fun-ext (λ l. fun-ext (λ e. fun-ext (λ b. fun-ext (λ r. rw (red-same, top-same l, top-same r, top-same b)))))
 
-  reached-same : reachedOnce d′ ≡ reachedOnce d
+  reached-once-same : reachedOnce d′ ≡ reachedOnce d
   unfolding reachedOnce reachedRight
-  reached-same =
+  reached-once-same =
       ap₂ (λ (n : ℕ) (t : Forest). allBelow n (λ x. eqb (count x (entries t)) (bit (isObject d′ x)))) (a .count) forest-same
       ∙ ap (λ (o : ℕ → Bool). allBelow (d .count) (λ x. eqb (count x (entries (forest d))) (bit (o x)))) object-same
 
   pub trees-same : treeRules d′ ≡ treeRules d
   unfolding treeRules
-  trees-same = rw (reached-same, forest-same, sides-same, top-same (forest d), coloured-same)
+  trees-same = rw (reached-once-same, forest-same, sides-same, top-same (forest d), coloured-same)

@@ -9,42 +9,42 @@ use Rattle.format.specs.Calls.Find.{Found, at, refused, answerOf}
 use Rattle.theory.proofs.Tests.{clash}
 use Rattle.history.proofs.Refusals.{RefusedLow}
 
-pub write-zero : (workFits t : Bool) → (firstOf (cond workFits 0 2) (cond t 24 0) ≡ 0) ↔ ((workFits && true && not t) ≡ true)
+pub write-zero-iff : (workFits t : Bool) → (firstOf (cond workFits 0 2) (cond t 24 0) ≡ 0) ↔ ((workFits && true && not t) ≡ true)
 unfolding firstOf
-write-zero true true = ((λ h. absurd (omega arith)), λ h. absurd (clash h refl))
-write-zero true false = ((λ h. refl), λ h. refl)
-write-zero false t = ((λ h. absurd (omega arith)), λ h. absurd (clash h refl))
+write-zero-iff true true = ((λ h. absurd (omega arith)), λ h. absurd (clash h refl))
+write-zero-iff true false = ((λ h. refl), λ h. refl)
+write-zero-iff false t = ((λ h. absurd (omega arith)), λ h. absurd (clash h refl))
 
-pub length-zero : (workFits c t : Bool) → (firstOf (cond workFits 0 2) (cond c 25 (cond t 26 0)) ≡ 0) ↔ ((workFits && true && not c && not t) ≡ true)
+pub length-zero-iff : (workFits c t : Bool) → (firstOf (cond workFits 0 2) (cond c 25 (cond t 26 0)) ≡ 0) ↔ ((workFits && true && not c && not t) ≡ true)
 unfolding firstOf
-length-zero true true t = ((λ h. absurd (omega arith)), λ h. absurd (clash h refl))
-length-zero true false true = ((λ h. absurd (omega arith)), λ h. absurd (clash h refl))
-length-zero true false false = ((λ h. refl), λ h. refl)
-length-zero false c t = ((λ h. absurd (omega arith)), λ h. absurd (clash h refl))
+length-zero-iff true true t = ((λ h. absurd (omega arith)), λ h. absurd (clash h refl))
+length-zero-iff true false true = ((λ h. absurd (omega arith)), λ h. absurd (clash h refl))
+length-zero-iff true false false = ((λ h. refl), λ h. refl)
+length-zero-iff false c t = ((λ h. absurd (omega arith)), λ h. absurd (clash h refl))
 
-pub length-full : (workFits c t : Bool) → (firstOf (cond workFits 0 2) (cond c 25 (cond t 26 0)) ≡ 26) ↔ ((workFits && true && not c && t) ≡ true)
+pub length-26-iff : (workFits c t : Bool) → (firstOf (cond workFits 0 2) (cond c 25 (cond t 26 0)) ≡ 26) ↔ ((workFits && true && not c && t) ≡ true)
 unfolding firstOf
-length-full true true t = ((λ h. absurd (omega arith)), λ h. absurd (clash h refl))
-length-full true false true = ((λ h. refl), λ h. refl)
-length-full true false false = ((λ h. absurd (omega arith)), λ h. absurd (clash h refl))
-length-full false c t = ((λ h. absurd (omega arith)), λ h. absurd (clash h refl))
+length-26-iff true true t = ((λ h. absurd (omega arith)), λ h. absurd (clash h refl))
+length-26-iff true false true = ((λ h. refl), λ h. refl)
+length-26-iff true false false = ((λ h. absurd (omega arith)), λ h. absurd (clash h refl))
+length-26-iff false c t = ((λ h. absurd (omega arith)), λ h. absurd (clash h refl))
 
 -- an answer that is neither 0 nor 26, and what comes after it
-pub refused-first : (workFits : Bool) (n m : ℕ) → 20 ≤ n → n ≤ 23 → (firstOf (cond workFits 0 2) (firstOf n m) ≢ 0) × (firstOf (cond workFits 0 2) (firstOf n m) ≢ 26)
+pub refused-not-0-26 : (workFits : Bool) (n m : ℕ) → 20 ≤ n → n ≤ 23 → (firstOf (cond workFits 0 2) (firstOf n m) ≢ 0) × (firstOf (cond workFits 0 2) (firstOf n m) ≢ 26)
 unfolding firstOf
-refused-first true zero m a b = absurd (omega arith)
-refused-first true (suc n) m a b = ((λ h. omega arith), λ h. omega arith)
-refused-first false n m a b = ((λ h. omega arith), λ h. omega arith)
+refused-not-0-26 true zero m a b = absurd (omega arith)
+refused-not-0-26 true (suc n) m a b = ((λ h. omega arith), λ h. omega arith)
+refused-not-0-26 false n m a b = ((λ h. omega arith), λ h. omega arith)
 
-pub never-full : (workFits : Bool) (n : ℕ) → n ≢ 26 → firstOf (cond workFits 0 2) n ≢ 26
+pub work-first-not-26 : (workFits : Bool) (n : ℕ) → n ≢ 26 → firstOf (cond workFits 0 2) n ≢ 26
 unfolding firstOf
-never-full true n h e = h e
-never-full false n h e = omega arith
+work-first-not-26 true n h e = h e
+work-first-not-26 false n h e = omega arith
 
-pub first-not : (n m : ℕ) → n ≢ 26 → m ≢ 26 → firstOf n m ≢ 26
+pub first-not-26 : (n m : ℕ) → n ≢ 26 → m ≢ 26 → firstOf n m ≢ 26
 unfolding firstOf
-first-not zero m h k e = k e
-first-not (suc n) m h k e = h e
+first-not-26 zero m h k e = k e
+first-not-26 (suc n) m h k e = h e
 
 pub cond-not-26 : (t : Bool) (a b : ℕ) → a ≢ 26 → b ≢ 26 → cond t a b ≢ 26
 cond-not-26 true a b h k e = h e

@@ -28,12 +28,12 @@ use Rattle.format.specs.History.Step.{reaches, lacks, accepts, answers26}
 use Rattle.format.specs.History.Claim.{isEdit}
 use Rattle.theory.proofs.Tests.{leb-not, clash}
 use Rattle.history.specs.Good.{Good}
-use Rattle.history.proofs.Judged.{accepted-judged, groups-volume}
+use Rattle.history.proofs.Judged.{accepted-judged, groups-zero}
 use Rattle.history.proofs.Good.{accepted-good}
 use Rattle.history.proofs.Filled.{Sized}
 use Rattle.history.proofs.Refusals.{RefusedLow, resolve-low, resolve-stream-low}
-use Rattle.history.proofs.Finding.{none-found, has-row, row-length}
-use Rattle.history.proofs.AnswerNumbers.{cond-not-26, first-not, iff-along, iff-never, length-full, length-zero, never-full, refused-first, refused-not-26, write-zero}
+use Rattle.history.proofs.Finding.{refused-has-no-row, has-row, row-length}
+use Rattle.history.proofs.AnswerNumbers.{cond-not-26, first-not-26, iff-along, iff-never, length-26-iff, length-zero-iff, work-first-not-26, refused-not-0-26, refused-not-26, write-zero-iff}
 use Rattle.history.proofs.Room.{free-minis, free-sectors}
 use Rattle.history.proofs.EntryFacts.{root-plain}
 
@@ -41,7 +41,7 @@ verdict-accepted : (g : Geometry) (img : Bytes) (n : ℕ) → Accepted g img →
 unfolding verdict groups check
 verdict-accepted g img n h =
     let j = accepted-judged g img h in
-    rw (j .allowed, j .header, j .tables, groups-volume (volume g img) (j .volume)) (go (leb (workNeed (length img)) n))
+    rw (j .allowed, j .header, j .tables, groups-zero (volume g img) (j .volume)) (go (leb (workNeed (length img)) n))
   where
     go : (t : Bool) → check true 1 (check t 2 (check true 10 (check true 11 0))) ≡ cond t 0 2
     go true = refl
@@ -82,9 +82,9 @@ module _ (g : Geometry) (pos : 0 < g .sectorBytes) (img : Bytes) (acc : Accepted
   unfolding rowsOf
   rows-say p e b f k = ap₂ k (has-row v img good sized rootPlain p f) (row-length v img good sized rootPlain p f)
 
-  no-row : (p : Path) (n : ℕ) → resolveStream (v .directory) p ≡ refused n → hasRow rows p ≡ false
+  refused-no-row : (p : Path) (n : ℕ) → resolveStream (v .directory) p ≡ refused n → hasRow rows p ≡ false
   unfolding rowsOf
-  no-row p n f = none-found v img good sized rootPlain p n f
+  refused-no-row p n f = refused-has-no-row v img good sized rootPlain p n f
 
   write-accepts : (p : Path) (offset : ℕ) (bytes : Bytes) (work : List ℕ) (e : ℕ) (b : Forest) → resolveStream (v .directory) p ≡ at e b →
       accepts s rows (overwrite p offset bytes work) ≡ (workFits work && true && not (ltb (streamSize v e) (offset + length bytes)))
@@ -92,10 +92,10 @@ module _ (g : Geometry) (pos : 0 < g .sectorBytes) (img : Bytes) (acc : Accepted
   write-accepts p offset bytes work e b f =
       rw (has-row v img good sized rootPlain p f, row-length v img good sized rootPlain p f, leb-not (offset + length bytes) (streamSize v e))
 
-  lacks-is : (p : Path) (new e : ℕ) (b : Forest) → resolveStream (v .directory) p ≡ at e b →
+  lacks-found : (p : Path) (new e : ℕ) (b : Forest) → resolveStream (v .directory) p ≡ at e b →
       lacks s rows p new ≡ tooFew g (length (freeUnits (v .sectors))) (length (freeUnits (v .minis))) (streamSize v e) new
   unfolding lacks rowsOf settingOf
-  lacks-is p new e b f =
+  lacks-found p new e b f =
       ap₂ (λ a b. tooFew g a b (rowLength rows p) new) (free-sectors g pos img acc sized) (free-minis g pos img acc sized)
       ∙ ap (λ n. tooFew g (length (freeUnits (v .sectors))) (length (freeUnits (v .minis))) n new) (row-length v img good sized rootPlain p f)
 
@@ -104,7 +104,7 @@ module _ (g : Geometry) (pos : 0 < g .sectorBytes) (img : Bytes) (acc : Accepted
       && not (tooFew g (length (freeUnits (v .sectors))) (length (freeUnits (v .minis))) (streamSize v e) new))
   unfolding accepts reaches settingOf
   length-accepts p new work e b f =
-      rw (lacks-is p new e b f) (rows-say p e b f (λ h n. workFits work && h && not (crosses n new)
+      rw (lacks-found p new e b f) (rows-say p e b f (λ h n. workFits work && h && not (crosses n new)
       && not (tooFew g (length (freeUnits (v .sectors))) (length (freeUnits (v .minis))) (streamSize v e) new)))
 
   length-answers26 : (p : Path) (new : ℕ) (work : List ℕ) (e : ℕ) (b : Forest) → resolveStream (v .directory) p ≡ at e b →
@@ -112,7 +112,7 @@ module _ (g : Geometry) (pos : 0 < g .sectorBytes) (img : Bytes) (acc : Accepted
       && tooFew g (length (freeUnits (v .sectors))) (length (freeUnits (v .minis))) (streamSize v e) new)
   unfolding answers26 reaches settingOf
   length-answers26 p new work e b f =
-      rw (lacks-is p new e b f) (rows-say p e b f (λ h n. workFits work && h && not (crosses n new)
+      rw (lacks-found p new e b f) (rows-say p e b f (λ h n. workFits work && h && not (crosses n new)
       && tooFew g (length (freeUnits (v .sectors))) (length (freeUnits (v .minis))) (streamSize v e) new))
 
   found-write : (offset : ℕ) (bytes : Bytes) (work : List ℕ) (e : ℕ) (b : Forest) →
@@ -132,7 +132,7 @@ module _ (g : Geometry) (pos : 0 < g .sectorBytes) (img : Bytes) (acc : Accepted
   refused-write : (offset : ℕ) (bytes : Bytes) (work : List ℕ) (n : ℕ) → (20 ≤ n) × (n ≤ 23) →
       firstOf (cond (workFits work) 0 2) (firstOf (answerOf (refused n)) (cond (ltb (streamSize v (entryOf (refused n))) (offset + length bytes)) 24 0)) ≢ 0
   unfolding answerOf
-  refused-write offset bytes work n l = refused-first (workFits work) n (cond (ltb (streamSize v (entryOf (refused n))) (offset + length bytes)) 24 0) (l .0) (l .1) .0
+  refused-write offset bytes work n l = refused-not-0-26 (workFits work) n (cond (ltb (streamSize v (entryOf (refused n))) (offset + length bytes)) 24 0) (l .0) (l .1) .0
 
   refused-length : (new : ℕ) (work : List ℕ) (n : ℕ) → (20 ≤ n) × (n ≤ 23) →
       (firstOf (cond (workFits work) 0 2) (firstOf (answerOf (refused n))
@@ -141,33 +141,33 @@ module _ (g : Geometry) (pos : 0 < g .sectorBytes) (img : Bytes) (acc : Accepted
       (cond (crosses (streamSize v (entryOf (refused n))) new) 25 (cond (tooFew g (length (freeUnits (v .sectors))) (length (freeUnits (v .minis))) (streamSize v (entryOf (refused n))) new) 26 0))) ≢ 26)
   unfolding answerOf
   refused-length new work n l =
-      refused-first (workFits work) n (cond (crosses (streamSize v (entryOf (refused n))) new) 25
+      refused-not-0-26 (workFits work) n (cond (crosses (streamSize v (entryOf (refused n))) new) 25
       (cond (tooFew g (length (freeUnits (v .sectors))) (length (freeUnits (v .minis))) (streamSize v (entryOf (refused n))) new) 26 0)) (l .0) (l .1)
 
-  no-write : (p : Path) (offset : ℕ) (bytes : Bytes) (work : List ℕ) → reaches s rows p work ≡ false → accepts s rows (overwrite p offset bytes work) ≡ false
+  unreached-write : (p : Path) (offset : ℕ) (bytes : Bytes) (work : List ℕ) → reaches s rows p work ≡ false → accepts s rows (overwrite p offset bytes work) ≡ false
   unfolding accepts
-  no-write p offset bytes work h = rw h
+  unreached-write p offset bytes work h = rw h
 
-  no-length : (p : Path) (new : ℕ) (work : List ℕ) → reaches s rows p work ≡ false →
+  unreached-length : (p : Path) (new : ℕ) (work : List ℕ) → reaches s rows p work ≡ false →
       (accepts s rows (setLength p new work) ≡ false) × (answers26 s rows (setLength p new work) ≡ false)
   unfolding accepts answers26
-  no-length p new work h = (rw h, rw h)
+  unreached-length p new work h = (rw h, rw h)
 
   -- a path that leads nowhere
-  refused-accepts : (p : Path) (n : ℕ) → resolveStream (v .directory) p ≡ refused n → (work : List ℕ) → reaches s rows p work ≡ false
+  refused-unreached : (p : Path) (n : ℕ) → resolveStream (v .directory) p ≡ refused n → (work : List ℕ) → reaches s rows p work ≡ false
   unfolding reaches
-  refused-accepts p n f work = rw (no-row p n f) (and-false (leb (s .work) (length work)))
+  refused-unreached p n f work = rw (refused-no-row p n f) (and-false (leb (s .work) (length work)))
 
   write-iff : (p : Path) (offset : ℕ) (bytes : Bytes) (work : List ℕ) (f : Found) → resolveStream (v .directory) p ≡ f → RefusedLow f →
       (answer g img (overwrite p offset bytes work) ≡ 0) ↔ (accepts s rows (overwrite p offset bytes work) ≡ true)
   write-iff p offset bytes work (at e b) h l =
       iff-along (answer g img (overwrite p offset bytes work)) _ (accepts s rows (overwrite p offset bytes work)) _ 0
       (write-answer p offset bytes work (at e b) h ∙ found-write offset bytes work e b) (write-accepts p offset bytes work e b h)
-      (write-zero (workFits work) (ltb (streamSize v e) (offset + length bytes)))
+      (write-zero-iff (workFits work) (ltb (streamSize v e) (offset + length bytes)))
   write-iff p offset bytes work (refused n) h l =
       iff-never (answer g img (overwrite p offset bytes work)) 0 (accepts s rows (overwrite p offset bytes work))
       (λ z. refused-write offset bytes work n l (sym (write-answer p offset bytes work (refused n) h) ∙ z))
-      (no-write p offset bytes work (refused-accepts p n h work))
+      (unreached-write p offset bytes work (refused-unreached p n h work))
 
   length-iff : (p : Path) (new : ℕ) (work : List ℕ) (f : Found) → resolveStream (v .directory) p ≡ f → RefusedLow f →
       ((answer g img (setLength p new work) ≡ 0) ↔ (accepts s rows (setLength p new work) ≡ true))
@@ -176,41 +176,41 @@ module _ (g : Geometry) (pos : 0 < g .sectorBytes) (img : Bytes) (acc : Accepted
       let c = crosses (streamSize v e) new in
       let t = tooFew g (length (freeUnits (v .sectors))) (length (freeUnits (v .minis))) (streamSize v e) new in
       let a = length-answer p new work (at e b) h ∙ found-length new work e b in (
-        iff-along (answer g img (setLength p new work)) _ (accepts s rows (setLength p new work)) _ 0 a (length-accepts p new work e b h) (length-zero (workFits work) c t),
-        iff-along (answer g img (setLength p new work)) _ (answers26 s rows (setLength p new work)) _ 26 a (length-answers26 p new work e b h) (length-full (workFits work) c t),
+        iff-along (answer g img (setLength p new work)) _ (accepts s rows (setLength p new work)) _ 0 a (length-accepts p new work e b h) (length-zero-iff (workFits work) c t),
+        iff-along (answer g img (setLength p new work)) _ (answers26 s rows (setLength p new work)) _ 26 a (length-answers26 p new work e b h) (length-26-iff (workFits work) c t),
       )
   length-iff p new work (refused n) h l =
       let a = length-answer p new work (refused n) h in
-      let r = refused-accepts p n h work in (
-        iff-never (answer g img (setLength p new work)) 0 (accepts s rows (setLength p new work)) (λ z. refused-length new work n l .0 (sym a ∙ z)) (no-length p new work r .0),
-        iff-never (answer g img (setLength p new work)) 26 (answers26 s rows (setLength p new work)) (λ z. refused-length new work n l .1 (sym a ∙ z)) (no-length p new work r .1),
+      let r = refused-unreached p n h work in (
+        iff-never (answer g img (setLength p new work)) 0 (accepts s rows (setLength p new work)) (λ z. refused-length new work n l .0 (sym a ∙ z)) (unreached-length p new work r .0),
+        iff-never (answer g img (setLength p new work)) 26 (answers26 s rows (setLength p new work)) (λ z. refused-length new work n l .1 (sym a ∙ z)) (unreached-length p new work r .1),
       )
 
-  pub zero-iff : (c : Call) → isEdit c ≡ true → (answer g img c ≡ 0) ↔ (accepts s rows c ≡ true)
+  pub answers-0-iff : (c : Call) → isEdit c ≡ true → (answer g img c ≡ 0) ↔ (accepts s rows c ≡ true)
   unfolding isEdit
-  zero-iff (validate work) h = absurd (clash h refl)
-  zero-iff (find p work) h = absurd (clash h refl)
-  zero-iff (read p offset out work) h = absurd (clash h refl)
-  zero-iff (overwrite p offset bytes work) h = write-iff p offset bytes work (resolveStream (v .directory) p) refl (resolve-stream-low (v .directory) p)
-  zero-iff (setLength p new work) h = length-iff p new work (resolveStream (v .directory) p) refl (resolve-stream-low (v .directory) p) .0
-  zero-iff (list out work) h = absurd (clash h refl)
+  answers-0-iff (validate work) h = absurd (clash h refl)
+  answers-0-iff (find p work) h = absurd (clash h refl)
+  answers-0-iff (read p offset not-small-letter work) h = absurd (clash h refl)
+  answers-0-iff (overwrite p offset bytes work) h = write-iff p offset bytes work (resolveStream (v .directory) p) refl (resolve-stream-low (v .directory) p)
+  answers-0-iff (setLength p new work) h = length-iff p new work (resolveStream (v .directory) p) refl (resolve-stream-low (v .directory) p) .0
+  answers-0-iff (list not-small-letter work) h = absurd (clash h refl)
 
-  other-not-full : (c : Call) → (n : ℕ) → answerIn g v c ≡ n → n ≢ 26 → answer g img c ≢ 26
+  other-not-26 : (c : Call) → (n : ℕ) → answerIn g v c ≡ n → n ≢ 26 → answer g img c ≢ 26
   unfolding answer
-  other-not-full c n e h z = never-full (leb (workNeed (length img)) (length (workOf c))) n h (sym (ap₂ firstOf (verdict-accepted g img (length (workOf c)) acc) e) ∙ z)
+  other-not-26 c n e h z = work-first-not-26 (leb (workNeed (length img)) (length (workOf c))) n h (sym (ap₂ firstOf (verdict-accepted g img (length (workOf c)) acc) e) ∙ z)
 
-  pub full-iff : (c : Call) → (answer g img c ≡ 26) ↔ (answers26 s rows c ≡ true)
+  pub answers-26-iff : (c : Call) → (answer g img c ≡ 26) ↔ (answers26 s rows c ≡ true)
   unfolding answers26 answerIn targetAnswer beyond
-  full-iff (validate work) = iff-never _ 26 false (other-not-full (validate work) 0 refl (omega arith)) refl
-  full-iff (find p work) = iff-never _ 26 false (other-not-full (find p work) _ refl (refused-not-26 (resolve (v .directory) p) (resolve-low (v .directory) p))) refl
-  full-iff (read p offset out work) =
-      iff-never _ 26 false (other-not-full (read p offset out work) _ refl
-      (first-not (answerOf (resolveStream (v .directory) p)) _ (refused-not-26 (resolveStream (v .directory) p) (resolve-stream-low (v .directory) p))
+  answers-26-iff (validate work) = iff-never _ 26 false (other-not-26 (validate work) 0 refl (omega arith)) refl
+  answers-26-iff (find p work) = iff-never _ 26 false (other-not-26 (find p work) _ refl (refused-not-26 (resolve (v .directory) p) (resolve-low (v .directory) p))) refl
+  answers-26-iff (read p offset not-small-letter work) =
+      iff-never _ 26 false (other-not-26 (read p offset not-small-letter work) _ refl
+      (first-not-26 (answerOf (resolveStream (v .directory) p)) _ (refused-not-26 (resolveStream (v .directory) p) (resolve-stream-low (v .directory) p))
       (cond-not-26 (ltb (streamSize v (target v p)) offset) 24 0 (omega arith) (omega arith)))) refl
-  full-iff (overwrite p offset bytes work) =
-      iff-never _ 26 false (other-not-full (overwrite p offset bytes work) _ refl
-      (first-not (answerOf (resolveStream (v .directory) p)) _ (refused-not-26 (resolveStream (v .directory) p) (resolve-stream-low (v .directory) p))
+  answers-26-iff (overwrite p offset bytes work) =
+      iff-never _ 26 false (other-not-26 (overwrite p offset bytes work) _ refl
+      (first-not-26 (answerOf (resolveStream (v .directory) p)) _ (refused-not-26 (resolveStream (v .directory) p) (resolve-stream-low (v .directory) p))
       (cond-not-26 (ltb (streamSize v (target v p)) (offset + length bytes)) 24 0 (omega arith) (omega arith)))) refl
-  full-iff (setLength p new work) = length-iff p new work (resolveStream (v .directory) p) refl (resolve-stream-low (v .directory) p) .1
-  full-iff (list out work) =
-      iff-never _ 26 false (other-not-full (list out work) _ refl (cond-not-26 (ltb (length out) (length (listing (v .directory)))) 27 0 (omega arith) (omega arith))) refl
+  answers-26-iff (setLength p new work) = length-iff p new work (resolveStream (v .directory) p) refl (resolve-stream-low (v .directory) p) .1
+  answers-26-iff (list not-small-letter work) =
+      iff-never _ 26 false (other-not-26 (list not-small-letter work) _ refl (cond-not-26 (ltb (length not-small-letter) (length (listing (v .directory)))) 27 0 (omega arith) (omega arith))) refl

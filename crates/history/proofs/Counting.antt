@@ -84,9 +84,9 @@ module _ (v : Volume) (img : Bytes) (o : Good v) (sized : Sized v img) where
   unfolding reachedOnce reachedRight
   reached s h = eqb-true (count s (entries (forest (v .directory)))) (bit (isObject (v .directory) s)) (below-at (v .directory .count) (reachedRight (v .directory)) (tree-parts .1) s h)
 
-  all-need : (need : ℕ → ℕ) → sum (map (entryNeed v need) (entries (forest (v .directory)))) ≡ sumBelow (entryNeed v need) (v .directory .count)
+  entries-need : (need : ℕ → ℕ) → sum (map (entryNeed v need) (entries (forest (v .directory)))) ≡ sumBelow (entryNeed v need) (v .directory .count)
   unfolding entryNeed
-  all-need need =
+  entries-need need =
       sum-map-count (entryNeed v need) (v .directory .count) (entries (forest (v .directory))) inside-forest
       ∙ sum-ext (λ s. count s (entries (forest (v .directory))) * entryNeed v need s) (entryNeed v need) (v .directory .count)
       (λ s h. rw (reached s h) (go (kind (v .directory .entry s)) (need (streamSize v s))))
@@ -102,16 +102,16 @@ module _ (v : Volume) (img : Bytes) (o : Good v) (sized : Sized v img) where
   unfolding entryNeed unitsOf spaceNeed
   unit-need b i h = go (isStream (v .directory .entry i)) (λ st. o .chains i h st .long)
     where
-      pick-need : (b sm : Bool) (n : ℕ) (us : List ℕ) → length us ≡ roundUp n (spaceOf v sm .unit) → length (cond (Bool·beq b sm) us []) ≡ cond (Bool·beq b sm) (roundUp n (spaceOf v b .unit)) 0
-      pick-need true true n us k = k
-      pick-need true false n us k = refl
-      pick-need false true n us k = refl
-      pick-need false false n us k = k
+      side-need : (b side : Bool) (n : ℕ) (us : List ℕ) → length us ≡ roundUp n (spaceOf v side .unit) → length (cond (Bool·beq b side) us []) ≡ cond (Bool·beq b side) (roundUp n (spaceOf v b .unit)) 0
+      side-need true true n us k = k
+      side-need true false n us k = refl
+      side-need false true n us k = refl
+      side-need false false n us k = k
 
       go : (st : Bool) → (st ≡ true → length (streamUnits v i) ≡ roundUp (streamSize v i) (spaceOf v (sideOf v i) .unit)) →
           length (cond (st && Bool·beq b (sideOf v i)) (streamUnits v i) [])
           ≡ cond st (cond (Bool·beq b (sideOf v i)) (roundUp (streamSize v i) (spaceOf v b .unit)) 0) 0
-      go true k = pick-need b (sideOf v i) (streamSize v i) (streamUnits v i) (k refl)
+      go true k = side-need b (sideOf v i) (streamSize v i) (streamUnits v i) (k refl)
       go false k = refl
 
   entry-units-need : (b : Bool) → lengths (entryUnits v b) ≡ total (spaceNeed v b) (rowsIn v img [] (forest (v .directory)))
@@ -119,7 +119,7 @@ module _ (v : Volume) (img : Bytes) (o : Good v) (sized : Sized v img) where
   entry-units-need b =
       lengths-below (v .directory .count) (unitsOf v b)
       ∙ sum-ext (λ i. length (unitsOf v b i)) (entryNeed v (spaceNeed v b)) (v .directory .count) (unit-need b)
-      ∙ sym (rows-need (spaceNeed v b) [] (forest (v .directory)) inside-forest ∙ all-need (spaceNeed v b))
+      ∙ sym (rows-need (spaceNeed v b) [] (forest (v .directory)) inside-forest ∙ entries-need (spaceNeed v b))
 
   pub allocated-by-rows : (b : Bool) → allocated (spaceOf v b) ≡ length (systemOf v b) + total (spaceNeed v b) (rowsIn v img [] (forest (v .directory)))
   unfolding allocated

@@ -10,7 +10,7 @@ use lib.ListN.{length}
 use borrow.Author.Tests.{ltb-false}
 use Rattle.format.specs.Basics.Bytes.{Bytes}
 use Rattle.format.specs.Basics.Lists.{fit}
-use Rattle.format.specs.Layout.Geometry.{Geometry, version3}
+use Rattle.format.specs.Layout.Geometry.{Geometry}
 use Rattle.format.specs.Layout.Space.{freeUnits}
 use Rattle.format.specs.Layout.Stream.{streamSize}
 use Rattle.format.specs.Layout.Volume.{Volume, volume}
@@ -33,7 +33,7 @@ use Rattle.frame.specs.Frame.{Frame}
 use Rattle.history.specs.Good.{Good}
 use Rattle.history.proofs.Refusals.{RefusedLow, resolve-stream-low}
 use Rattle.history.proofs.Room.{allocated-sectors, allocated-minis}
-use Rattle.history.proofs.Answers.{zero-iff, full-iff, write-answer, length-answer}
+use Rattle.history.proofs.Answers.{answers-0-iff, answers-26-iff, write-answer, length-answer}
 use Rattle.history.proofs.EditStep.{Step, write-step}
 use Rattle.history.proofs.LengthStep.{length-step}
 use Rattle.history.proofs.Good.{accepted-good}
@@ -80,8 +80,8 @@ module _ (g : Geometry) (pos : 0 < g .sectorBytes) (fr : Frame g) (img : Bytes) 
         streams = refl;
         sectors = allocated-sectors g pos img acc sized;
         minis = allocated-minis g pos img acc sized;
-        answersZero = zero-iff g pos img acc sized;
-        answersFull = full-iff g pos img acc sized;
+        answersZero = answers-0-iff g pos img acc sized;
+        answersFull = answers-26-iff g pos img acc sized;
       }
 
   unchanged-step : Step g img img (rowsOf g img)
@@ -89,24 +89,24 @@ module _ (g : Geometry) (pos : 0 < g .sectorBytes) (fr : Frame g) (img : Bytes) 
 
   -- ---- one call
 
-  write-done : (p : Path) (offset : ℕ) (bytes : Bytes) (work : List ℕ) (f : Found) → resolveStream (v .directory) p ≡ f → RefusedLow f → answer g img (overwrite p offset bytes work) ≡ 0 →
+  write-answered-0 : (p : Path) (offset : ℕ) (bytes : Bytes) (work : List ℕ) (f : Found) → resolveStream (v .directory) p ≡ f → RefusedLow f → answer g img (overwrite p offset bytes work) ≡ 0 →
       Step g img (overwritten v img (entryOf f) offset bytes) (map (change p (putInto offset bytes)) (rowsOf g img))
   unfolding answerOf entryOf
-  write-done p offset bytes work (at e b) h l a =
+  write-answered-0 p offset bytes work (at e b) h l a =
       let r = first-zero _ _ (first-zero _ _ (sym (write-answer g pos img acc sized p offset bytes work (at e b) h) ∙ a) .1) .1 in
       write-step g pos fr img acc p offset bytes h (ltb-false (streamSize v e) (offset + length bytes) (cond-24-zero (ltb (streamSize v e) (offset + length bytes)) r))
-  write-done p offset bytes work (refused n) h l a =
+  write-answered-0 p offset bytes work (refused n) h l a =
       let r = first-zero _ _ (first-zero _ _ (sym (write-answer g pos img acc sized p offset bytes work (refused n) h) ∙ a) .1) .0 in
       absurd (omega (arith, l .0))
 
-  length-done : (p : Path) (new : ℕ) (work : List ℕ) (f : Found) → resolveStream (v .directory) p ≡ f → RefusedLow f → answer g img (setLength p new work) ≡ 0 →
+  length-answered-0 : (p : Path) (new : ℕ) (work : List ℕ) (f : Found) → resolveStream (v .directory) p ≡ f → RefusedLow f → answer g img (setLength p new work) ≡ 0 →
       Step g img (resized v img (entryOf f) new) (map (change p (fit new)) (rowsOf g img))
   unfolding answerOf entryOf
-  length-done p new work (at e b) h l a =
+  length-answered-0 p new work (at e b) h l a =
       let r = first-zero _ _ (first-zero _ _ (sym (length-answer g pos img acc sized p new work (at e b) h) ∙ a) .1) .1 in
       let k = cond-25-26-zero (crosses (streamSize v e) new) (tooFew g (length (freeUnits (v .sectors))) (length (freeUnits (v .minis))) (streamSize v e) new) r in
       length-step g pos fr img acc p new h (k .0) (k .1)
-  length-done p new work (refused n) h l a =
+  length-answered-0 p new work (refused n) h l a =
       let r = first-zero _ _ (first-zero _ _ (sym (length-answer g pos img acc sized p new work (refused n) h) ∙ a) .1) .0 in
       absurd (omega (arith, l .0))
 
@@ -114,17 +114,17 @@ module _ (g : Geometry) (pos : 0 < g .sectorBytes) (fr : Frame g) (img : Bytes) 
   unfolding isEdit edited changed target
   accepted-step (validate work) h a = absurd (clash h refl)
   accepted-step (find p work) h a = absurd (clash h refl)
-  accepted-step (read p offset out work) h a = absurd (clash h refl)
-  accepted-step (overwrite p offset bytes work) h a = write-done p offset bytes work (resolveStream (v .directory) p) refl (resolve-stream-low (v .directory) p) a
-  accepted-step (setLength p new work) h a = length-done p new work (resolveStream (v .directory) p) refl (resolve-stream-low (v .directory) p) a
-  accepted-step (list out work) h a = absurd (clash h refl)
+  accepted-step (read p offset not-small-letter work) h a = absurd (clash h refl)
+  accepted-step (overwrite p offset bytes work) h a = write-answered-0 p offset bytes work (resolveStream (v .directory) p) refl (resolve-stream-low (v .directory) p) a
+  accepted-step (setLength p new work) h a = length-answered-0 p new work (resolveStream (v .directory) p) refl (resolve-stream-low (v .directory) p) a
+  accepted-step (list not-small-letter work) h a = absurd (clash h refl)
 
   edit-call : (c : Call) → isEdit c ≡ true → Step g img (imageAfter g img c) (rowsStep (settingOf g img) (rowsOf g img) c)
   unfolding imageAfter rowsStep onZero
   edit-call c h = go (answer g img c) refl
     where
       says : (answer g img c ≡ 0) ↔ (accepts (settingOf g img) (rowsOf g img) c ≡ true)
-      says = zero-iff g pos img acc sized c h
+      says = answers-0-iff g pos img acc sized c h
 
       refusal : (n : ℕ) → answer g img c ≡ suc n → (t : Bool) → accepts (settingOf g img) (rowsOf g img) c ≡ t → t ≡ false
       refusal n e true k = absurd (omega (arith, says .1 k))
@@ -142,10 +142,10 @@ module _ (g : Geometry) (pos : 0 < g .sectorBytes) (fr : Frame g) (img : Bytes) 
   unfolding edited accepts isEdit
   call-step (validate work) = other-call (validate work) refl refl
   call-step (find p work) = other-call (find p work) refl refl
-  call-step (read p offset out work) = other-call (read p offset out work) refl refl
+  call-step (read p offset not-small-letter work) = other-call (read p offset not-small-letter work) refl refl
   call-step (overwrite p offset bytes work) = edit-call (overwrite p offset bytes work) refl
   call-step (setLength p new work) = edit-call (setLength p new work) refl
-  call-step (list out work) = other-call (list out work) refl refl
+  call-step (list not-small-letter work) = other-call (list not-small-letter work) refl refl
 
 -- ---- every list of calls
 
@@ -157,7 +157,3 @@ demand3 g pos fr img (c ∷ calls) acc =
     let h = demand3 g pos fr (imageAfter g img c) calls (s .accepted) in
     subst (λ rows. Holds g (settingOf g img) (after g (imageAfter g img c) calls) (rowsAfter (settingOf g img) rows calls)) (s .rows)
     (subst (λ st. Holds g st (after g (imageAfter g img c) calls) (rowsAfter st (rowsOf g (imageAfter g img c)) calls)) (s .setting) h)
-
-pub version3-holds : Frame version3 → Demand3 version3
-unfolding version3
-version3-holds fr = demand3 version3 (omega arith) fr

@@ -25,7 +25,7 @@ use Rattle.theory.proofs.Owned.{stays}
 use Rattle.theory.proofs.Tests.{both, and-true-of, below-at, below-of, clash}
 use Rattle.history.specs.Good.{spaceOf, unitsOf, entryUnits, Chain, Good, Changed, sideOf}
 use Rattle.history.proofs.Alike.{Alike, trees-same}
-use Rattle.history.proofs.EditedUnits.{edit-becomes, edit-cells, edited-units, in-entry-units, limit-same, unit-same, units-other, cells-same, edit-linked, other-chain, owned-w, size-other}
+use Rattle.history.proofs.EditedUnits.{edit-becomes, edit-cells, edited-units, in-entry-units, limit-same, unit-same, units-other, cells-same, edit-linked, other-chain, owned-after, size-other}
 use Rattle.history.proofs.CellCases.{rechain-cases, or-more, plain-free, plain-end, plain-number}
 use Rattle.history.proofs.EntryFacts.{entry-fields, root-no-stream, edited-fields}
 
@@ -33,23 +33,23 @@ use Rattle.history.proofs.EntryFacts.{entry-fields, root-no-stream, edi
 
 module _ {v w : Volume} {img img′ : Bytes} {e new : ℕ} {ws : Bool → List ℕ} {c : Bool → Bytes} (o : Good v) (x : Changed v w img img′ e new ws c) where
   -- the system's cells stay
-  sys-stays : (s : ℕ) → 0 < count s (systemSectors v) → w .sectors .cell s ≡ v .sectors .cell s
-  sys-stays s h =
+  system-cells-stay : (s : ℕ) → 0 < count s (systemSectors v) → w .sectors .cell s ≡ v .sectors .cell s
+  system-cells-stay s h =
       let d = o .owned false in
       stays (v .sectors .limit) (o .lim false) (systemSectors v) (v .sectors .cell) (entryUnits v false) d e (in-entry-units o x false) (ws false) (edit-becomes o x false)
       (w .sectors .cell) (edit-cells o x false) s (d .within s h) (d .system s h) (omega (arith, owners-at s e (entryUnits v false), d .single s))
 
-  sys-chain : (us : List ℕ) (s n : ℕ) → ((t : ℕ) → 0 < count t us → 0 < count t (systemSectors v)) → Chain (v .sectors) us s n → Chain (w .sectors) us s n
-  sys-chain us s n inside k =
+  system-chain-stays : (us : List ℕ) (s n : ℕ) → ((t : ℕ) → 0 < count t us → 0 < count t (systemSectors v)) → Chain (v .sectors) us s n → Chain (w .sectors) us s n
+  system-chain-stays us s n inside k =
       record {
-        linked = rw (x .parts .sectorLimit) (linked-agree (v .sectors .cell) (w .sectors .cell) (v .sectors .limit) us (λ t q. sys-stays t (inside t q)) (k .linked));
+        linked = rw (x .parts .sectorLimit) (linked-agree (v .sectors .cell) (w .sectors .cell) (v .sectors .limit) us (λ t q. system-cells-stay t (inside t q)) (k .linked));
         head = k .head;
         long = k .long;
       }
 
-  in-system : (t : ℕ) → (count t (v .directorySectors) ≤ count t (systemSectors v)) × (count t (v .miniFat) ≤ count t (systemSectors v)) × (count t (v .miniStream) ≤ count t (systemSectors v))
+  counts-in-system : (t : ℕ) → (count t (v .directorySectors) ≤ count t (systemSectors v)) × (count t (v .miniFat) ≤ count t (systemSectors v)) × (count t (v .miniStream) ≤ count t (systemSectors v))
   unfolding systemSectors
-  in-system t =
+  counts-in-system t =
       let a = count-append t (v .fat ++ v .difat) (v .directorySectors) in
       let b = count-append t (v .fat ++ v .difat ++ v .directorySectors) (v .miniFat) in
       let d = count-append t (v .fat ++ v .difat ++ v .directorySectors ++ v .miniFat) (v .miniStream) in
@@ -73,9 +73,9 @@ module _ {v w : Volume} {img img′ : Bytes} {e new : ℕ} {ws : Bool → List �
       (below-of (spaceOf v b .cells - spaceOf v b .limit) _
       (λ i q. rw (limit-same o x b, x .cells b .rest (spaceOf v b .limit + i) (omega arith)) (below-at (spaceOf v b .cells - spaceOf v b .limit) _ h i q)))
 
-  cells-w : cellRules (w .sectors) ≡ true
+  cells-after : cellRules (w .sectors) ≡ true
   unfolding cellRules fatCellRight
-  cells-w =
+  cells-after =
       let r = both (allBelow (v .sectors .limit) (fatCellRight (v .sectors))) (restFree (v .sectors)) (o .cells) in
       and-true-of (allBelow (w .sectors .limit) (fatCellRight (w .sectors))) (restFree (w .sectors))
       (below-of (w .sectors .limit) _
@@ -88,8 +88,8 @@ module _ {v w : Volume} {img img′ : Bytes} {e new : ℕ} {ws : Bool → List �
       (below-at (v .sectors .limit) (fatCellRight (v .sectors)) (r .0) s h))))
       (rest-kept false (r .1))
 
-  mini-cells-w : (m : ℕ) → m < w .minis .limit → plainCell (w .minis) (w .minis .cell m) ≡ true
-  mini-cells-w m h′ =
+  mini-cells-after : (m : ℕ) → m < w .minis .limit → plainCell (w .minis) (w .minis .cell m) ≡ true
+  mini-cells-after m h′ =
       let h : m < v .minis .limit = omega (arith, x .parts .miniLimit) in
       rw (plain-same true (w .minis .cell m))
       (plain-kept (plainCell (v .minis)) true (plain-free (v .minis)) (plain-end (v .minis)) (plain-number (v .minis)) m h (o .miniCells m h))
@@ -105,9 +105,9 @@ module _ {v w : Volume} {img img′ : Bytes} {e new : ℕ} {ws : Bool → List �
       go zero z = absurd (not-root (sym z))
       go (suc i) z = edited-fields (v .directory .entry e) i (w .directory .entry e) (x .stream) (x .fields) (rw z (entry-fields o e (x .inside)))
 
-  entries-w : entryRules (w .directory) ≡ true
+  entries-after : entryRules (w .directory) ≡ true
   unfolding entryRules entryRight
-  entries-w =
+  entries-after =
       below-of (w .directory .count) (entryRight (w .directory))
       (λ i h′.
       let h : i < v .directory .count = omega (arith, x .parts .entryCount) in
@@ -129,10 +129,10 @@ module _ {v w : Volume} {img img′ : Bytes} {e new : ℕ} {ws : Bool → List �
   unfolding root
   root-same = x .others 0 (λ z. not-root (sym z))
 
-  stream-w : (i : ℕ) → i < w .directory .count → isStream (w .directory .entry i) ≡ true
+  streams-after : (i : ℕ) → i < w .directory .count → isStream (w .directory .entry i) ≡ true
       → Chain (spaceOf w (sideOf w i)) (streamUnits w i) (start (w .directory .entry i))
       (roundUp (streamSize w i) (spaceOf w (sideOf w i) .unit))
-  stream-w i h′ st =
+  streams-after i h′ st =
       let h : i < v .directory .count = omega (arith, x .parts .entryCount) in
       elim (ℕ-discrete i e) [
         | yes z ↦
@@ -157,14 +157,14 @@ module _ {v w : Volume} {img img′ : Bytes} {e new : ℕ} {ws : Bool → List �
       record {
         lim = λ b. rw (limit-same o x b) (o .lim b);
         unit = λ b. rw (unit-same o x b) (o .unit b);
-        cells = cells-w;
-        entries = entries-w;
+        cells = cells-after;
+        entries = entries-after;
         trees = trees-same (v .directory) (w .directory) alike ∙ o .trees;
-        directory = rw (x .parts .directorySectors, x .parts .directoryStart) (sys-chain (v .directorySectors) (v .directoryStart) (length (v .directorySectors)) (λ t q. omega (arith, in-system t .0)) (o .directory));
+        directory = rw (x .parts .directorySectors, x .parts .directoryStart) (system-chain-stays (v .directorySectors) (v .directoryStart) (length (v .directorySectors)) (λ t q. omega (arith, counts-in-system t .0)) (o .directory));
         directoryLong = rw (x .parts .directorySectors) (o .directoryLong);
-        miniFat = rw (x .parts .miniFat, x .parts .miniFatStart, x .parts .miniFatCount) (sys-chain (v .miniFat) (v .miniFatStart) (v .miniFatCount) (λ t q. omega (arith, in-system t .1)) (o .miniFat));
+        miniFat = rw (x .parts .miniFat, x .parts .miniFatStart, x .parts .miniFatCount) (system-chain-stays (v .miniFat) (v .miniFatStart) (v .miniFatCount) (λ t q. omega (arith, counts-in-system t .1)) (o .miniFat));
         miniStream =
-            let k = sys-chain (v .miniStream) (start (root v)) (roundUp (size (root v)) (v .sectors .unit)) (λ t q. omega (arith, in-system t .2)) (o .miniStream) in
+            let k = system-chain-stays (v .miniStream) (start (root v)) (roundUp (size (root v)) (v .sectors .unit)) (λ t q. omega (arith, counts-in-system t .2)) (o .miniStream) in
             record {
               linked = subst (λ us. Linked (w .sectors .cell) (w .sectors .limit) us) (sym (x .parts .miniStream)) (k .linked);
               head = ap startOf (x .parts .miniStream) ∙ k .head ∙ sym (ap start root-same);
@@ -172,8 +172,8 @@ module _ {v w : Volume} {img img′ : Bytes} {e new : ℕ} {ws : Bool → List �
             };
         rootSize = rw root-same (o .rootSize);
         miniTable = rw (x .parts .miniLimit, x .parts .miniCells) (o .miniTable);
-        miniCells = mini-cells-w;
+        miniCells = mini-cells-after;
         miniRest = rest-kept true (o .miniRest);
-        chains = stream-w;
-        owned = owned-w o x;
+        chains = streams-after;
+        owned = owned-after o x;
       }

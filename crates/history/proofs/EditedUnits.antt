@@ -28,12 +28,12 @@ pub units-self : (v : Volume) (i : ℕ) → isStream (v .directory .entry i) ≡
 unfolding unitsOf
 units-self v i st = rw (st, beq-self (sideOf v i))
 
-cond-and : (st q : Bool) (x y : List ℕ) → (st ≡ true → x ≡ y) → cond (st && q) x [] ≡ cond (st && q) y []
-cond-and true true x y h = h refl
-cond-and true false x y h = refl
-cond-and false q x y h = refl
+cond-and-agree : (st q : Bool) (x y : List ℕ) → (st ≡ true → x ≡ y) → cond (st && q) x [] ≡ cond (st && q) y []
+cond-and-agree true true x y h = h refl
+cond-and-agree true false x y h = refl
+cond-and-agree false q x y h = refl
 
-side-self : (ws : Bool → List ℕ) (us : List ℕ) (b sm : Bool) → us ≡ ws sm → ws (not sm) ≡ [] → cond (Bool·beq b sm) us [] ≡ ws b
+side-self : (ws : Bool → List ℕ) (us : List ℕ) (b side : Bool) → us ≡ ws side → ws (not side) ≡ [] → cond (Bool·beq b side) us [] ≡ ws b
 side-self ws us true true h z = h
 side-self ws us true false h z = sym z
 side-self ws us false true h z = sym z
@@ -63,9 +63,9 @@ module _ {v w : Volume} {img img′ : Bytes} {e new : ℕ} {ws : Bool → List �
   unfolding systemSectors
   system-same = let p = x .parts in rw (p .fat, p .difat, p .directorySectors, p .miniFat, p .miniStream)
 
-  pub sys-same : (b : Bool) → systemOf w b ≡ systemOf v b
-  sys-same true = refl
-  sys-same false = system-same
+  pub system-in-same : (b : Bool) → systemOf w b ≡ systemOf v b
+  system-in-same true = refl
+  system-in-same false = system-same
 
   pub in-entry-units : (b : Bool) → e < length (entryUnits v b)
   unfolding entryUnits
@@ -97,9 +97,9 @@ module _ {v w : Volume} {img img′ : Bytes} {e new : ℕ} {ws : Bool → List �
       (owned-new b .chains e (rw (length-set (entryUnits v b) e (ws b)) (in-entry-units b)))
 
   -- the units as they are found in the new cells
-  refound : (sm : Bool) (n s : ℕ) (us : List ℕ) → Linked (spaceOf w sm .cell) (spaceOf v sm .limit) us → length us ≡ roundUp n (spaceOf v sm .unit) → startOf us ≡ s →
-      units (spaceOf w sm .cell) (roundUp n (spaceOf w sm .unit)) s ≡ us
-  refound sm n s us l k h = rw (unit-same sm) (linked-chain (spaceOf w sm .cell) (spaceOf v sm .limit) (roundUp n (spaceOf v sm .unit)) s us l k h .1)
+  units-refound : (side : Bool) (n s : ℕ) (us : List ℕ) → Linked (spaceOf w side .cell) (spaceOf v side .limit) us → length us ≡ roundUp n (spaceOf v side .unit) → startOf us ≡ s →
+      units (spaceOf w side .cell) (roundUp n (spaceOf w side .unit)) s ≡ us
+  units-refound side n s us l k h = rw (unit-same side) (linked-chain (spaceOf w side .cell) (spaceOf v side .limit) (roundUp n (spaceOf v side .unit)) s us l k h .1)
 
   pub other-chain : (i : ℕ) → i < v .directory .count → i ≢ e → isStream (v .directory .entry i) ≡ true →
       Linked (spaceOf w (sideOf v i) .cell) (spaceOf v (sideOf v i) .limit) (streamUnits v i)
@@ -114,30 +114,30 @@ module _ {v w : Volume} {img img′ : Bytes} {e new : ℕ} {ws : Bool → List �
   pub units-other : (i : ℕ) → i < v .directory .count → i ≢ e → isStream (v .directory .entry i) ≡ true → streamUnits w i ≡ streamUnits v i
   units-other i h z st =
       units-read w i (streamSize v i) (start (v .directory .entry i)) (size-other i z) (ap start (x .others i z))
-      ∙ refound (sideOf v i) (streamSize v i) (start (v .directory .entry i)) (streamUnits v i)
+      ∙ units-refound (sideOf v i) (streamSize v i) (start (v .directory .entry i)) (streamUnits v i)
       (other-chain i h z st) (o .chains i h st .long) (o .chains i h st .head)
 
   pub edited-units : streamUnits w e ≡ ws (ltb new cutoff)
   edited-units =
       units-read w e new (startOf (ws (ltb new cutoff))) (x .size) (x .start)
-      ∙ refound (ltb new cutoff) new (startOf (ws (ltb new cutoff))) (ws (ltb new cutoff)) (edit-linked (ltb new cutoff)) (x .need) refl
+      ∙ units-refound (ltb new cutoff) new (startOf (ws (ltb new cutoff))) (ws (ltb new cutoff)) (edit-linked (ltb new cutoff)) (x .need) refl
 
-  new-other : (b : Bool) (i : ℕ) → i < v .directory .count → i ≢ e → unitsOf w b i ≡ unitsOf v b i
+  other-units-in : (b : Bool) (i : ℕ) → i < v .directory .count → i ≢ e → unitsOf w b i ≡ unitsOf v b i
   unfolding unitsOf
-  new-other b i h z =
+  other-units-in b i h z =
       rw (x .others i z, size-other i z)
-      (cond-and (isStream (v .directory .entry i)) (Bool·beq b (sideOf v i)) (streamUnits w i) (streamUnits v i) (units-other i h z))
+      (cond-and-agree (isStream (v .directory .entry i)) (Bool·beq b (sideOf v i)) (streamUnits w i) (streamUnits v i) (units-other i h z))
 
-  new-self : (b : Bool) → unitsOf w b e ≡ ws b
+  edited-units-in : (b : Bool) → unitsOf w b e ≡ ws b
   unfolding unitsOf
-  new-self b = rw (x .fields .kind, x .stream, x .size) (side-self ws (streamUnits w e) b (ltb new cutoff) edited-units (x .none))
+  edited-units-in b = rw (x .fields .kind, x .stream, x .size) (side-self ws (streamUnits w e) b (ltb new cutoff) edited-units (x .none))
 
   pub entry-units-set : (b : Bool) → entryUnits w b ≡ set (entryUnits v b) e (ws b)
   unfolding entryUnits
   entry-units-set b =
       ap (λ n. listBelow n (unitsOf w b)) (x .parts .entryCount)
-      ∙ (below-set (v .directory .count) e (unitsOf v b) (unitsOf w b) [] (x .inside) (new-other b)
-      ∙ ap (set (listBelow (v .directory .count) (unitsOf v b)) e) (new-self b))
+      ∙ (below-set (v .directory .count) e (unitsOf v b) (unitsOf w b) [] (x .inside) (other-units-in b)
+      ∙ ap (set (listBelow (v .directory .count) (unitsOf v b)) e) (edited-units-in b))
 
-  pub owned-w : (b : Bool) → Owned (spaceOf w b .limit) (systemOf w b) (spaceOf w b .cell) (entryUnits w b)
-  owned-w b = rw (limit-same b, sys-same b, entry-units-set b) (owned-new b)
+  pub owned-after : (b : Bool) → Owned (spaceOf w b .limit) (systemOf w b) (spaceOf w b .cell) (entryUnits w b)
+  owned-after b = rw (limit-same b, system-in-same b, entry-units-set b) (owned-new b)

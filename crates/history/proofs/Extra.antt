@@ -1,7 +1,8 @@
--- Laws of rounding up and of cutting and filling up that hold whatever the units are.
+-- Laws of equal tests, of rounding up, and of cutting and filling up, that hold whatever the units are.
 use Prim.Native.Nat.{ℕ, _+_, _-_, _/_, _≤_, _<_}
-use mathlib.Core.Path.{_≡_, _∙_}
+use mathlib.Core.Path.{_≡_, _∙_, refl}
 use mathlib.Core.List.{[]}
+use mathlib.Core.Bool.{Bool, true, false, not, Bool·beq}
 use native.Mathlib.Nat.{div-mul-le-self, le-div-iff-mul-le}
 use native.Mathlib.Omega.{arith}
 use lib.ListN.{length}
@@ -10,6 +11,22 @@ use Rattle.format.specs.Basics.Bytes.{Bytes}
 use Rattle.format.specs.Basics.Lists.{fit}
 use Rattle.format.specs.Layout.Need.{roundUp}
 use Rattle.theory.proofs.Fits.{fit-cut}
+
+pub beq-true : (b : Bool) → Bool·beq true b ≡ b
+beq-true true = refl
+beq-true false = refl
+
+pub beq-false : (b : Bool) → Bool·beq false b ≡ not b
+beq-false true = refl
+beq-false false = refl
+
+pub beq-true-right : (a : Bool) → Bool·beq a true ≡ true → a ≡ true
+beq-true-right true h = refl
+beq-true-right false h = h
+
+pub beq-not : (b : Bool) → Bool·beq (not b) b ≡ false
+beq-not true = refl
+beq-not false = refl
 
 pub round-mono : (n k d : ℕ) → 0 < d → n ≤ k → roundUp n d ≤ roundUp k d
 unfolding roundUp

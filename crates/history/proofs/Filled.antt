@@ -61,38 +61,38 @@ module _ (v : Volume) (img : Bytes) (o : Good v) (sized : Sized v img) where
       ∙ length-take-le n (laid (block sp img) us) (rw (laid-length (sp .unit) (block sp img) us (unit-full i h st)) (enough-units i h st))
 
 module _ {v w : Volume} {img img′ : Bytes} {e new : ℕ} {ws : Bool → List ℕ} {c : Bool → Bytes} (o : Good v) (x : Changed v w img img′ e new ws c) (sized : Sized v img) where
-  kept : (b : Bool) → Kept (spaceOf v b .limit) (spaceOf v b .unit) (systemOf v b) (record { cells = spaceOf v b .cell; blocks = block (spaceOf v b) img }) (entryUnits v b)
-  kept b = record { owned = o .owned b; sized = sized b }
+  table-kept : (b : Bool) → Kept (spaceOf v b .limit) (spaceOf v b .unit) (systemOf v b) (record { cells = spaceOf v b .cell; blocks = block (spaceOf v b) img }) (entryUnits v b)
+  table-kept b = record { owned = o .owned b; sized = sized b }
 
-  edited : (b : Bool) → Edited (spaceOf v b .limit) (spaceOf v b .unit) (systemOf v b) (record { cells = spaceOf v b .cell; blocks = block (spaceOf v b) img })
+  table-edited : (b : Bool) → Edited (spaceOf v b .limit) (spaceOf v b .unit) (systemOf v b) (record { cells = spaceOf v b .cell; blocks = block (spaceOf v b) img })
       (getD (entryUnits v b) e []) (ws b) (c b) (record { cells = spaceOf w b .cell; blocks = block (spaceOf w b) img′ })
-  edited b = record { cells = edit-cells o x b; blocks = x .bytes b .bytes; sized = x .bytes b .sized }
+  table-edited b = record { cells = edit-cells o x b; blocks = x .bytes b .bytes; sized = x .bytes b .sized }
 
-  filled : (b : Bool) → laid (block (spaceOf w b) img′) (ws b) ≡ c b
-  filled b =
-      edited-content (spaceOf v b .limit) (spaceOf v b .unit) (o .lim b) (systemOf v b) (record { cells = spaceOf v b .cell; blocks = block (spaceOf v b) img }) (entryUnits v b) (kept b)
+  edited-laid : (b : Bool) → laid (block (spaceOf w b) img′) (ws b) ≡ c b
+  edited-laid b =
+      edited-content (spaceOf v b .limit) (spaceOf v b .unit) (o .lim b) (systemOf v b) (record { cells = spaceOf v b .cell; blocks = block (spaceOf v b) img }) (entryUnits v b) (table-kept b)
       e (in-entry-units o x b) (ws b) (edit-becomes o x b) (c b) (x .full b)
-      (record { cells = spaceOf w b .cell; blocks = block (spaceOf w b) img′ }) (edited b)
+      (record { cells = spaceOf w b .cell; blocks = block (spaceOf w b) img′ }) (table-edited b)
 
-  others-filled : (b : Bool) (i : ℕ) → i < length (entryUnits v b) → i ≢ e →
+  others-laid : (b : Bool) (i : ℕ) → i < length (entryUnits v b) → i ≢ e →
       laid (block (spaceOf w b) img′) (getD (entryUnits v b) i []) ≡ laid (block (spaceOf v b) img) (getD (entryUnits v b) i [])
-  others-filled b =
-      edited-others (spaceOf v b .limit) (spaceOf v b .unit) (o .lim b) (systemOf v b) (record { cells = spaceOf v b .cell; blocks = block (spaceOf v b) img }) (entryUnits v b) (kept b)
+  others-laid b =
+      edited-others (spaceOf v b .limit) (spaceOf v b .unit) (o .lim b) (systemOf v b) (record { cells = spaceOf v b .cell; blocks = block (spaceOf v b) img }) (entryUnits v b) (table-kept b)
       e (in-entry-units o x b) (ws b) (edit-becomes o x b) (c b) (x .full b)
-      (record { cells = spaceOf w b .cell; blocks = block (spaceOf w b) img′ }) (edited b)
+      (record { cells = spaceOf w b .cell; blocks = block (spaceOf w b) img′ }) (table-edited b)
 
   pub edited-contents : contents w img′ e ≡ take new (c (ltb new cutoff))
   edited-contents =
       contents-read w img′ e new (ws (ltb new cutoff)) (x .size) (edited-units o x)
-      ∙ ap (take new) (filled (ltb new cutoff))
+      ∙ ap (take new) (edited-laid (ltb new cutoff))
 
   pub contents-other : (i : ℕ) → i < v .directory .count → i ≢ e → isStream (v .directory .entry i) ≡ true → contents w img′ i ≡ contents v img i
   unfolding entryUnits
   contents-other i h z st =
       let n = streamSize v i in
-      let sm = ltb n cutoff in
-      let k = entry-units-at o x sm i h ∙ units-self v i st in
+      let side = ltb n cutoff in
+      let k = entry-units-at o x side i h ∙ units-self v i st in
       contents-read w img′ i n (streamUnits v i) (size-other o x i z) (units-other o x i h z st)
-      ∙ ap (take n) (subst (λ us. laid (block (spaceOf w sm) img′) us ≡ laid (block (spaceOf v sm) img) us) k
-      (others-filled sm i (omega (arith, length-below (v .directory .count) (unitsOf v sm))) z))
+      ∙ ap (take n) (subst (λ us. laid (block (spaceOf w side) img′) us ≡ laid (block (spaceOf v side) img) us) k
+      (others-laid side i (omega (arith, length-below (v .directory .count) (unitsOf v side))) z))
       ∙ sym (contents-read v img i n (streamUnits v i) refl refl)

@@ -35,8 +35,8 @@ module _ (v : Volume) (img : Bytes) (o : Good v) (sized : Sized v img) (rootPlai
   bit-true true h = refl
   bit-true false h = absurd (omega arith)
 
-  legal : (x : ℕ) → 0 < count x (entries (forest (v .directory))) → legalName (name (v .directory .entry x)) ≡ true
-  legal x h =
+  reached-legal : (x : ℕ) → 0 < count x (entries (forest (v .directory))) → legalName (name (v .directory .entry x)) ≡ true
+  reached-legal x h =
       let k = inside-forest v img o sized x h in
       let a = bit-true (isObject (v .directory) x) (omega (arith, reached v img o sized x k)) in
       let r = entry-fields o x k in
@@ -46,30 +46,30 @@ module _ (v : Volume) (img : Bytes) (o : Good v) (sized : Sized v img) (rootPlai
       go true s a r = stream-fields-say (v .directory .entry x) (stream-fields-of (v .directory .entry x) x r s) .0
       go false s a r = storage-fields-say (v .directory .entry x) (storage-fields-of (v .directory .entry x) x r (or-only (isStorage (v .directory .entry x)) a))
 
-  leaves : (x : ℕ) → named (v .directory) x ≡ true → isStream (v .directory .entry x) ≡ true → child (v .directory .entry x) ≡ NOSTREAM
-  leaves x h st =
+  stream-childless : (x : ℕ) → named (v .directory) x ≡ true → isStream (v .directory .entry x) ≡ true → child (v .directory .entry x) ≡ NOSTREAM
+  stream-childless x h st =
       stream-fields-say (v .directory .entry x) (stream-fields-of (v .directory .entry x) x (entry-fields o x (named-below (v .directory) x h)) st) .1
 
   pub findable : Findable (v .directory)
-  findable = record { ordered = tree-parts v img o sized .2; leaves = leaves; legal = legal; rootPlain = rootPlain }
+  findable = record { ordered = tree-parts v img o sized .2; leaves = stream-childless; legal = reached-legal; rootPlain = rootPlain }
 
-  hits-of : (p : Path) → foundList (resolveStream (v .directory) p) ≡ hits (v .directory) (strip (names p) []) (forest (v .directory))
+  found-hits : (p : Path) → foundList (resolveStream (v .directory) p) ≡ hits (v .directory) (strip (names p) []) (forest (v .directory))
   unfolding strip
-  hits-of p = path-hits (v .directory) p findable
+  found-hits p = path-hits (v .directory) p findable
 
-  rows-of : (p : Path) → meantLengths (rowsIn v img [] (forest (v .directory))) p ≡ map (λ x. length (contents v img x)) (foundList (resolveStream (v .directory) p))
-  rows-of p = rows-meant v img p [] (forest (v .directory)) ∙ ap (map (λ x. length (contents v img x))) (sym (hits-of p))
+  meant-found : (p : Path) → meantLengths (rowsIn v img [] (forest (v .directory))) p ≡ map (λ x. length (contents v img x)) (foundList (resolveStream (v .directory) p))
+  meant-found p = rows-meant v img p [] (forest (v .directory)) ∙ ap (map (λ x. length (contents v img x))) (sym (found-hits p))
 
-  pub none-found : (p : Path) (n : ℕ) → resolveStream (v .directory) p ≡ refused n → hasRow (rowsIn v img [] (forest (v .directory))) p ≡ false
+  pub refused-has-no-row : (p : Path) (n : ℕ) → resolveStream (v .directory) p ≡ refused n → hasRow (rowsIn v img [] (forest (v .directory))) p ≡ false
   unfolding nonEmpty foundList
-  none-found p n e =
+  refused-has-no-row p n e =
       has-row-meant (rowsIn v img [] (forest (v .directory))) p
-      ∙ ap nonEmpty (rows-of p ∙ ap (λ f. map (λ x. length (contents v img x)) (foundList f)) e)
+      ∙ ap nonEmpty (meant-found p ∙ ap (λ f. map (λ x. length (contents v img x)) (foundList f)) e)
 
   module _ (p : Path) {e : ℕ} {b : Forest} (found : resolveStream (v .directory) p ≡ at e b) where
     pub hits-one : hits (v .directory) (strip (names p) []) (forest (v .directory)) ≡ e ∷ []
     unfolding foundList
-    hits-one = sym (hits-of p) ∙ ap foundList found
+    hits-one = sym (found-hits p) ∙ ap foundList found
 
     pub is-stream : isStream (v .directory .entry e) ≡ true
     is-stream = found-stream (v .directory) p e b found
@@ -83,13 +83,13 @@ module _ (v : Volume) (img : Bytes) (o : Good v) (sized : Sized v img) (rootPlai
     unfolding nonEmpty foundList
     has-row =
         has-row-meant (rowsIn v img [] (forest (v .directory))) p
-        ∙ ap nonEmpty (rows-of p ∙ ap (λ f. map (λ x. length (contents v img x)) (foundList f)) found)
+        ∙ ap nonEmpty (meant-found p ∙ ap (λ f. map (λ x. length (contents v img x)) (foundList f)) found)
 
     pub row-length : rowLength (rowsIn v img [] (forest (v .directory))) p ≡ streamSize v e
     unfolding firstOr0 foundList
     row-length =
         row-length-meant (rowsIn v img [] (forest (v .directory))) p
-        ∙ ap firstOr0 (rows-of p ∙ ap (λ f. map (λ x. length (contents v img x)) (foundList f)) found)
+        ∙ ap firstOr0 (meant-found p ∙ ap (λ f. map (λ x. length (contents v img x)) (foundList f)) found)
         ∙ length-contents v img o sized e is-inside is-stream
 
     -- the stream alone is meant, and wherever it stands

@@ -28,7 +28,7 @@ use Rattle.theory.proofs.Below.{length-below, getD-below}
 use Rattle.theory.proofs.RoundUp.{round-enough}
 use Rattle.history.specs.Good.{spaceOf, systemOf, unitsOf, entryUnits, Chain, Good, sideOf}
 use Rattle.history.proofs.Judged.{Judged, accepted-judged}
-use Rattle.history.proofs.OwnerFacts.{units-linked, make-owned, sector-owners, mini-owners}
+use Rattle.history.proofs.OwnerFacts.{units-linked, make-owned, owned-sectors-count, owned-minis-count}
 use Rattle.history.proofs.SystemFacts.{bounded, sector-bytes, sector-limit, directory-chain, directory-long, mini-table, mini-cells, mini-rest, root-size, mini-fat-chain, mini-stream-chain, system-facts}
 
 module _ {g : Geometry} {img : Bytes} (pos : 0 < g .sectorBytes) (ok : Judged g img) where
@@ -85,11 +85,11 @@ module _ {g : Geometry} {img : Bytes} (pos : 0 < g .sectorBytes) (ok : Judged g 
   all-owned : (b : Bool) → Owned (spaceOf vol b .limit) (systemOf vol b) (spaceOf vol b .cell) (entryUnits vol b)
   unfolding ownerRules
   all-owned true =
-      make-owned (vol .minis) [] (entryUnits vol true) (ownedMinis vol) (mini-owners vol)
+      make-owned (vol .minis) [] (entryUnits vol true) (ownedMinis vol) (owned-minis-count vol)
       (both (ownersIn (vol .sectors) (ownedSectors vol)) (ownersIn (vol .minis) (ownedMinis vol)) (ok .volume .owners) .1) (entry-units-linked true)
       (λ s h. absurd (omega arith))
   all-owned false =
-      make-owned (vol .sectors) (systemSectors vol) (entryUnits vol false) (ownedSectors vol) (sector-owners vol)
+      make-owned (vol .sectors) (systemSectors vol) (entryUnits vol false) (ownedSectors vol) (owned-sectors-count vol)
       (both (ownersIn (vol .sectors) (ownedSectors vol)) (ownersIn (vol .minis) (ownedMinis vol)) (ok .volume .owners) .0) (entry-units-linked false)
       (system-facts pos ok)
 

@@ -23,7 +23,7 @@ use Rattle.theory.proofs.Chains.{linked-chain}
 use Rattle.theory.proofs.Tests.{and-true-of, below-of}
 use Rattle.history.specs.Good.{spaceOf, entryUnits, Chain, Good, sideOf}
 use Rattle.history.proofs.Judged.{Groups}
-use Rattle.history.proofs.OwnerFacts.{owned-owners, sector-owners, mini-owners}
+use Rattle.history.proofs.OwnerFacts.{owned-owners, owned-sectors-count, owned-minis-count}
 
 chain-of : (sp : Space) (us : List ℕ) (s n : ℕ) → Chain sp us s n → chain (sp .cell) (sp .limit) n s ≡ true
 chain-of sp us s n c = linked-chain (sp .cell) (sp .limit) n s us (c .linked) (c .long) (c .head) .0
@@ -51,8 +51,8 @@ good-groups v h =
       chains = below-of (v .directory .count) _ (λ i hi. stream-ok i (isStream (v .directory .entry i)) (h .chains i hi));
       owners =
           and-true-of (ownersIn (v .sectors) (ownedSectors v)) (ownersIn (v .minis) (ownedMinis v))
-          (owned-owners (v .sectors) (systemSectors v) (entryUnits v false) (ownedSectors v) (sector-owners v) (h .owned false))
-          (owned-owners (v .minis) [] (entryUnits v true) (ownedMinis v) (mini-owners v) (h .owned true));
+          (owned-owners (v .sectors) (systemSectors v) (entryUnits v false) (ownedSectors v) (owned-sectors-count v) (h .owned false))
+          (owned-owners (v .minis) [] (entryUnits v true) (ownedMinis v) (owned-minis-count v) (h .owned true));
     }
   where
     stream-ok : (i : ℕ) (st : Bool) → (st ≡ true →

@@ -28,10 +28,10 @@ unfolding check
 check-zero true n rest z h = (refl, h)
 check-zero false n rest z h = absurd (z h)
 
-pub check-back : (b : Bool) (n rest : ℕ) → b ≡ true → rest ≡ 0 → check b n rest ≡ 0
+pub check-passed : (b : Bool) (n rest : ℕ) → b ≡ true → rest ≡ 0 → check b n rest ≡ 0
 unfolding check
-check-back true n rest e h = h
-check-back false n rest e h = absurd (clash e refl)
+check-passed true n rest e h = h
+check-passed false n rest e h = absurd (clash e refl)
 
 pub record Groups (v : Volume) : Type 0 where
   pub cells : cellRules (v .sectors) ≡ true
@@ -48,9 +48,9 @@ pub record Judged (g : Geometry) (img : Bytes) : Type 0 where
   pub tables : tableRules g img ≡ true
   pub volume : Groups (volume g img)
 
-volume-groups : (v : Volume) → volumeGroups v ≡ 0 → Groups v
+groups-passed : (v : Volume) → volumeGroups v ≡ 0 → Groups v
 unfolding volumeGroups
-volume-groups v h =
+groups-passed v h =
     let a = check-zero _ 12 _ (omega arith) h in
     let b = check-zero _ 13 _ (omega arith) (a .1) in
     let c = check-zero _ 14 _ (omega arith) (b .1) in
@@ -60,11 +60,11 @@ volume-groups v h =
     let k = check-zero _ 18 _ (omega arith) (f .1) in
     record { cells = a .0; directory = b .0; entries = c .0; trees = d .0; minis = e .0; chains = f .0; owners = k .0 }
 
-pub groups-volume : (v : Volume) → Groups v → volumeGroups v ≡ 0
+pub groups-zero : (v : Volume) → Groups v → volumeGroups v ≡ 0
 unfolding volumeGroups
-groups-volume v h =
-    check-back _ 12 _ (h .cells) (check-back _ 13 _ (h .directory) (check-back _ 14 _ (h .entries) (check-back _ 15 _ (h .trees)
-    (check-back _ 16 _ (h .minis) (check-back _ 17 _ (h .chains) (check-back _ 18 _ (h .owners) refl))))))
+groups-zero v h =
+    check-passed _ 12 _ (h .cells) (check-passed _ 13 _ (h .directory) (check-passed _ 14 _ (h .entries) (check-passed _ 15 _ (h .trees)
+    (check-passed _ 16 _ (h .minis) (check-passed _ 17 _ (h .chains) (check-passed _ 18 _ (h .owners) refl))))))
 
 pub accepted-judged : (g : Geometry) (img : Bytes) → Accepted g img → Judged g img
 unfolding verdict groups
@@ -73,10 +73,10 @@ accepted-judged g img h =
     let b = check-zero _ 2 _ (omega arith) (a .1) in
     let c = check-zero _ 10 _ (omega arith) (b .1) in
     let d = check-zero _ 11 _ (omega arith) (c .1) in
-    record { allowed = a .0; header = c .0; tables = d .0; volume = volume-groups (volume g img) (d .1) }
+    record { allowed = a .0; header = c .0; tables = d .0; volume = groups-passed (volume g img) (d .1) }
 
 pub judged-accepted : (g : Geometry) (img : Bytes) → Judged g img → Accepted g img
 unfolding verdict groups
 judged-accepted g img h =
-    check-back _ 1 _ (h .allowed) (check-back _ 2 _ (le-leb (workNeed (length img)) (workNeed (length img)) (omega arith))
-    (check-back _ 10 _ (h .header) (check-back _ 11 _ (h .tables) (groups-volume (volume g img) (h .volume)))))
+    check-passed _ 1 _ (h .allowed) (check-passed _ 2 _ (le-leb (workNeed (length img)) (workNeed (length img)) (omega arith))
+    (check-passed _ 10 _ (h .header) (check-passed _ 11 _ (h .tables) (groups-zero (volume g img) (h .volume)))))

@@ -34,7 +34,7 @@ use Rattle.history.proofs.Filled.{length-contents, frame-sized, Sized}
 use Rattle.history.proofs.Counting.{inside-forest}
 use Rattle.history.proofs.Rows.{rows-changed}
 use Rattle.history.proofs.Finding.{is-stream, is-inside, hit-is-found, found-hit-everywhere}
-use Rattle.history.proofs.Lengths.{sides-uncrossed}
+use Rattle.history.proofs.Lengths.{sides-uncrossed, old-units-length}
 use Rattle.history.proofs.Extra.{fit-same}
 use Rattle.history.proofs.Resized.{resize-changed, resize-contents}
 use Rattle.history.proofs.EditStep.{Step, edit-step}
@@ -51,9 +51,9 @@ unfolding resized
 resized-same v img e new z = rw (eq-eqb new (streamSize v e) z)
 
 -- the needs, by space
-needs-in-space : (g : Geometry) (img : Bytes) (old new : ℕ) (sm : Bool) → ltb new cutoff ≡ sm →
+needs-in-space : (g : Geometry) (img : Bytes) (old new : ℕ) (side : Bool) → ltb new cutoff ≡ side →
     (sectorNeed g new ≤ sectorNeed g old + length (freeUnits (volume g img .sectors))) × (miniNeed new ≤ miniNeed old + length (freeUnits (volume g img .minis))) →
-    (n : ℕ) → n ≡ roundUp old (spaceOf (volume g img) sm .unit) → roundUp new (spaceOf (volume g img) sm .unit) ≤ n + length (freeUnits (spaceOf (volume g img) sm))
+    (n : ℕ) → n ≡ roundUp old (spaceOf (volume g img) side .unit) → roundUp new (spaceOf (volume g img) side .unit) ≤ n + length (freeUnits (spaceOf (volume g img) side))
 unfolding sectorNeed miniNeed volume sectorSpace miniSpace
 needs-in-space g img old new true h r n e = need-le (ltb old cutoff) (roundUp old miniBytes) (roundUp new miniBytes) (length (freeUnits (volume g img .minis))) n e (rw h at (r .1))
   where
@@ -90,9 +90,9 @@ module _ (g : Geometry) (pos : 0 < g .sectorBytes) (fr : Frame g) (img : Bytes) 
     inside : e < v .directory .count
     inside = is-inside v img good sized rootPlain p found
 
-    unchanged : contents v img e ≡ fit new (contents v img e) → rowsOf g img ≡ map (change p (fit new)) (rowsOf g img)
+    same-length-rows : contents v img e ≡ fit new (contents v img e) → rowsOf g img ≡ map (change p (fit new)) (rowsOf g img)
     unfolding rowsOf
-    unchanged h =
+    same-length-rows h =
         rows-changed v v img img e p (fit new) (alike-itself v) h (λ i q z st. refl) stream [] (forest (v .directory))
         (inside-forest v img good sized) (hit-is-found v img good sized rootPlain p found) (found-hit-everywhere v img good sized rootPlain p found)
 
@@ -101,41 +101,30 @@ module _ (g : Geometry) (pos : 0 < g .sectorBytes) (fr : Frame g) (img : Bytes) 
         record {
           accepted = acc;
           setting = refl;
-          rows = unchanged (sym (ap (λ n. fit n (contents v img e)) (z ∙ sym (length-contents v img good sized e inside stream)) ∙ fit-same (contents v img e)));
+          rows = same-length-rows (sym (ap (λ n. fit n (contents v img e)) (z ∙ sym (length-contents v img good sized e inside stream)) ∙ fit-same (contents v img e)));
         }
 
     -- room enough, in the space of the edit
-    needs : (sectorNeed g new ≤ sectorNeed g old + length (freeUnits (v .sectors))) × (miniNeed new ≤ miniNeed old + length (freeUnits (v .minis)))
+    needs-fit : (sectorNeed g new ≤ sectorNeed g old + length (freeUnits (v .sectors))) × (miniNeed new ≤ miniNeed old + length (freeUnits (v .minis)))
     unfolding tooFew
-    needs =
+    needs-fit =
         let a = sectorNeed g old + length (freeUnits (v .sectors)) in
         let b = miniNeed old + length (freeUnits (v .minis)) in (
           ltb-false a (sectorNeed g new) (neither (ltb a (sectorNeed g new)) (ltb b (miniNeed new)) room .0),
           ltb-false b (miniNeed new) (neither (ltb a (sectorNeed g new)) (ltb b (miniNeed new)) room .1),
         )
 
-    abbrev sm : Bool
-    sm = ltb (max old new) cutoff
+    abbrev side : Bool
+    side = ltb (max old new) cutoff
 
-    sides : ((ltb old cutoff ≡ sm) ⊎ (old ≡ 0)) × ((ltb new cutoff ≡ sm) ⊎ (new ≡ 0))
+    sides : ((ltb old cutoff ≡ side) ⊎ (old ≡ 0)) × ((ltb new cutoff ≡ side) ⊎ (new ≡ 0))
     sides = sides-uncrossed old new within
 
-    -- the old need is what the stream has
-    old-need : length (streamUnits v e) ≡ roundUp old (spaceOf v sm .unit)
-    old-need =
-        let k = good .chains e inside stream .long in
-        elim (sides .0) [
-          | inl h ↦ subst (λ b. length (streamUnits v e) ≡ roundUp old (spaceOf v b .unit)) h k
-          | inr z ↦
-              k ∙ ap (λ n. roundUp n (spaceOf v (ltb old cutoff) .unit)) z ∙ round-zero (spaceOf v (ltb old cutoff) .unit) (good .unit (ltb old cutoff))
-              ∙ sym (ap (λ n. roundUp n (spaceOf v sm .unit)) z ∙ round-zero (spaceOf v sm .unit) (good .unit sm))
-        ]
-
-    enough : roundUp new (spaceOf v sm .unit) ≤ length (streamUnits v e) + length (freeUnits (spaceOf v sm))
+    enough : roundUp new (spaceOf v side .unit) ≤ length (streamUnits v e) + length (freeUnits (spaceOf v side))
     enough =
         elim (sides .1) [
-          | inr z ↦ omega (arith, ap (λ n. roundUp n (spaceOf v sm .unit)) z, round-zero (spaceOf v sm .unit) (good .unit sm))
-          | inl h ↦ needs-in-space g img old new sm h needs (length (streamUnits v e)) old-need
+          | inr z ↦ omega (arith, ap (λ n. roundUp n (spaceOf v side .unit)) z, round-zero (spaceOf v side .unit) (good .unit side))
+          | inl h ↦ needs-in-space g img old new side h needs-fit (length (streamUnits v e)) (old-units-length v img good sized e new inside stream within)
         ]
 
     differ-step : new ≢ old → Step g img (resized v img e new) (map (change p (fit new)) (rowsOf g img))

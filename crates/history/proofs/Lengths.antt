@@ -22,7 +22,6 @@ use Rattle.format.specs.Calls.SetLength.{small, crosses, editSpace, newUnits}
 use Rattle.theory.specs.Links.{Linked}
 use Rattle.theory.specs.Owned.{MayBecome}
 use Rattle.theory.specs.Blocks.{target}
-use Rattle.theory.proofs.Counts.{pigeonhole}
 use Rattle.theory.proofs.Chains.{linked-below}
 use Rattle.theory.proofs.FreeUnits.{resized-becomes}
 use Rattle.theory.proofs.Edits.{target-length, target-is}
@@ -76,16 +75,16 @@ module _ (v : Volume) (img : Bytes) (o : Good v) (sized : Sized v img) (e new : 
   abbrev old : ℕ
   old = streamSize v e
 
-  abbrev sm : Bool
-  sm = ltb (max old new) cutoff
+  abbrev side : Bool
+  side = ltb (max old new) cutoff
 
   abbrev sp : Space
-  sp = spaceOf v sm
+  sp = spaceOf v side
 
   abbrev us : List ℕ
   us = streamUnits v e
 
-  sides : ((ltb old cutoff ≡ sm) ⊎ (old ≡ 0)) × ((ltb new cutoff ≡ sm) ⊎ (new ≡ 0))
+  sides : ((ltb old cutoff ≡ side) ⊎ (old ≡ 0)) × ((ltb new cutoff ≡ side) ⊎ (new ≡ 0))
   sides = sides-uncrossed old new within
 
   no-units : old ≡ 0 → us ≡ []
@@ -98,13 +97,13 @@ module _ (v : Volume) (img : Bytes) (o : Good v) (sized : Sized v img) (e new : 
       go [] h = refl
       go (x ∷ xs) h = absurd (omega arith)
 
-  old-side : (ltb old cutoff ≡ sm) ⊎ (us ≡ [])
+  old-side : (ltb old cutoff ≡ side) ⊎ (us ≡ [])
   old-side = elim (sides .0) [ inl h ↦ inl h | inr z ↦ inr (no-units z) ]
 
   -- the old units, by space
-  pub old-units : (b : Bool) → unitsOf v b e ≡ cond (Bool·beq b sm) us []
+  pub old-units : (b : Bool) → unitsOf v b e ≡ cond (Bool·beq b side) us []
   unfolding unitsOf
-  old-units b = rw stream (cond-side b sm (ltb old cutoff) us old-side)
+  old-units b = rw stream (cond-side b side (ltb old cutoff) us old-side)
 
   us-linked : Linked (sp .cell) (sp .limit) us
   us-linked =
@@ -113,11 +112,11 @@ module _ (v : Volume) (img : Bytes) (o : Good v) (sized : Sized v img) (e new : 
         | inr z ↦ rw z tt
       ]
 
-  us-long : length us ≡ roundUp old (sp .unit)
-  us-long =
+  pub old-units-length : length us ≡ roundUp old (sp .unit)
+  old-units-length =
       elim (sides .0) [
         | inl h ↦ subst (λ b. length us ≡ roundUp old (spaceOf v b .unit)) h (o .chains e inside stream .long)
-        | inr z ↦ ap length (no-units z) ∙ sym (ap (λ n. roundUp n (sp .unit)) z ∙ round-zero (sp .unit) (o .unit sm))
+        | inr z ↦ ap length (no-units z) ∙ sym (ap (λ n. roundUp n (sp .unit)) z ∙ round-zero (sp .unit) (o .unit side))
       ]
 
   new-units-are : newUnits v e new ≡ take (roundUp new (sp .unit)) (us ++ freeBelow (sp .cell) (sp .limit))
@@ -125,37 +124,32 @@ module _ (v : Volume) (img : Bytes) (o : Good v) (sized : Sized v img) (e new : 
   new-units-are = new-units-in v e new
 
   pub new-units-become : MayBecome (sp .limit) (sp .cell) us (newUnits v e new)
-  new-units-become = rw new-units-are (resized-becomes (sp .cell) (sp .limit) (o .lim sm) us us-linked (roundUp new (sp .unit)))
+  new-units-become = rw new-units-are (resized-becomes (sp .cell) (sp .limit) (o .lim side) us us-linked (roundUp new (sp .unit)))
 
   module _ (enough : roundUp new (sp .unit) ≤ length us + length (freeUnits sp)) where
     pub new-units-length : length (newUnits v e new) ≡ roundUp new (sp .unit)
     new-units-length = ap length (new-units-in v e new) ∙ length-take-le (roundUp new (sp .unit)) (us ++ freeUnits sp) (rw (length-append us (freeUnits sp)) enough)
 
-    pub new-units-fit : roundUp new (sp .unit) ≤ sp .limit
-    new-units-fit =
-        let a = pigeonhole (newUnits v e new) (sp .limit) (λ s q. new-units-become .from s q .0) (new-units-become .diff) in
-        omega (arith, new-units-length)
-
     pub new-units-none : new ≡ 0 → newUnits v e new ≡ []
-    new-units-none z = new-units-are ∙ ap (λ n. take n (us ++ freeBelow (sp .cell) (sp .limit))) (ap (λ n. roundUp n (sp .unit)) z ∙ round-zero (sp .unit) (o .unit sm))
+    new-units-none z = new-units-are ∙ ap (λ n. take n (us ++ freeBelow (sp .cell) (sp .limit))) (ap (λ n. roundUp n (sp .unit)) z ∙ round-zero (sp .unit) (o .unit side))
 
     us-full : (s : ℕ) → 0 < count s us → length (block sp img s) ≡ sp .unit
-    us-full s q = sized sm s (linked-below (sp .cell) (sp .limit) us us-linked s q)
+    us-full s q = sized side s (linked-below (sp .cell) (sp .limit) us us-linked s q)
 
-    pub content-long : length (target (sp .unit) (block sp img) us (newUnits v e new) old new) ≡ length (newUnits v e new) * sp .unit
-    content-long =
+    pub new-content-length : length (target (sp .unit) (block sp img) us (newUnits v e new) old new) ≡ length (newUnits v e new) * sp .unit
+    new-content-length =
         subst (λ ws. length (target (sp .unit) (block sp img) us ws old new) ≡ length ws * sp .unit) (sym new-units-are)
         (target-length (sp .unit) (block sp img) us (freeBelow (sp .cell) (sp .limit)) us-full old new (roundUp new (sp .unit))
-        (rw us-long (round-enough old (sp .unit) (o .unit sm))) (round-enough new (sp .unit) (o .unit sm))
-        (λ s q. sized sm s (resized-becomes (sp .cell) (sp .limit) (o .lim sm) us us-linked (roundUp new (sp .unit)) .from s q .0)))
+        (rw old-units-length (round-enough old (sp .unit) (o .unit side))) (round-enough new (sp .unit) (o .unit side))
+        (λ s q. sized side s (resized-becomes (sp .cell) (sp .limit) (o .lim side) us us-linked (roundUp new (sp .unit)) .from s q .0)))
 
     -- the bytes after: cut or filled up
-    pub content-fits : ltb new cutoff ≡ sm → take new (target (sp .unit) (block sp img) us (newUnits v e new) old new) ≡ fit new (contents v img e)
-    content-fits side =
+    pub new-content-fits : ltb new cutoff ≡ side → take new (target (sp .unit) (block sp img) us (newUnits v e new) old new) ≡ fit new (contents v img e)
+    new-content-fits same =
         subst (λ ws. take new (target (sp .unit) (block sp img) us ws old new) ≡ fit new (take old (laid (block sp img) us))) (sym new-units-are)
         (target-is (sp .unit) (block sp img) us (freeBelow (sp .cell) (sp .limit)) us-full old new (roundUp new (sp .unit))
-        (rw us-long (round-enough old (sp .unit) (o .unit sm))) (round-enough new (sp .unit) (o .unit sm))
-        (ap length (sym new-units-are) ∙ new-units-length) (λ h. rw us-long (round-mono new old (sp .unit) (o .unit sm) h)))
+        (rw old-units-length (round-enough old (sp .unit) (o .unit side))) (round-enough new (sp .unit) (o .unit side))
+        (ap length (sym new-units-are) ∙ new-units-length) (λ h. rw old-units-length (round-mono new old (sp .unit) (o .unit side) h)))
         ∙ ap (fit new) (sym old-bytes)
       where
         old-bytes : contents v img e ≡ take old (laid (block sp img) us)

@@ -20,16 +20,16 @@ equal-is [] (y ∷ b) h = absurd (clash h refl)
 equal-is (x ∷ a) [] h = absurd (clash h refl)
 equal-is (x ∷ a) (y ∷ b) h = ap₂ _∷_ (eqb-true x y (both (eqb x y) (equal a b) h .0)) (equal-is a b (both (eqb x y) (equal a b) h .1))
 
-pub key : (a b : Name) → nameEqual a b ≡ true → map fold a ≡ map fold b
+pub equal-folded : (a b : Name) → nameEqual a b ≡ true → map fold a ≡ map fold b
 unfolding nameEqual
-key a b h = equal-is (map fold a) (map fold b) h
+equal-folded a b h = equal-is (map fold a) (map fold b) h
 
-key-length : (a b : Name) → map fold a ≡ map fold b → length a ≡ length b
-key-length a b e = sym (length-map a fold) ∙ ap length e ∙ length-map b fold
+folded-length : (a b : Name) → map fold a ≡ map fold b → length a ≡ length b
+folded-length a b e = sym (length-map a fold) ∙ ap length e ∙ length-map b fold
 
-or-cases : (a b : Bool) → (a || b) ≡ true → (a ≡ false → b ≡ true)
-or-cases true b h z = absurd (clash refl z)
-or-cases false b h z = h
+or-second : (a b : Bool) → (a || b) ≡ true → (a ≡ false → b ≡ true)
+or-second true b h z = absurd (clash refl z)
+or-second false b h z = h
 
 units-asym : (a b : List ℕ) → unitsLess a b ≡ true → unitsLess b a ≡ true → ⊥
 unfolding unitsLess
@@ -39,12 +39,12 @@ units-asym (x ∷ a) [] h k = clash h refl
 units-asym (x ∷ a) (y ∷ b) h k =
     elim (decLt x y) [
       | yes p ↦
-          let q = or-cases (ltb y x) (eqb y x && unitsLess b a) k (le-ltb y x (omega arith)) in
+          let q = or-second (ltb y x) (eqb y x && unitsLess b a) k (le-ltb y x (omega arith)) in
           omega (arith, eqb-true y x (both (eqb y x) (unitsLess b a) q .0))
       | no n ↦
-          let q = or-cases (ltb x y) (eqb x y && unitsLess a b) h (le-ltb x y (omega arith)) in
+          let q = or-second (ltb x y) (eqb x y && unitsLess a b) h (le-ltb x y (omega arith)) in
           let e = eqb-true x y (both (eqb x y) (unitsLess a b) q .0) in
-          let r = or-cases (ltb y x) (eqb y x && unitsLess b a) k (le-ltb y x (omega arith)) in
+          let r = or-second (ltb y x) (eqb y x && unitsLess b a) k (le-ltb y x (omega arith)) in
           units-asym a b (both (eqb x y) (unitsLess a b) q .1) (both (eqb y x) (unitsLess b a) r .1)
     ]
 
@@ -53,44 +53,44 @@ unfolding nameLess
 less-asym a b h k =
     elim (decLt (length a) (length b)) [
       | yes p ↦
-          let q = or-cases (ltb (length b) (length a)) (eqb (length b) (length a) && unitsLess (map fold b) (map fold a)) k (le-ltb (length b) (length a) (omega arith)) in
+          let q = or-second (ltb (length b) (length a)) (eqb (length b) (length a) && unitsLess (map fold b) (map fold a)) k (le-ltb (length b) (length a) (omega arith)) in
           omega (arith, eqb-true (length b) (length a) (both (eqb (length b) (length a)) (unitsLess (map fold b) (map fold a)) q .0))
       | no n ↦
-          let q = or-cases (ltb (length a) (length b)) (eqb (length a) (length b) && unitsLess (map fold a) (map fold b)) h (le-ltb (length a) (length b) (omega arith)) in
+          let q = or-second (ltb (length a) (length b)) (eqb (length a) (length b) && unitsLess (map fold a) (map fold b)) h (le-ltb (length a) (length b) (omega arith)) in
           let e = eqb-true (length a) (length b) (both (eqb (length a) (length b)) (unitsLess (map fold a) (map fold b)) q .0) in
-          let r = or-cases (ltb (length b) (length a)) (eqb (length b) (length a) && unitsLess (map fold b) (map fold a)) k (le-ltb (length b) (length a) (omega arith)) in
+          let r = or-second (ltb (length b) (length a)) (eqb (length b) (length a) && unitsLess (map fold b) (map fold a)) k (le-ltb (length b) (length a) (omega arith)) in
           units-asym (map fold a) (map fold b) (both (eqb (length a) (length b)) (unitsLess (map fold a) (map fold b)) q .1)
           (both (eqb (length b) (length a)) (unitsLess (map fold b) (map fold a)) r .1)
     ]
 
-less-key : (a b c : Name) → map fold b ≡ map fold c → nameLess a b ≡ nameLess a c
+less-folded : (a b c : Name) → map fold b ≡ map fold c → nameLess a b ≡ nameLess a c
 unfolding nameLess
-less-key a b c e = rw (key-length b c e, e)
+less-folded a b c e = rw (folded-length b c e, e)
 
 -- what equals n stands at one place of the order
-pub not-both : (n a b : Name) → nameEqual n a ≡ true → nameLess a b ≡ true → nameEqual n b ≡ false
-not-both n a b p l = go (nameEqual n b) refl
+pub equal-lower-not-upper : (n a b : Name) → nameEqual n a ≡ true → nameLess a b ≡ true → nameEqual n b ≡ false
+equal-lower-not-upper n a b p l = go (nameEqual n b) refl
   where
     go : (t : Bool) → nameEqual n b ≡ t → t ≡ false
     go false e = refl
     go true e =
-        let k = sym (key n a p) ∙ key n b e in
-        let self : nameLess a a ≡ true = less-key a a b k ∙ l in
+        let k = sym (equal-folded n a p) ∙ equal-folded n b e in
+        let self : nameLess a a ≡ true = less-folded a a b k ∙ l in
         absurd (less-asym a a self self)
 
-pub not-before : (n a b : Name) → nameEqual n b ≡ true → nameLess a b ≡ true → nameEqual n a ≡ false
-not-before n a b p l = go (nameEqual n a) refl
+pub equal-upper-not-lower : (n a b : Name) → nameEqual n b ≡ true → nameLess a b ≡ true → nameEqual n a ≡ false
+equal-upper-not-lower n a b p l = go (nameEqual n a) refl
   where
     go : (t : Bool) → nameEqual n a ≡ t → t ≡ false
     go false e = refl
-    go true e = absurd (clash p (not-both n a b e l))
+    go true e = absurd (clash p (equal-lower-not-upper n a b e l))
 
-pub not-beyond : (n a b c : Name) → nameEqual n a ≡ true → nameLess a b ≡ true → nameLess b c ≡ true → nameEqual n c ≡ false
-not-beyond n a b c p l k = go (nameEqual n c) refl
+pub equal-not-two-above : (n a b c : Name) → nameEqual n a ≡ true → nameLess a b ≡ true → nameLess b c ≡ true → nameEqual n c ≡ false
+equal-not-two-above n a b c p l k = go (nameEqual n c) refl
   where
     go : (t : Bool) → nameEqual n c ≡ t → t ≡ false
     go false e = refl
-    go true e = absurd (less-asym a b l (less-key b a c (sym (key n a p) ∙ key n c e) ∙ k))
+    go true e = absurd (less-asym a b l (less-folded b a c (sym (equal-folded n a p) ∙ equal-folded n c e) ∙ k))
 
 -- ---- legal names
 
@@ -107,50 +107,43 @@ fold-cases u =
     ]
 
 -- a unit that is not a letter is folded to from itself alone
-fold-other : (u w k : ℕ) → fold u ≡ fold w → w ≢ k → ((k < 0x41) ⊎ (0x7A < k) ⊎ ((0x5A < k) × (k < 0x61))) → u ≢ k
-fold-other u w k e h p z =
+fold-keeps-other : (u w k : ℕ) → fold u ≡ fold w → w ≢ k → ((k < 0x41) ⊎ (0x7A < k) ⊎ ((0x5A < k) × (k < 0x61))) → u ≢ k
+fold-keeps-other u w k e h p z =
     elim (fold-cases u) [
-      | inl a ↦ out p (a .0) (a .1) z
+      | inl a ↦ not-small-letter p (a .0) (a .1) z
       | inr a ↦
           elim (fold-cases w) [
-            | inl b ↦ out2 p (b .0) (b .1) (omega (arith, a .1, b .2))
+            | inl b ↦ not-capital p (b .0) (b .1) (omega (arith, a .1, b .2))
             | inr b ↦ h (omega (arith, a .1, b .1))
           ]
     ]
   where
-    out : ((k < 0x41) ⊎ (0x7A < k) ⊎ ((0x5A < k) × (k < 0x61))) → 0x61 ≤ u → u ≤ 0x7A → u ≡ k → ⊥
-    out (inl p) a b e = omega arith
-    out (inr (inl p)) a b e = omega arith
-    out (inr (inr p)) a b e = omega (arith, p .0, p .1)
+    not-small-letter : ((k < 0x41) ⊎ (0x7A < k) ⊎ ((0x5A < k) × (k < 0x61))) → 0x61 ≤ u → u ≤ 0x7A → u ≡ k → ⊥
+    not-small-letter (inl p) a b e = omega arith
+    not-small-letter (inr (inl p)) a b e = omega arith
+    not-small-letter (inr (inr p)) a b e = omega (arith, p .0, p .1)
 
-    out2 : ((k < 0x41) ⊎ (0x7A < k) ⊎ ((0x5A < k) × (k < 0x61))) → 0x61 ≤ w → w ≤ 0x7A → k ≡ w - 0x20 → ⊥
-    out2 (inl p) a b e = omega arith
-    out2 (inr (inl p)) a b e = omega arith
-    out2 (inr (inr p)) a b e = omega (arith, p .0, p .1)
+    not-capital : ((k < 0x41) ⊎ (0x7A < k) ⊎ ((0x5A < k) × (k < 0x61))) → 0x61 ≤ w → w ≤ 0x7A → k ≡ w - 0x20 → ⊥
+    not-capital (inl p) a b e = omega arith
+    not-capital (inr (inl p)) a b e = omega arith
+    not-capital (inr (inr p)) a b e = omega (arith, p .0, p .1)
 
-not-i : (b : Bool) → b ≡ false → not b ≡ true
-not-i true h = sym h
-not-i false h = refl
-
-not-e : (b : Bool) → not b ≡ true → b ≡ false
-not-e true h = sym h
-not-e false h = refl
-
-or-i : (a b : Bool) → a ≡ false → b ≡ false → (a || b) ≡ false
-or-i a b p q = rw (p, q)
+not-true : (b : Bool) → not b ≡ true → b ≡ false
+not-true true h = sym h
+not-true false h = refl
 
 legal-unit : (u w : ℕ) → fold u ≡ fold w → legalUnit w ≡ true → legalUnit u ≡ true
 unfolding legalUnit illegal
 legal-unit u w e h =
-    let a = not-e (eqb w 0) (both (not (eqb w 0)) (not (eqb w slash || eqb w 0x5C || eqb w 0x3A)) h .0) in
-    let b = not-e (eqb w slash || eqb w 0x5C || eqb w 0x3A) (both (not (eqb w 0)) (not (eqb w slash || eqb w 0x5C || eqb w 0x3A)) h .1) in
+    let a = not-true (eqb w 0) (both (not (eqb w 0)) (not (eqb w slash || eqb w 0x5C || eqb w 0x3A)) h .0) in
+    let b = not-true (eqb w slash || eqb w 0x5C || eqb w 0x3A) (both (not (eqb w 0)) (not (eqb w slash || eqb w 0x5C || eqb w 0x3A)) h .1) in
     let b1 = neither (eqb w slash) (eqb w 0x5C) (neither (eqb w slash || eqb w 0x5C) (eqb w 0x3A) b .0) .0 in
     let b2 = neither (eqb w slash) (eqb w 0x5C) (neither (eqb w slash || eqb w 0x5C) (eqb w 0x3A) b .0) .1 in
     let b3 = neither (eqb w slash || eqb w 0x5C) (eqb w 0x3A) b .1 in
-    let c0 = ne-eqb u 0 (fold-other u w 0 e (eqb-false w 0 a) (inl (omega arith))) in
-    let c1 = ne-eqb u slash (fold-other u w slash e (eqb-false w slash b1) (inl (omega arith))) in
-    let c2 = ne-eqb u 0x5C (fold-other u w 0x5C e (eqb-false w 0x5C b2) (inr (inr (omega arith, omega arith)))) in
-    let c3 = ne-eqb u 0x3A (fold-other u w 0x3A e (eqb-false w 0x3A b3) (inl (omega arith))) in
+    let c0 = ne-eqb u 0 (fold-keeps-other u w 0 e (eqb-false w 0 a) (inl (omega arith))) in
+    let c1 = ne-eqb u slash (fold-keeps-other u w slash e (eqb-false w slash b1) (inl (omega arith))) in
+    let c2 = ne-eqb u 0x5C (fold-keeps-other u w 0x5C e (eqb-false w 0x5C b2) (inr (inr (omega arith, omega arith)))) in
+    let c3 = ne-eqb u 0x3A (fold-keeps-other u w 0x3A e (eqb-false w 0x3A b3) (inl (omega arith))) in
     rw (c0, c1, c2, c3)
 
 legal-units : (a b : List ℕ) → map fold a ≡ map fold b → all legalUnit b ≡ true → all legalUnit a ≡ true
@@ -165,8 +158,8 @@ legal-units (x ∷ a) (y ∷ b) e h =
 pub legal-name : (n m : Name) → nameEqual n m ≡ true → legalName m ≡ true → legalName n ≡ true
 unfolding legalName
 legal-name n m e h =
-    let k = key n m e in
-    let l = key-length n m k in
+    let k = equal-folded n m e in
+    let l = folded-length n m k in
     let a = both (leb 1 (length m) && leb (length m) 31) (all legalUnit m) h .0 in
     and-true-of (leb 1 (length n) && leb (length n) 31) (all legalUnit n) (rw l a)
     (legal-units n m k (both (leb 1 (length m) && leb (length m) 31) (all legalUnit m) h .1))

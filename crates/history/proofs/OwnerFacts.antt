@@ -2,7 +2,7 @@
 use Prim.Native.Nat.{ℕ, zero, suc, _+_, _≤_, _<_}
 use mathlib.Core.Path.{_≡_, refl, sym, ap, _∙_}
 use mathlib.Core.Logic.{_≢_}
-use mathlib.Core.Bool.{Bool, true, false, cond, _&&_, Bool·beq, not}
+use mathlib.Core.Bool.{Bool, true, false, cond, _&&_, Bool·beq}
 use mathlib.Core.List.{List, []}
 use native.Mathlib.Omega.{arith}
 use native.Mathlib.Decide.{decLt}
@@ -25,6 +25,7 @@ use Rattle.theory.proofs.Chains.{linked-below}
 use Rattle.theory.proofs.Tests.{leb-not, below-at, below-of, clash}
 use Rattle.theory.proofs.Below.{join-ext}
 use Rattle.history.specs.Good.{spaceOf, unitsOf, entryUnits, sideOf}
+use Rattle.history.proofs.Extra.{beq-true, beq-false}
 
 owner-rule-says : (n c : ℕ) → ownerRule n c ≡ true → (n ≤ 1) × (n ≡ 0 → c ≡ FREE)
 unfolding ownerRule
@@ -72,14 +73,6 @@ owned-owners sp sys L them e o =
     below-of (sp .limit) (ownerRight sp them)
     (λ s h. owner-rule-holds (count s them) (sp .cell s) (omega (arith, o .single s, e s)) (λ z. o .others s h (sym (e s) ∙ z)))
 
-pub beq-true : (b : Bool) → Bool·beq true b ≡ b
-beq-true true = refl
-beq-true false = refl
-
-pub beq-false : (b : Bool) → Bool·beq false b ≡ not b
-beq-false true = refl
-beq-false false = refl
-
 own-sectors-are : (v : Volume) (i : ℕ) → ownSectors v i ≡ unitsOf v false i
 unfolding ownSectors unitsOf
 own-sectors-are v i = rw (leb-not cutoff (streamSize v i), beq-false (sideOf v i))
@@ -88,24 +81,24 @@ own-minis-are : (v : Volume) (i : ℕ) → ownMinis v i ≡ unitsOf v true i
 unfolding ownMinis unitsOf
 own-minis-are v i = rw (beq-true (sideOf v i))
 
-pub sector-owners : (v : Volume) (s : ℕ) → count s (ownedSectors v) ≡ count s (systemSectors v) + owners s (entryUnits v false)
+pub owned-sectors-count : (v : Volume) (s : ℕ) → count s (ownedSectors v) ≡ count s (systemSectors v) + owners s (entryUnits v false)
 unfolding ownedSectors entryUnits
-sector-owners v s =
+owned-sectors-count v s =
     let n = v .directory .count in
     count-append s (systemSectors v) (joinBelow n (ownSectors v))
     ∙ ap (λ k. count s (systemSectors v) + k) (ap (count s) (join-ext n (unitsOf v false) (ownSectors v) (λ i h. own-sectors-are v i)) ∙ count-join s n (unitsOf v false))
 
-pub mini-owners : (v : Volume) (s : ℕ) → count s (ownedMinis v) ≡ count s [] + owners s (entryUnits v true)
+pub owned-minis-count : (v : Volume) (s : ℕ) → count s (ownedMinis v) ≡ count s [] + owners s (entryUnits v true)
 unfolding ownedMinis entryUnits
-mini-owners v s =
+owned-minis-count v s =
     let n = v .directory .count in
     let a = ap (count s) (join-ext n (unitsOf v true) (ownMinis v) (λ i h. own-minis-are v i)) ∙ count-join s n (unitsOf v true) in
     omega arith
 
 -- ---- the streams' units
 
-side-linked : (v : Volume) (us : List ℕ) (b sm : Bool) → Linked (spaceOf v sm .cell) (spaceOf v sm .limit) us →
-    Linked (spaceOf v b .cell) (spaceOf v b .limit) (cond (Bool·beq b sm) us [])
+side-linked : (v : Volume) (us : List ℕ) (b side : Bool) → Linked (spaceOf v side .cell) (spaceOf v side .limit) us →
+    Linked (spaceOf v b .cell) (spaceOf v b .limit) (cond (Bool·beq b side) us [])
 side-linked v us true true h = h
 side-linked v us true false h = tt
 side-linked v us false true h = tt

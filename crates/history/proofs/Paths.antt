@@ -34,15 +34,15 @@ isEmpty (node l e b r) = false
 unfoldable pub streamIsLeaf : Directory → Forest → ℕ → Forest → Forest → Bool
 streamIsLeaf d l e b r = not (isStream (d .entry e)) || isEmpty b
 
-empty-is : (t : Forest) → isEmpty t ≡ true → t ≡ empty
+is-empty-says : (t : Forest) → isEmpty t ≡ true → t ≡ empty
 unfolding isEmpty
-empty-is empty h = refl
-empty-is broken h = absurd (clash h refl)
-empty-is (node l e b r) h = absurd (clash h refl)
+is-empty-says empty h = refl
+is-empty-says broken h = absurd (clash h refl)
+is-empty-says (node l e b r) h = absurd (clash h refl)
 
 leaf-empty : (d : Directory) (l : Forest) (e : ℕ) (b r : Forest) → streamIsLeaf d l e b r ≡ true → isStream (d .entry e) ≡ true → b ≡ empty
 unfolding streamIsLeaf
-leaf-empty d l e b r h st = empty-is b (rw st at h)
+leaf-empty d l e b r h st = is-empty-says b (rw st at h)
 
 empty-hits : (d : Directory) (n : Name) (ns : List Name) → [] ≡ hits d (rest (n ∷ ns)) empty
 unfolding hits
@@ -134,16 +134,16 @@ node-every : (q : Forest → ℕ → Forest → Forest → Bool) (l : Forest) (x
 unfolding everyNode
 node-every q l x b r h p k s = rw (h, p, k, s)
 
-empty-empty : isEmpty empty ≡ true
+empty-is-empty : isEmpty empty ≡ true
 unfolding isEmpty
-empty-empty = refl
+empty-is-empty = refl
 
 leaf-of-empty : (d : Directory) (l : Forest) (e : ℕ) (b r : Forest) → (isStream (d .entry e) ≡ true → b ≡ empty) → streamIsLeaf d l e b r ≡ true
 unfolding streamIsLeaf
 leaf-of-empty d l e b r h = go (isStream (d .entry e)) h
   where
     go : (st : Bool) → (st ≡ true → b ≡ empty) → (not st || isEmpty b) ≡ true
-    go true k = ap isEmpty (k refl) ∙ empty-empty
+    go true k = ap isEmpty (k refl) ∙ empty-is-empty
     go false k = refl
 
 -- where the child of every stream is NOSTREAM, no stream has anything below it
@@ -162,9 +162,9 @@ forest-leaf : (d : Directory) → ((x : ℕ) → named d x ≡ true → isStream
 unfolding forest
 forest-leaf d h = grow-leaf d h (d .count) (child (d .entry 0))
 
-list-refused : (d : Directory) → foundList (needStream d (refused 20)) ≡ []
+found-list-refused : (d : Directory) → foundList (needStream d (refused 20)) ≡ []
 unfolding foundList needStream
-list-refused d = refl
+found-list-refused d = refl
 
 -- what the find needs to know of a directory
 pub record Findable (d : Directory) : Type 0 where
@@ -181,4 +181,4 @@ path-hits d p f = go (all legalName (names p)) refl
     go true e =
         descend-hits d (names p) 0 (forest d) (f .ordered) (forest-leaf d (f .leaves)) (λ st. absurd (clash st (f .rootPlain)))
         ∙ rw (f .rootPlain)
-    go false e = list-refused d ∙ sym (legal-hits d (forest d) (f .legal) (names p) e)
+    go false e = found-list-refused d ∙ sym (legal-hits d (forest d) (f .legal) (names p) e)

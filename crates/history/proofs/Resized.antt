@@ -25,9 +25,9 @@ use Rattle.frame.specs.Frame.{Frame}
 use Rattle.history.specs.Good.{spaceOf, systemOf, Good, Changed}
 use Rattle.history.proofs.Good.{accepted-good}
 use Rattle.history.proofs.Filled.{Sized, edited-contents, frame-sized}
-use Rattle.history.proofs.Lengths.{sides-uncrossed, old-units, new-units-become, new-units-length, content-long, content-fits, new-units-none}
-use Rattle.history.proofs.Extra.{fit-zero}
-use Rattle.history.proofs.Sides.{becomes-side, beq-not, cond-beq-false, cond-nil, full-side, refilled-side, cond-beq-true}
+use Rattle.history.proofs.Lengths.{sides-uncrossed, old-units, new-units-become, new-units-length, new-content-length, new-content-fits, new-units-none}
+use Rattle.history.proofs.Extra.{fit-zero, beq-not}
+use Rattle.history.proofs.Sides.{becomes-side, cond-beq-false, cond-nil, full-side, refilled-side, cond-beq-true}
 
 module _ (g : Geometry) (pos : 0 < g .sectorBytes) (fr : Frame g) (img : Bytes) (acc : Accepted g img) where
   abbrev v : Volume
@@ -43,70 +43,70 @@ module _ (g : Geometry) (pos : 0 < g .sectorBytes) (fr : Frame g) (img : Bytes) 
     abbrev old : ℕ
     old = streamSize v e
 
-    abbrev sm : Bool
-    sm = ltb (max old new) cutoff
+    abbrev side : Bool
+    side = ltb (max old new) cutoff
 
     abbrev us : List ℕ
     us = streamUnits v e
 
-    abbrev nu : List ℕ
-    nu = newUnits v e new
+    abbrev newUs : List ℕ
+    newUs = newUnits v e new
 
     abbrev newIn : Bool → List ℕ
-    newIn b = cond (Bool·beq b sm) nu []
+    newIn b = cond (Bool·beq b side) newUs []
 
     abbrev contentIn : Bool → Bytes
-    contentIn b = cond (Bool·beq b sm) (target (spaceOf v b .unit) (block (spaceOf v b) img) us nu old new) []
+    contentIn b = cond (Bool·beq b side) (target (spaceOf v b .unit) (block (spaceOf v b) img) us newUs old new) []
 
-    enough : roundUp new (spaceOf v sm .unit) ≤ length us + length (freeUnits (spaceOf v sm))
+    enough : roundUp new (spaceOf v side .unit) ≤ length us + length (freeUnits (spaceOf v side))
     unfolding editSpace spaceFor
     enough = may .enough
 
     resizing : IsResized g img e new (max old new) (resized v img e new)
     resizing = fr .resizing img e new may
 
-    sides : ((ltb old cutoff ≡ sm) ⊎ (old ≡ 0)) × ((ltb new cutoff ≡ sm) ⊎ (new ≡ 0))
+    sides : ((ltb old cutoff ≡ side) ⊎ (old ≡ 0)) × ((ltb new cutoff ≡ side) ⊎ (new ≡ 0))
     sides = sides-uncrossed old new (may .within)
 
-    long : length nu ≡ roundUp new (spaceOf v sm .unit)
+    long : length newUs ≡ roundUp new (spaceOf v side .unit)
     long = new-units-length v img good sized e new (may .inside) (may .stream) (may .within) enough
 
-    no-units : new ≡ 0 → nu ≡ []
+    no-units : new ≡ 0 → newUs ≡ []
     no-units = new-units-none v img good sized e new (may .inside) (may .stream) (may .within) enough
 
-    units-here : newIn (ltb new cutoff) ≡ nu
+    units-here : newIn (ltb new cutoff) ≡ newUs
     units-here =
         elim (sides .1) [
-          | inl h ↦ ap (λ b. cond (Bool·beq b sm) nu []) h ∙ ap (λ t. cond t nu []) (beq-self sm)
-          | inr z ↦ ap (λ xs. cond (Bool·beq (ltb new cutoff) sm) xs []) (no-units z) ∙ cond-nil (Bool·beq (ltb new cutoff) sm) ∙ sym (no-units z)
+          | inl h ↦ ap (λ b. cond (Bool·beq b side) newUs []) h ∙ ap (λ t. cond t newUs []) (beq-self side)
+          | inr z ↦ ap (λ xs. cond (Bool·beq (ltb new cutoff) side) xs []) (no-units z) ∙ cond-nil (Bool·beq (ltb new cutoff) side) ∙ sym (no-units z)
         ]
 
     units-there : newIn (not (ltb new cutoff)) ≡ []
     units-there =
         elim (sides .1) [
-          | inl h ↦ ap (λ b. cond (Bool·beq (not b) sm) nu []) h ∙ ap (λ t. cond t nu []) (beq-not sm)
-          | inr z ↦ ap (λ xs. cond (Bool·beq (not (ltb new cutoff)) sm) xs []) (no-units z) ∙ cond-nil (Bool·beq (not (ltb new cutoff)) sm)
+          | inl h ↦ ap (λ b. cond (Bool·beq (not b) side) newUs []) h ∙ ap (λ t. cond t newUs []) (beq-not side)
+          | inr z ↦ ap (λ xs. cond (Bool·beq (not (ltb new cutoff)) side) xs []) (no-units z) ∙ cond-nil (Bool·beq (not (ltb new cutoff)) side)
         ]
 
-    need-here : roundUp new (spaceOf v sm .unit) ≡ roundUp new (spaceOf v (ltb new cutoff) .unit)
+    need-here : roundUp new (spaceOf v side .unit) ≡ roundUp new (spaceOf v (ltb new cutoff) .unit)
     need-here =
         elim (sides .1) [
           | inl h ↦ ap (λ b. roundUp new (spaceOf v b .unit)) (sym h)
           | inr z ↦
-              ap (λ n. roundUp n (spaceOf v sm .unit)) z ∙ round-zero (spaceOf v sm .unit) (good .unit sm)
+              ap (λ n. roundUp n (spaceOf v side .unit)) z ∙ round-zero (spaceOf v side .unit) (good .unit side)
               ∙ sym (ap (λ n. roundUp n (spaceOf v (ltb new cutoff) .unit)) z ∙ round-zero (spaceOf v (ltb new cutoff) .unit) (good .unit (ltb new cutoff)))
         ]
 
-    new-cells : (b : Bool) → Relinked (spaceOf v b) (spaceOf (volume g (resized v img e new)) b) (cond (Bool·beq b sm) us []) (newIn b)
+    new-cells : (b : Bool) → Relinked (spaceOf v b) (spaceOf (volume g (resized v img e new)) b) (cond (Bool·beq b side) us []) (newIn b)
     unfolding inSectors inMinis
-    new-cells true = rw (← cond-beq-true sm us, ← cond-beq-true sm nu) (resizing .miniCells)
-    new-cells false = rw (← cond-beq-false sm us, ← cond-beq-false sm nu) (resizing .sectorCells)
+    new-cells true = rw (← cond-beq-true side us, ← cond-beq-true side newUs) (resizing .miniCells)
+    new-cells false = rw (← cond-beq-false side us, ← cond-beq-false side newUs) (resizing .sectorCells)
 
     new-bytes : (b : Bool) → Refilled (spaceOf v b) (spaceOf (volume g (resized v img e new)) b) img (resized v img e new) (systemOf v b) (newIn b)
-        (target (spaceOf v b .unit) (block (spaceOf v b) img) us nu old new)
+        (target (spaceOf v b .unit) (block (spaceOf v b) img) us newUs old new)
     unfolding inSectors inMinis
-    new-bytes true = rw (← cond-beq-true sm nu) (resizing .miniBytes)
-    new-bytes false = rw (← cond-beq-false sm nu) (resizing .sectorBytes)
+    new-bytes true = rw (← cond-beq-true side newUs) (resizing .miniBytes)
+    new-bytes false = rw (← cond-beq-false side newUs) (resizing .sectorBytes)
 
     new-size : streamSize (volume g (resized v img e new)) e ≡ new
     unfolding streamSize
@@ -123,12 +123,12 @@ module _ (g : Geometry) (pos : 0 < g .sectorBytes) (fr : Frame g) (img : Bytes) 
           start = resizing .start ∙ ap startOf (sym units-here);
           size = new-size;
           cells = λ b. rw (old-units v img good sized e new (may .inside) (may .stream) (may .within) b) (new-cells b);
-          bytes = λ b. refilled-side (spaceOf v b) (spaceOf (volume g (resized v img e new)) b) img (resized v img e new) (systemOf v b) nu
-              (target (spaceOf v b .unit) (block (spaceOf v b) img) us nu old new) (Bool·beq b sm) (new-bytes b);
+          bytes = λ b. refilled-side (spaceOf v b) (spaceOf (volume g (resized v img e new)) b) img (resized v img e new) (systemOf v b) newUs
+              (target (spaceOf v b .unit) (block (spaceOf v b) img) us newUs old new) (Bool·beq b side) (new-bytes b);
           becomes = λ b. rw (old-units v img good sized e new (may .inside) (may .stream) (may .within) b)
-              (becomes-side v us nu b sm (new-units-become v img good sized e new (may .inside) (may .stream) (may .within)));
-          full = λ b. full-side v nu (λ b. target (spaceOf v b .unit) (block (spaceOf v b) img) us nu old new) b sm
-              (content-long v img good sized e new (may .inside) (may .stream) (may .within) enough);
+              (becomes-side v us newUs b side (new-units-become v img good sized e new (may .inside) (may .stream) (may .within)));
+          full = λ b. full-side v newUs (λ b. target (spaceOf v b .unit) (block (spaceOf v b) img) us newUs old new) b side
+              (new-content-length v img good sized e new (may .inside) (may .stream) (may .within) enough);
           need = ap length units-here ∙ long ∙ need-here;
           none = units-there;
         }
@@ -138,8 +138,8 @@ module _ (g : Geometry) (pos : 0 < g .sectorBytes) (fr : Frame g) (img : Bytes) 
         edited-contents good resize-changed sized
         ∙ elim (sides .1) [
           | inl h ↦
-              ap (λ b. take new (cond (Bool·beq b sm) (target (spaceOf v b .unit) (block (spaceOf v b) img) us nu old new) [])) h
-              ∙ ap (λ t. take new (cond t (target (spaceOf v sm .unit) (block (spaceOf v sm) img) us nu old new) [])) (beq-self sm)
-              ∙ content-fits v img good sized e new (may .inside) (may .stream) (may .within) enough h
+              ap (λ b. take new (cond (Bool·beq b side) (target (spaceOf v b .unit) (block (spaceOf v b) img) us newUs old new) [])) h
+              ∙ ap (λ t. take new (cond t (target (spaceOf v side .unit) (block (spaceOf v side) img) us newUs old new) [])) (beq-self side)
+              ∙ new-content-fits v img good sized e new (may .inside) (may .stream) (may .within) enough h
           | inr z ↦ ap (λ n. take n (contentIn (ltb new cutoff))) z ∙ sym (ap (λ n. fit n (contents v img e)) z ∙ fit-zero (contents v img e))
         ]

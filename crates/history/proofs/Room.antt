@@ -19,7 +19,7 @@ use Rattle.history.specs.Good.{Good}
 use Rattle.history.proofs.Good.{accepted-good}
 use Rattle.history.proofs.Filled.{Sized}
 use Rattle.history.proofs.Counting.{spaceNeed, allocated-by-rows, free-by-rows}
-use Rattle.history.proofs.OwnerFacts.{beq-true}
+use Rattle.history.proofs.Extra.{beq-true}
 
 module _ (g : Geometry) (pos : 0 < g .sectorBytes) (img : Bytes) (acc : Accepted g img) (sized : Sized (volume g img) img) where
   abbrev v : Volume

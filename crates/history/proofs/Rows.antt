@@ -72,8 +72,8 @@ own-hit-stream : (d : Directory) (k : Want) (y : ℕ) → isStream (d .entry y) 
 unfolding ownHit
 own-hit-stream d k y e = rw e
 
-regroup : (a b c d : List ℕ) → a ++ (b ++ (c ++ d)) ≡ a ++ b ++ c ++ d
-regroup a b c d = sym (append-assoc (a ++ b) c d ∙ append-assoc a b (c ++ d))
+append-regroup : (a b c d : List ℕ) → a ++ (b ++ (c ++ d)) ≡ a ++ b ++ c ++ d
+append-regroup a b c d = sym (append-assoc (a ++ b) c d ∙ append-assoc a b (c ++ d))
 
 pub rows-meant : (v : Volume) (img : Bytes) (p : Path) (before : List Name) (t : Forest) →
     meantLengths (rowsIn v img before t) p ≡ map (λ x. length (contents v img x)) (hits (v .directory) (strip (names p) before) t)
@@ -96,7 +96,7 @@ rows-meant v img p before (node l y b r) =
     ∙ sym (map-append f (hits (v .directory) k l) (ownHit (v .directory) k y ++ (hits (v .directory) (advance k m) b ++ hits (v .directory) k r))
     ∙ ap (λ t. map f (hits (v .directory) k l) ++ t) (map-append f (ownHit (v .directory) k y) (hits (v .directory) (advance k m) b ++ hits (v .directory) k r)
     ∙ ap (λ t. map f (ownHit (v .directory) k y) ++ t) (map-append f (hits (v .directory) (advance k m) b) (hits (v .directory) k r)))
-    ∙ regroup (map f (hits (v .directory) k l)) (map f (ownHit (v .directory) k y)) (map f (hits (v .directory) (advance k m) b)) (map f (hits (v .directory) k r)))
+    ∙ append-regroup (map f (hits (v .directory) k l)) (map f (ownHit (v .directory) k y)) (map f (hits (v .directory) (advance k m) b)) (map f (hits (v .directory) k r)))
   where
     one-meant : (st : Bool) → isStream (v .directory .entry y) ≡ st →
         meantLengths (cond st (record { path = before ++ (name (v .directory .entry y) ∷ []); bytes = contents v img y } ∷ []) []) p

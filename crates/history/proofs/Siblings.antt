@@ -14,7 +14,7 @@ use Rattle.format.specs.Rules.Trees.{everyNode, less, sidesOrdered, greater}
 use Rattle.format.specs.Calls.Find.{Child, missing, present, orElse, childNamed, at}
 use Rattle.theory.proofs.Counts.{count-append, bit-self}
 use Rattle.theory.proofs.Tests.{both, all-at}
-use Rattle.history.proofs.Names.{not-both, not-before, not-beyond}
+use Rattle.history.proofs.Names.{equal-lower-not-upper, equal-upper-not-lower, equal-not-two-above}
 use Rattle.history.proofs.Hits.{advance, hits, hits-off, isDone, isNone, off, own-hit-off, ownHit, rest}
 
 -- ---- among siblings
@@ -71,16 +71,13 @@ every-parts q l y b r h =
       both (everyNode q b) (everyNode q r) c .1,
     )
 
+missing-not-present : (z : ℕ) (c : Forest) → missing ≡ present z c → ⊥
+missing-not-present z c h = let k : _≡_ {A = ℕ} 0 1 = cc in omega arith
+
 pub child-found : (d : Directory) (n : Name) (t : Forest) (z : ℕ) (c : Forest) → childNamed d n t ≡ present z c → Sibling d n t z c
 unfolding childNamed siblings orElse
-child-found d n empty z c h = absurd (no-child z c h)
-  where
-    no-child : (z : ℕ) (c : Forest) → missing ≡ present z c → ⊥
-    no-child z c h = let k : _≡_ {A = ℕ} 0 1 = cc in omega arith
-child-found d n broken z c h = absurd (no-child z c h)
-  where
-    no-child : (z : ℕ) (c : Forest) → missing ≡ present z c → ⊥
-    no-child z c h = let k : _≡_ {A = ℕ} 0 1 = cc in omega arith
+child-found d n empty z c h = absurd (missing-not-present z c h)
+child-found d n broken z c h = absurd (missing-not-present z c h)
 child-found d n (node l y b r) z c h =
     go (childNamed d n l) (nameEqual n (name (d .entry y))) refl refl h (child-found d n l z c) (child-found d n r z c)
   where
@@ -141,11 +138,11 @@ hits-child d n ns (node l y b r) h =
         hits d (rest (n ∷ ns)) l ++ (ownHit d (rest (n ∷ ns)) y ++ (hits d (advance (rest (n ∷ ns)) (name (d .entry y))) b ++ hits d (rest (n ∷ ns)) r))
         ≡ childHits d ns (orElse k (orElse (cond t (present y b) missing) (childNamed d n r)))
     go true e k f s hl hr =
-        let c = sym f ∙ no-sibling-child d n l (λ x q. not-before n (name (d .entry x)) (name (d .entry y)) e (ordered-left d l y b r s x q)) in
+        let c = sym f ∙ no-sibling-child d n l (λ x q. equal-upper-not-lower n (name (d .entry x)) (name (d .entry y)) e (ordered-left d l y b r s x q)) in
         rw (
           c,
-          no-sibling-hits d n ns l (λ x q. not-before n (name (d .entry x)) (name (d .entry y)) e (ordered-left d l y b r s x q)),
-          no-sibling-hits d n ns r (λ x q. not-both n (name (d .entry y)) (name (d .entry x)) e (ordered-right d l y b r s x q)),
+          no-sibling-hits d n ns l (λ x q. equal-upper-not-lower n (name (d .entry x)) (name (d .entry y)) e (ordered-left d l y b r s x q)),
+          no-sibling-hits d n ns r (λ x q. equal-lower-not-upper n (name (d .entry y)) (name (d .entry x)) e (ordered-right d l y b r s x q)),
           own-hit-fits d n ns y e,
           advance-fits n (name (d .entry y)) ns e,
           append-nil (hits d (rest ns) b),
@@ -162,7 +159,7 @@ hits-child d n ns (node l y b r) h =
           own-hit-off d (rest (n ∷ ns)) y u,
           u,
           hits-off d b,
-          no-sibling-hits d n ns r (λ x q. not-beyond n (name (d .entry z)) (name (d .entry y)) (name (d .entry x)) (a .fits)
+          no-sibling-hits d n ns r (λ x q. equal-not-two-above n (name (d .entry z)) (name (d .entry y)) (name (d .entry x)) (a .fits)
               (ordered-left d l y b r s z (a .here)) (ordered-right d l y b r s x q)),
         )
         (append-nil (cond (isStream (d .entry z) && isNone ns) (z ∷ []) [] ++ hits d (rest ns) c))

@@ -15,10 +15,10 @@ unfolding sum
 sum-map-append f [] ys = omega arith
 sum-map-append f (x ∷ xs) ys = let r = sum-map-append f xs ys in omega arith
 
-hit-weight : (w : ℕ → ℕ) (x n : ℕ) → sumBelow (λ s. bit (eqb s x) * w s) n ≡ w x * sumBelow (λ s. bit (eqb s x)) n
-hit-weight w x zero = omega arith
-hit-weight w x (suc n) =
-    let r = hit-weight w x n in
+sum-hit-weight : (w : ℕ → ℕ) (x n : ℕ) → sumBelow (λ s. bit (eqb s x) * w s) n ≡ w x * sumBelow (λ s. bit (eqb s x)) n
+sum-hit-weight w x zero = omega arith
+sum-hit-weight w x (suc n) =
+    let r = sum-hit-weight w x n in
     elim (eqb-cases n x) [
       | inl e ↦ rw (e .1) (let z = ap w (e .0) in omega arith)
       | inr e ↦ rw (e .1) (omega arith)
@@ -30,7 +30,7 @@ unfolding sum
 sum-map-count w n [] h = sym (sum-ext (λ s. 0 * w s) (λ s. 0) n (λ s q. omega arith) ∙ sum-zero n)
 sum-map-count w n (x ∷ xs) h =
     let r = sum-map-count w n xs (λ s q. h s (omega arith)) in
-    let a = hit-weight w x n in
+    let a = sum-hit-weight w x n in
     let b = sum-hit x n (h x (omega (arith, bit-self x))) in
     let c = sum-add (λ s. bit (eqb s x) * w s) (λ s. count s xs * w s) n in
     let d = sum-ext (λ s. (bit (eqb s x) + count s xs) * w s) (λ s. bit (eqb s x) * w s + count s xs * w s) n (λ s q. omega arith) in

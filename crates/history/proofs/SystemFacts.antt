@@ -2,7 +2,7 @@
 use Prim.Native.Nat.{ℕ, _-_, _*_, _/_, _%_, _≤_, _<_}
 use mathlib.Core.Path.{_≡_, refl, subst}
 use mathlib.Core.Logic.{_≢_}
-use mathlib.Core.Bool.{Bool, true, false, _&&_, Bool·beq}
+use mathlib.Core.Bool.{true, _&&_, Bool·beq}
 use mathlib.Core.List.{_++_}
 use native.Mathlib.Nat.{div-le-self, div-mul-le-self, mul-le-mul-right}
 use native.Mathlib.Omega.{arith}
@@ -31,10 +31,7 @@ use Rattle.theory.proofs.Chains.{linked-below, linked-not-free, length-units, c
 use Rattle.theory.proofs.Tests.{both, below-at, all-at}
 use Rattle.history.specs.Good.{Chain}
 use Rattle.history.proofs.Judged.{Judged}
-
-beq-true-right : (a : Bool) → Bool·beq a true ≡ true → a ≡ true
-beq-true-right true h = refl
-beq-true-right false h = h
+use Rattle.history.proofs.Extra.{beq-true-right}
 
 module _ {g : Geometry} {img : Bytes} (pos : 0 < g .sectorBytes) (ok : Judged g img) where
   abbrev vol : Volume

@@ -28,9 +28,10 @@ use Rattle.frame.specs.Frame.{Frame}
 use Rattle.history.specs.Good.{spaceOf, systemOf, unitsOf, Good, Changed}
 use Rattle.history.proofs.OwnerFacts.{units-linked}
 use Rattle.history.proofs.Filled.{contents-read, edited-contents, unit-full, frame-sized, Sized}
-use Rattle.history.proofs.Sides.{beq-not, cond-beq-false, full-side, refilled-side, cond-beq-true}
+use Rattle.history.proofs.Sides.{cond-beq-false, full-side, refilled-side, cond-beq-true}
 use Rattle.history.proofs.Good.{accepted-good}
 use Rattle.history.proofs.EntryFacts.{common-fields-of, entry-fields}
+use Rattle.history.proofs.Extra.{beq-not}
 
 same-fields : (a b : Bytes) → b ≡ a → commonFields a ≡ true → SameFields a b
 same-fields a b e h =
