@@ -190,10 +190,10 @@ module _ (g : Geometry) (pos : 0 < g .sectorBytes) (img : Bytes) (acc : Accepted
   unfolding isEdit
   answers-0-iff (validate work) h = absurd (clash h refl)
   answers-0-iff (find p work) h = absurd (clash h refl)
-  answers-0-iff (read p offset not-small-letter work) h = absurd (clash h refl)
+  answers-0-iff (read p offset out work) h = absurd (clash h refl)
   answers-0-iff (overwrite p offset bytes work) h = write-iff p offset bytes work (resolveStream (v .directory) p) refl (resolve-stream-low (v .directory) p)
   answers-0-iff (setLength p new work) h = length-iff p new work (resolveStream (v .directory) p) refl (resolve-stream-low (v .directory) p) .0
-  answers-0-iff (list not-small-letter work) h = absurd (clash h refl)
+  answers-0-iff (list out work) h = absurd (clash h refl)
 
   other-not-26 : (c : Call) → (n : ℕ) → answerIn g v c ≡ n → n ≢ 26 → answer g img c ≢ 26
   unfolding answer
@@ -203,8 +203,8 @@ module _ (g : Geometry) (pos : 0 < g .sectorBytes) (img : Bytes) (acc : Accepted
   unfolding answers26 answerIn targetAnswer beyond
   answers-26-iff (validate work) = iff-never _ 26 false (other-not-26 (validate work) 0 refl (omega arith)) refl
   answers-26-iff (find p work) = iff-never _ 26 false (other-not-26 (find p work) _ refl (refused-not-26 (resolve (v .directory) p) (resolve-low (v .directory) p))) refl
-  answers-26-iff (read p offset not-small-letter work) =
-      iff-never _ 26 false (other-not-26 (read p offset not-small-letter work) _ refl
+  answers-26-iff (read p offset out work) =
+      iff-never _ 26 false (other-not-26 (read p offset out work) _ refl
       (first-not-26 (answerOf (resolveStream (v .directory) p)) _ (refused-not-26 (resolveStream (v .directory) p) (resolve-stream-low (v .directory) p))
       (cond-not-26 (ltb (streamSize v (target v p)) offset) 24 0 (omega arith) (omega arith)))) refl
   answers-26-iff (overwrite p offset bytes work) =
@@ -212,5 +212,5 @@ module _ (g : Geometry) (pos : 0 < g .sectorBytes) (img : Bytes) (acc : Accepted
       (first-not-26 (answerOf (resolveStream (v .directory) p)) _ (refused-not-26 (resolveStream (v .directory) p) (resolve-stream-low (v .directory) p))
       (cond-not-26 (ltb (streamSize v (target v p)) (offset + length bytes)) 24 0 (omega arith) (omega arith)))) refl
   answers-26-iff (setLength p new work) = length-iff p new work (resolveStream (v .directory) p) refl (resolve-stream-low (v .directory) p) .1
-  answers-26-iff (list not-small-letter work) =
-      iff-never _ 26 false (other-not-26 (list not-small-letter work) _ refl (cond-not-26 (ltb (length not-small-letter) (length (listing (v .directory)))) 27 0 (omega arith) (omega arith))) refl
+  answers-26-iff (list out work) =
+      iff-never _ 26 false (other-not-26 (list out work) _ refl (cond-not-26 (ltb (length out) (length (listing (v .directory)))) 27 0 (omega arith) (omega arith))) refl

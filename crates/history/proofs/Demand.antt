@@ -14,7 +14,6 @@ use Rattle.format.specs.Layout.Geometry.{Geometry}
 use Rattle.format.specs.Layout.Space.{freeUnits}
 use Rattle.format.specs.Layout.Stream.{streamSize}
 use Rattle.format.specs.Layout.Volume.{Volume, volume}
-use Rattle.format.specs.Layout.Entry.{isStream}
 use Rattle.format.specs.Rules.Verdict.{Accepted}
 use Rattle.format.specs.Calls.Answer.{target, answer, firstOf}
 use Rattle.format.specs.Calls.Reply.{onZero}
@@ -30,15 +29,12 @@ use Rattle.format.specs.History.Step.{accepts, changed, change, rowsStep, rowsA
 use Rattle.format.specs.History.Claim.{after, isEdit, Holds, Demand3}
 use Rattle.theory.proofs.Tests.{clash}
 use Rattle.frame.specs.Frame.{Frame}
-use Rattle.history.specs.Good.{Good}
 use Rattle.history.proofs.Refusals.{RefusedLow, resolve-stream-low}
 use Rattle.history.proofs.Room.{allocated-sectors, allocated-minis}
 use Rattle.history.proofs.Answers.{answers-0-iff, answers-26-iff, write-answer, length-answer}
 use Rattle.history.proofs.EditStep.{Step, write-step}
 use Rattle.history.proofs.LengthStep.{length-step}
-use Rattle.history.proofs.Good.{accepted-good}
 use Rattle.history.proofs.Filled.{frame-sized, Sized}
-use Rattle.history.proofs.EntryFacts.{root-plain}
 
 on-zero-same : (n : ℕ) (x : Bytes) → onZero n x x ≡ x
 unfolding onZero
@@ -63,14 +59,8 @@ module _ (g : Geometry) (pos : 0 < g .sectorBytes) (fr : Frame g) (img : Bytes) 
   abbrev v : Volume
   v = volume g img
 
-  abbrev good : Good v
-  good = accepted-good g img pos acc
-
   abbrev sized : Sized v img
   sized = frame-sized fr img acc
-
-  rootPlain : isStream (v .directory .entry 0) ≡ false
-  rootPlain = root-plain g img good
 
   -- what holds of the image itself
   pub holds-now : Holds g (settingOf g img) img (rowsOf g img)
@@ -114,10 +104,10 @@ module _ (g : Geometry) (pos : 0 < g .sectorBytes) (fr : Frame g) (img : Bytes) 
   unfolding isEdit edited changed target
   accepted-step (validate work) h a = absurd (clash h refl)
   accepted-step (find p work) h a = absurd (clash h refl)
-  accepted-step (read p offset not-small-letter work) h a = absurd (clash h refl)
+  accepted-step (read p offset out work) h a = absurd (clash h refl)
   accepted-step (overwrite p offset bytes work) h a = write-answered-0 p offset bytes work (resolveStream (v .directory) p) refl (resolve-stream-low (v .directory) p) a
   accepted-step (setLength p new work) h a = length-answered-0 p new work (resolveStream (v .directory) p) refl (resolve-stream-low (v .directory) p) a
-  accepted-step (list not-small-letter work) h a = absurd (clash h refl)
+  accepted-step (list out work) h a = absurd (clash h refl)
 
   edit-call : (c : Call) → isEdit c ≡ true → Step g img (imageAfter g img c) (rowsStep (settingOf g img) (rowsOf g img) c)
   unfolding imageAfter rowsStep onZero
@@ -142,10 +132,10 @@ module _ (g : Geometry) (pos : 0 < g .sectorBytes) (fr : Frame g) (img : Bytes) 
   unfolding edited accepts isEdit
   call-step (validate work) = other-call (validate work) refl refl
   call-step (find p work) = other-call (find p work) refl refl
-  call-step (read p offset not-small-letter work) = other-call (read p offset not-small-letter work) refl refl
+  call-step (read p offset out work) = other-call (read p offset out work) refl refl
   call-step (overwrite p offset bytes work) = edit-call (overwrite p offset bytes work) refl
   call-step (setLength p new work) = edit-call (setLength p new work) refl
-  call-step (list not-small-letter work) = other-call (list not-small-letter work) refl refl
+  call-step (list out work) = other-call (list out work) refl refl
 
 -- ---- every list of calls
 
