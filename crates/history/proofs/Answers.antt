@@ -67,18 +67,21 @@ module _ (g : Geometry) (pos : 0 < g .sectorBytes) (img : Bytes) (acc : Accepted
   rootPlain = root-plain g img good
 
   pub write-answer : (p : Path) (offset : ℕ) (bytes : Bytes) (work : List ℕ) (f : Found) → resolveStream (v .directory) p ≡ f →
-      answer g img (overwrite p offset bytes work) ≡ firstOf (cond (workFits work) 0 2) (firstOf (answerOf f) (cond (ltb (streamSize v (entryOf f)) (offset + length bytes)) 24 0))
+      answer g img (overwrite p offset bytes work) ≡ firstOf (cond (workFits work) 0 2)
+      (firstOf (answerOf f) (cond (ltb (streamSize v (entryOf f)) (offset + length bytes)) 24 0))
   unfolding answer answerIn workOf target targetAnswer beyond
   write-answer p offset bytes work f e = rw (verdict-accepted g img (length work) acc, e)
 
   pub length-answer : (p : Path) (new : ℕ) (work : List ℕ) (f : Found) → resolveStream (v .directory) p ≡ f →
       answer g img (setLength p new work) ≡ firstOf (cond (workFits work) 0 2) (firstOf (answerOf f)
-      (cond (crosses (streamSize v (entryOf f)) new) 25 (cond (tooFew g (length (freeUnits (v .sectors))) (length (freeUnits (v .minis))) (streamSize v (entryOf f)) new) 26 0)))
+      (cond (crosses (streamSize v (entryOf f)) new) 25 (cond
+      (tooFew g (length (freeUnits (v .sectors))) (length (freeUnits (v .minis))) (streamSize v (entryOf f)) new) 26 0)))
   unfolding answer answerIn workOf target targetAnswer lengthAnswer
   length-answer p new work f e = rw (verdict-accepted g img (length work) acc, e)
 
   -- what the rows say of the same call
-  rows-say : (p : Path) (e : ℕ) (b : Forest) → resolveStream (v .directory) p ≡ at e b → (k : Bool → ℕ → Bool) → k (hasRow rows p) (rowLength rows p) ≡ k true (streamSize v e)
+  rows-say : (p : Path) (e : ℕ) (b : Forest) → resolveStream (v .directory) p ≡ at e b → (k : Bool → ℕ → Bool) →
+      k (hasRow rows p) (rowLength rows p) ≡ k true (streamSize v e)
   unfolding rowsOf
   rows-say p e b f k = ap₂ k (has-row v img good sized rootPlain p f) (row-length v img good sized rootPlain p f)
 
@@ -123,7 +126,8 @@ module _ (g : Geometry) (pos : 0 < g .sectorBytes) (img : Bytes) (acc : Accepted
 
   found-length : (new : ℕ) (work : List ℕ) (e : ℕ) (b : Forest) →
       firstOf (cond (workFits work) 0 2) (firstOf (answerOf (at e b))
-      (cond (crosses (streamSize v (entryOf (at e b))) new) 25 (cond (tooFew g (length (freeUnits (v .sectors))) (length (freeUnits (v .minis))) (streamSize v (entryOf (at e b))) new) 26 0)))
+      (cond (crosses (streamSize v (entryOf (at e b))) new) 25
+      (cond (tooFew g (length (freeUnits (v .sectors))) (length (freeUnits (v .minis))) (streamSize v (entryOf (at e b))) new) 26 0)))
       ≡ firstOf (cond (workFits work) 0 2) (cond (crosses (streamSize v e) new) 25
       (cond (tooFew g (length (freeUnits (v .sectors))) (length (freeUnits (v .minis))) (streamSize v e) new) 26 0))
   unfolding firstOf answerOf entryOf
@@ -136,9 +140,11 @@ module _ (g : Geometry) (pos : 0 < g .sectorBytes) (img : Bytes) (acc : Accepted
 
   refused-length : (new : ℕ) (work : List ℕ) (n : ℕ) → (20 ≤ n) × (n ≤ 23) →
       (firstOf (cond (workFits work) 0 2) (firstOf (answerOf (refused n))
-      (cond (crosses (streamSize v (entryOf (refused n))) new) 25 (cond (tooFew g (length (freeUnits (v .sectors))) (length (freeUnits (v .minis))) (streamSize v (entryOf (refused n))) new) 26 0))) ≢ 0)
+      (cond (crosses (streamSize v (entryOf (refused n))) new) 25
+      (cond (tooFew g (length (freeUnits (v .sectors))) (length (freeUnits (v .minis))) (streamSize v (entryOf (refused n))) new) 26 0))) ≢ 0)
       × (firstOf (cond (workFits work) 0 2) (firstOf (answerOf (refused n))
-      (cond (crosses (streamSize v (entryOf (refused n))) new) 25 (cond (tooFew g (length (freeUnits (v .sectors))) (length (freeUnits (v .minis))) (streamSize v (entryOf (refused n))) new) 26 0))) ≢ 26)
+      (cond (crosses (streamSize v (entryOf (refused n))) new) 25
+      (cond (tooFew g (length (freeUnits (v .sectors))) (length (freeUnits (v .minis))) (streamSize v (entryOf (refused n))) new) 26 0))) ≢ 26)
   unfolding answerOf
   refused-length new work n l =
       refused-not-0-26 (workFits work) n (cond (crosses (streamSize v (entryOf (refused n))) new) 25
@@ -176,14 +182,18 @@ module _ (g : Geometry) (pos : 0 < g .sectorBytes) (img : Bytes) (acc : Accepted
       let c = crosses (streamSize v e) new in
       let t = tooFew g (length (freeUnits (v .sectors))) (length (freeUnits (v .minis))) (streamSize v e) new in
       let a = length-answer p new work (at e b) h ∙ found-length new work e b in (
-        iff-along (answer g img (setLength p new work)) _ (accepts s rows (setLength p new work)) _ 0 a (length-accepts p new work e b h) (length-zero-iff (workFits work) c t),
-        iff-along (answer g img (setLength p new work)) _ (answers26 s rows (setLength p new work)) _ 26 a (length-answers26 p new work e b h) (length-26-iff (workFits work) c t),
+        iff-along (answer g img (setLength p new work)) _ (accepts s rows (setLength p new work)) _ 0 a (length-accepts p new work e b h)
+            (length-zero-iff (workFits work) c t),
+        iff-along (answer g img (setLength p new work)) _ (answers26 s rows (setLength p new work)) _ 26 a (length-answers26 p new work e b h)
+            (length-26-iff (workFits work) c t),
       )
   length-iff p new work (refused n) h l =
       let a = length-answer p new work (refused n) h in
       let r = refused-unreached p n h work in (
-        iff-never (answer g img (setLength p new work)) 0 (accepts s rows (setLength p new work)) (λ z. refused-length new work n l .0 (sym a ∙ z)) (unreached-length p new work r .0),
-        iff-never (answer g img (setLength p new work)) 26 (answers26 s rows (setLength p new work)) (λ z. refused-length new work n l .1 (sym a ∙ z)) (unreached-length p new work r .1),
+        iff-never (answer g img (setLength p new work)) 0 (accepts s rows (setLength p new work)) (λ z. refused-length new work n l .0 (sym a ∙ z))
+            (unreached-length p new work r .0),
+        iff-never (answer g img (setLength p new work)) 26 (answers26 s rows (setLength p new work)) (λ z. refused-length new work n l .1 (sym a ∙ z))
+            (unreached-length p new work r .1),
       )
 
   pub answers-0-iff : (c : Call) → isEdit c ≡ true → (answer g img c ≡ 0) ↔ (accepts s rows c ≡ true)
@@ -197,7 +207,8 @@ module _ (g : Geometry) (pos : 0 < g .sectorBytes) (img : Bytes) (acc : Accepted
 
   other-not-26 : (c : Call) → (n : ℕ) → answerIn g v c ≡ n → n ≢ 26 → answer g img c ≢ 26
   unfolding answer
-  other-not-26 c n e h z = work-first-not-26 (leb (workNeed (length img)) (length (workOf c))) n h (sym (ap₂ firstOf (verdict-accepted g img (length (workOf c)) acc) e) ∙ z)
+  other-not-26 c n e h z =
+      work-first-not-26 (leb (workNeed (length img)) (length (workOf c))) n h (sym (ap₂ firstOf (verdict-accepted g img (length (workOf c)) acc) e) ∙ z)
 
   pub answers-26-iff : (c : Call) → (answer g img c ≡ 26) ↔ (answers26 s rows c ≡ true)
   unfolding answers26 answerIn targetAnswer beyond

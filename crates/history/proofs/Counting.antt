@@ -82,7 +82,9 @@ module _ (v : Volume) (img : Bytes) (o : Good v) (sized : Sized v img) where
 
   pub reached : (s : ℕ) → s < v .directory .count → count s (entries (forest (v .directory))) ≡ bit (isObject (v .directory) s)
   unfolding reachedOnce reachedRight
-  reached s h = eqb-true (count s (entries (forest (v .directory)))) (bit (isObject (v .directory) s)) (below-at (v .directory .count) (reachedRight (v .directory)) (tree-parts .1) s h)
+  reached s h =
+      eqb-true (count s (entries (forest (v .directory)))) (bit (isObject (v .directory) s))
+      (below-at (v .directory .count) (reachedRight (v .directory)) (tree-parts .1) s h)
 
   entries-need : (need : ℕ → ℕ) → sum (map (entryNeed v need) (entries (forest (v .directory)))) ≡ sumBelow (entryNeed v need) (v .directory .count)
   unfolding entryNeed
@@ -102,7 +104,8 @@ module _ (v : Volume) (img : Bytes) (o : Good v) (sized : Sized v img) where
   unfolding entryNeed unitsOf spaceNeed
   unit-need b i h = go (isStream (v .directory .entry i)) (λ st. o .chains i h st .long)
     where
-      side-need : (b side : Bool) (n : ℕ) (us : List ℕ) → length us ≡ roundUp n (spaceOf v side .unit) → length (cond (Bool·beq b side) us []) ≡ cond (Bool·beq b side) (roundUp n (spaceOf v b .unit)) 0
+      side-need : (b side : Bool) (n : ℕ) (us : List ℕ) → length us ≡ roundUp n (spaceOf v side .unit) →
+          length (cond (Bool·beq b side) us []) ≡ cond (Bool·beq b side) (roundUp n (spaceOf v b .unit)) 0
       side-need true true n us k = k
       side-need true false n us k = refl
       side-need false true n us k = refl
@@ -128,7 +131,8 @@ module _ (v : Volume) (img : Bytes) (o : Good v) (sized : Sized v img) where
       allocated-is (sp .limit) (o .lim b) (systemOf v b) (sp .cell) (entryUnits v b) (o .owned b)
       ∙ ap (λ k. length (systemOf v b) + k) (entry-units-need b)
 
-  pub free-by-rows : (b : Bool) → length (systemOf v b) + total (spaceNeed v b) (rowsIn v img [] (forest (v .directory))) + length (freeUnits (spaceOf v b)) ≡ spaceOf v b .limit
+  pub free-by-rows : (b : Bool) → length (systemOf v b) + total (spaceNeed v b) (rowsIn v img [] (forest (v .directory))) + length (freeUnits (spaceOf v b))
+      ≡ spaceOf v b .limit
   unfolding freeUnits
   free-by-rows b =
       let sp = spaceOf v b in

@@ -79,7 +79,8 @@ module _ (g : Geometry) (pos : 0 < g .sectorBytes) (fr : Frame g) (img : Bytes) 
 
   -- ---- one call
 
-  write-answered-0 : (p : Path) (offset : ℕ) (bytes : Bytes) (work : List ℕ) (f : Found) → resolveStream (v .directory) p ≡ f → RefusedLow f → answer g img (overwrite p offset bytes work) ≡ 0 →
+  write-answered-0 : (p : Path) (offset : ℕ) (bytes : Bytes) (work : List ℕ) (f : Found) → resolveStream (v .directory) p ≡ f → RefusedLow f →
+      answer g img (overwrite p offset bytes work) ≡ 0 →
       Step g img (overwritten v img (entryOf f) offset bytes) (map (change p (putInto offset bytes)) (rowsOf g img))
   unfolding answerOf entryOf
   write-answered-0 p offset bytes work (at e b) h l a =
@@ -120,11 +121,13 @@ module _ (g : Geometry) (pos : 0 < g .sectorBytes) (fr : Frame g) (img : Bytes) 
       refusal n e true k = absurd (omega (arith, says .1 k))
       refusal n e false k = refl
 
-      go : (n : ℕ) → answer g img c ≡ n → Step g img (onZero n (edited v img c) img) (cond (accepts (settingOf g img) (rowsOf g img) c) (changed (rowsOf g img) c) (rowsOf g img))
+      go : (n : ℕ) → answer g img c ≡ n → Step g img (onZero n (edited v img c) img)
+          (cond (accepts (settingOf g img) (rowsOf g img) c) (changed (rowsOf g img) c) (rowsOf g img))
       go zero e = rw (says .0 e) (accepted-step c h e)
       go (suc n) e = rw (refusal n e (accepts (settingOf g img) (rowsOf g img) c) refl) unchanged-step
 
-  other-call : (c : Call) → edited v img c ≡ img → accepts (settingOf g img) (rowsOf g img) c ≡ false → Step g img (imageAfter g img c) (rowsStep (settingOf g img) (rowsOf g img) c)
+  other-call : (c : Call) → edited v img c ≡ img → accepts (settingOf g img) (rowsOf g img) c ≡ false →
+      Step g img (imageAfter g img c) (rowsStep (settingOf g img) (rowsOf g img) c)
   unfolding imageAfter rowsStep
   other-call c e a = rw (e, a, on-zero-same (answer g img c) img) unchanged-step
 

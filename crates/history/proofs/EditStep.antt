@@ -58,7 +58,8 @@ module _ (g : Geometry) (pos : 0 < g .sectorBytes) (fr : Frame g) (img : Bytes) 
 
   -- ---- an edit of the stream e that the path p leads to, with the function f on its bytes
 
-  module _ (p : Path) {e new : ℕ} {b : Forest} (found : resolveStream (v .directory) p ≡ at e b) (img′ : Bytes) {ws : Bool → List ℕ} {c : Bool → Bytes} (f : Bytes → Bytes)
+  module _ (p : Path) {e new : ℕ} {b : Forest} (found : resolveStream (v .directory) p ≡ at e b) (img′ : Bytes) {ws : Bool → List ℕ} {c : Bool → Bytes}
+      (f : Bytes → Bytes)
       (x : Changed v (volume g img′) img img′ e new ws c) (kept : Preserved g img img′) (mine : contents (volume g img′) img′ e ≡ f (contents v img e)) where
     edit-accepted : Accepted g img′
     edit-accepted =

@@ -36,18 +36,21 @@ module _ {v w : Volume} {img img′ : Bytes} {e new : ℕ} {ws : Bool → List �
   system-cells-stay : (s : ℕ) → 0 < count s (systemSectors v) → w .sectors .cell s ≡ v .sectors .cell s
   system-cells-stay s h =
       let d = o .owned false in
-      stays (v .sectors .limit) (o .lim false) (systemSectors v) (v .sectors .cell) (entryUnits v false) d e (in-entry-units o x false) (ws false) (edit-becomes o x false)
+      stays (v .sectors .limit) (o .lim false) (systemSectors v) (v .sectors .cell) (entryUnits v false) d e (in-entry-units o x false) (ws false)
+      (edit-becomes o x false)
       (w .sectors .cell) (edit-cells o x false) s (d .within s h) (d .system s h) (omega (arith, owners-at s e (entryUnits v false), d .single s))
 
   system-chain-stays : (us : List ℕ) (s n : ℕ) → ((t : ℕ) → 0 < count t us → 0 < count t (systemSectors v)) → Chain (v .sectors) us s n → Chain (w .sectors) us s n
   system-chain-stays us s n inside k =
       record {
-        linked = rw (x .parts .sectorLimit) (linked-agree (v .sectors .cell) (w .sectors .cell) (v .sectors .limit) us (λ t q. system-cells-stay t (inside t q)) (k .linked));
+        linked = rw (x .parts .sectorLimit) (linked-agree (v .sectors .cell) (w .sectors .cell) (v .sectors .limit) us (λ t q. system-cells-stay t (inside t q))
+            (k .linked));
         head = k .head;
         long = k .long;
       }
 
-  counts-in-system : (t : ℕ) → (count t (v .directorySectors) ≤ count t (systemSectors v)) × (count t (v .miniFat) ≤ count t (systemSectors v)) × (count t (v .miniStream) ≤ count t (systemSectors v))
+  counts-in-system : (t : ℕ) → (count t (v .directorySectors) ≤ count t (systemSectors v)) × (count t (v .miniFat) ≤ count t (systemSectors v)) ×
+      (count t (v .miniStream) ≤ count t (systemSectors v))
   unfolding systemSectors
   counts-in-system t =
       let a = count-append t (v .fat ++ v .difat) (v .directorySectors) in
@@ -160,11 +163,14 @@ module _ {v w : Volume} {img img′ : Bytes} {e new : ℕ} {ws : Bool → List �
         cells = cells-after;
         entries = entries-after;
         trees = trees-same (v .directory) (w .directory) alike ∙ o .trees;
-        directory = rw (x .parts .directorySectors, x .parts .directoryStart) (system-chain-stays (v .directorySectors) (v .directoryStart) (length (v .directorySectors)) (λ t q. omega (arith, counts-in-system t .0)) (o .directory));
+        directory = rw (x .parts .directorySectors, x .parts .directoryStart)
+            (system-chain-stays (v .directorySectors) (v .directoryStart) (length (v .directorySectors)) (λ t q. omega (arith, counts-in-system t .0)) (o .directory));
         directoryLong = rw (x .parts .directorySectors) (o .directoryLong);
-        miniFat = rw (x .parts .miniFat, x .parts .miniFatStart, x .parts .miniFatCount) (system-chain-stays (v .miniFat) (v .miniFatStart) (v .miniFatCount) (λ t q. omega (arith, counts-in-system t .1)) (o .miniFat));
+        miniFat = rw (x .parts .miniFat, x .parts .miniFatStart, x .parts .miniFatCount)
+            (system-chain-stays (v .miniFat) (v .miniFatStart) (v .miniFatCount) (λ t q. omega (arith, counts-in-system t .1)) (o .miniFat));
         miniStream =
-            let k = system-chain-stays (v .miniStream) (start (root v)) (roundUp (size (root v)) (v .sectors .unit)) (λ t q. omega (arith, counts-in-system t .2)) (o .miniStream) in
+            let k = system-chain-stays (v .miniStream) (start (root v)) (roundUp (size (root v)) (v .sectors .unit)) (λ t q. omega (arith, counts-in-system t .2))
+            (o .miniStream) in
             record {
               linked = subst (λ us. Linked (w .sectors .cell) (w .sectors .limit) us) (sym (x .parts .miniStream)) (k .linked);
               head = ap startOf (x .parts .miniStream) ∙ k .head ∙ sym (ap start root-same);

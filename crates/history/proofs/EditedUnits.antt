@@ -83,7 +83,8 @@ module _ {v w : Volume} {img img′ : Bytes} {e new : ℕ} {ws : Bool → List �
 
   pub owned-new : (b : Bool) → Owned (spaceOf v b .limit) (systemOf v b) (spaceOf w b .cell) (set (entryUnits v b) e (ws b))
   owned-new b =
-      owned-rechained (spaceOf v b .limit) (o .lim b) (systemOf v b) (spaceOf v b .cell) (entryUnits v b) (o .owned b) e (in-entry-units b) (ws b) (edit-becomes b) (spaceOf w b .cell) (edit-cells b)
+      owned-rechained (spaceOf v b .limit) (o .lim b) (systemOf v b) (spaceOf v b .cell) (entryUnits v b) (o .owned b) e (in-entry-units b) (ws b) (edit-becomes b)
+      (spaceOf w b .cell) (edit-cells b)
 
   other-linked : (b : Bool) (i : ℕ) → i < v .directory .count → i ≢ e → Linked (spaceOf w b .cell) (spaceOf v b .limit) (unitsOf v b i)
   unfolding entryUnits
@@ -97,7 +98,8 @@ module _ {v w : Volume} {img img′ : Bytes} {e new : ℕ} {ws : Bool → List �
       (owned-new b .chains e (rw (length-set (entryUnits v b) e (ws b)) (in-entry-units b)))
 
   -- the units as they are found in the new cells
-  units-refound : (side : Bool) (n s : ℕ) (us : List ℕ) → Linked (spaceOf w side .cell) (spaceOf v side .limit) us → length us ≡ roundUp n (spaceOf v side .unit) → startOf us ≡ s →
+  units-refound : (side : Bool) (n s : ℕ) (us : List ℕ) → Linked (spaceOf w side .cell) (spaceOf v side .limit) us → length us ≡ roundUp n (spaceOf v side .unit) →
+      startOf us ≡ s →
       units (spaceOf w side .cell) (roundUp n (spaceOf w side .unit)) s ≡ us
   units-refound side n s us l k h = rw (unit-same side) (linked-chain (spaceOf w side .cell) (spaceOf v side .limit) (roundUp n (spaceOf v side .unit)) s us l k h .1)
 

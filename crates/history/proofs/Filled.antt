@@ -60,8 +60,10 @@ module _ (v : Volume) (img : Bytes) (o : Good v) (sized : Sized v img) where
       ap length (contents-read v img i n us refl refl)
       ∙ length-take-le n (laid (block sp img) us) (rw (laid-length (sp .unit) (block sp img) us (unit-full i h st)) (enough-units i h st))
 
-module _ {v w : Volume} {img img′ : Bytes} {e new : ℕ} {ws : Bool → List ℕ} {c : Bool → Bytes} (o : Good v) (x : Changed v w img img′ e new ws c) (sized : Sized v img) where
-  table-kept : (b : Bool) → Kept (spaceOf v b .limit) (spaceOf v b .unit) (systemOf v b) (record { cells = spaceOf v b .cell; blocks = block (spaceOf v b) img }) (entryUnits v b)
+module _ {v w : Volume} {img img′ : Bytes} {e new : ℕ} {ws : Bool → List ℕ} {c : Bool → Bytes} (o : Good v) (x : Changed v w img img′ e new ws c)
+    (sized : Sized v img) where
+  table-kept : (b : Bool) → Kept (spaceOf v b .limit) (spaceOf v b .unit) (systemOf v b) (record { cells = spaceOf v b .cell; blocks = block (spaceOf v b) img })
+      (entryUnits v b)
   table-kept b = record { owned = o .owned b; sized = sized b }
 
   table-edited : (b : Bool) → Edited (spaceOf v b .limit) (spaceOf v b .unit) (systemOf v b) (record { cells = spaceOf v b .cell; blocks = block (spaceOf v b) img })
@@ -70,14 +72,22 @@ module _ {v w : Volume} {img img′ : Bytes} {e new : ℕ} {ws : Bool → List �
 
   edited-laid : (b : Bool) → laid (block (spaceOf w b) img′) (ws b) ≡ c b
   edited-laid b =
-      edited-content (spaceOf v b .limit) (spaceOf v b .unit) (o .lim b) (systemOf v b) (record { cells = spaceOf v b .cell; blocks = block (spaceOf v b) img }) (entryUnits v b) (table-kept b)
+      edited-content (spaceOf v b .limit) (spaceOf v b .unit) (o .lim b) (systemOf v b) (record {
+        cells =
+            spaceOf v b .cell;
+        blocks = block (spaceOf v b) img;
+      }) (entryUnits v b) (table-kept b)
       e (in-entry-units o x b) (ws b) (edit-becomes o x b) (c b) (x .full b)
       (record { cells = spaceOf w b .cell; blocks = block (spaceOf w b) img′ }) (table-edited b)
 
   others-laid : (b : Bool) (i : ℕ) → i < length (entryUnits v b) → i ≢ e →
       laid (block (spaceOf w b) img′) (getD (entryUnits v b) i []) ≡ laid (block (spaceOf v b) img) (getD (entryUnits v b) i [])
   others-laid b =
-      edited-others (spaceOf v b .limit) (spaceOf v b .unit) (o .lim b) (systemOf v b) (record { cells = spaceOf v b .cell; blocks = block (spaceOf v b) img }) (entryUnits v b) (table-kept b)
+      edited-others (spaceOf v b .limit) (spaceOf v b .unit) (o .lim b) (systemOf v b) (record {
+        cells =
+            spaceOf v b .cell;
+        blocks = block (spaceOf v b) img;
+      }) (entryUnits v b) (table-kept b)
       e (in-entry-units o x b) (ws b) (edit-becomes o x b) (c b) (x .full b)
       (record { cells = spaceOf w b .cell; blocks = block (spaceOf w b) img′ }) (table-edited b)
 

@@ -42,7 +42,8 @@ module _ (v : Volume) (img : Bytes) (o : Good v) (sized : Sized v img) (rootPlai
       let r = entry-fields o x k in
       name-fields-legal (v .directory .entry x) (go (isStream (v .directory .entry x)) refl a r)
     where
-      go : (t : Bool) → isStream (v .directory .entry x) ≡ t → (isStorage (v .directory .entry x) || t) ≡ true → entryFields x (v .directory .entry x) ≡ true → nameFields (v .directory .entry x) ≡ true
+      go : (t : Bool) → isStream (v .directory .entry x) ≡ t → (isStorage (v .directory .entry x) || t) ≡ true → entryFields x (v .directory .entry x) ≡ true →
+          nameFields (v .directory .entry x) ≡ true
       go true s a r = stream-fields-say (v .directory .entry x) (stream-fields-of (v .directory .entry x) x r s) .0
       go false s a r = storage-fields-say (v .directory .entry x) (storage-fields-of (v .directory .entry x) x r (or-only (isStorage (v .directory .entry x)) a))
 
@@ -101,4 +102,11 @@ module _ (v : Volume) (img : Bytes) (o : Good v) (sized : Sized v img) (rootPlai
         ]
 
     pub found-hit-everywhere : count e (hits (v .directory) (strip (names p) []) (forest (v .directory))) ≡ count e (entries (forest (v .directory)))
-    found-hit-everywhere = omega (arith, ap (count e) hits-one, bit-self e, reached v img o sized e is-inside ∙ ap (λ t. bit (isStorage (v .directory .entry e) || t)) is-stream ∙ ap bit (or-true (isStorage (v .directory .entry e))))
+    found-hit-everywhere =
+        omega (
+          arith,
+          ap (count e) hits-one,
+          bit-self e,
+          reached v img o sized e is-inside ∙ ap (λ t. bit (isStorage (v .directory .entry e) || t)) is-stream
+              ∙ ap bit (or-true (isStorage (v .directory .entry e))),
+        )

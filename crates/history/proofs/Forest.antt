@@ -18,7 +18,8 @@ use Rattle.theory.proofs.Tests.{both}
 pub named-below : (d : Directory) (x : ℕ) → named d x ≡ true → x < d .count
 named-below d x h = ltb-true x (d .count) (both (ltb 0 x) (ltb x (d .count)) h .1)
 
-pub count-node : (s : ℕ) (l : Forest) (e : ℕ) (b r : Forest) → count s (entries (node l e b r)) ≡ count s (entries l) + (bit (eqb s e) + (count s (entries b) + count s (entries r)))
+pub count-node : (s : ℕ) (l : Forest) (e : ℕ) (b r : Forest) →
+    count s (entries (node l e b r)) ≡ count s (entries l) + (bit (eqb s e) + (count s (entries b) + count s (entries r)))
 unfolding entries
 count-node s l e b r =
     let a1 = count-append s (entries l) (e ∷ (entries b ++ entries r)) in

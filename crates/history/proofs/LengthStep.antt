@@ -55,12 +55,14 @@ needs-in-space : (g : Geometry) (img : Bytes) (old new : ℕ) (side : Bool) → 
     (sectorNeed g new ≤ sectorNeed g old + length (freeUnits (volume g img .sectors))) × (miniNeed new ≤ miniNeed old + length (freeUnits (volume g img .minis))) →
     (n : ℕ) → n ≡ roundUp old (spaceOf (volume g img) side .unit) → roundUp new (spaceOf (volume g img) side .unit) ≤ n + length (freeUnits (spaceOf (volume g img) side))
 unfolding sectorNeed miniNeed volume sectorSpace miniSpace
-needs-in-space g img old new true h r n e = need-le (ltb old cutoff) (roundUp old miniBytes) (roundUp new miniBytes) (length (freeUnits (volume g img .minis))) n e (rw h at (r .1))
+needs-in-space g img old new true h r n e =
+    need-le (ltb old cutoff) (roundUp old miniBytes) (roundUp new miniBytes) (length (freeUnits (volume g img .minis))) n e (rw h at (r .1))
   where
     need-le : (t : Bool) (a b k n : ℕ) → n ≡ a → b ≤ cond t a 0 + k → b ≤ n + k
     need-le true a b k n e h = omega arith
     need-le false a b k n e h = omega arith
-needs-in-space g img old new false h r n e = need-le (ltb old cutoff) (roundUp old (g .sectorBytes)) (roundUp new (g .sectorBytes)) (length (freeUnits (volume g img .sectors))) n e (rw h at (r .0))
+needs-in-space g img old new false h r n e =
+    need-le (ltb old cutoff) (roundUp old (g .sectorBytes)) (roundUp new (g .sectorBytes)) (length (freeUnits (volume g img .sectors))) n e (rw h at (r .0))
   where
     need-le : (t : Bool) (a b k n : ℕ) → n ≡ a → b ≤ cond t 0 a + k → b ≤ n + k
     need-le true a b k n e h = omega arith

@@ -90,7 +90,8 @@ module _ (v : Volume) (img : Bytes) (o : Good v) (sized : Sized v img) (e new : 
   no-units : old ≡ 0 → us ≡ []
   no-units z =
       let c = o .chains e inside stream in
-      let k : length us ≡ 0 = c .long ∙ ap (λ n. roundUp n (spaceOf v (ltb old cutoff) .unit)) z ∙ round-zero (spaceOf v (ltb old cutoff) .unit) (o .unit (ltb old cutoff)) in
+      let k : length us ≡ 0 = c .long ∙ ap (λ n. roundUp n (spaceOf v (ltb old cutoff) .unit)) z
+      ∙ round-zero (spaceOf v (ltb old cutoff) .unit) (o .unit (ltb old cutoff)) in
       go us k
     where
       go : (xs : List ℕ) → length xs ≡ 0 → xs ≡ []

@@ -53,12 +53,15 @@ unfolding nameLess
 less-asym a b h k =
     elim (decLt (length a) (length b)) [
       | yes p ↦
-          let q = or-second (ltb (length b) (length a)) (eqb (length b) (length a) && unitsLess (map fold b) (map fold a)) k (le-ltb (length b) (length a) (omega arith)) in
+          let q = or-second (ltb (length b) (length a)) (eqb (length b) (length a) && unitsLess (map fold b) (map fold a)) k
+          (le-ltb (length b) (length a) (omega arith)) in
           omega (arith, eqb-true (length b) (length a) (both (eqb (length b) (length a)) (unitsLess (map fold b) (map fold a)) q .0))
       | no n ↦
-          let q = or-second (ltb (length a) (length b)) (eqb (length a) (length b) && unitsLess (map fold a) (map fold b)) h (le-ltb (length a) (length b) (omega arith)) in
+          let q = or-second (ltb (length a) (length b)) (eqb (length a) (length b) && unitsLess (map fold a) (map fold b)) h
+          (le-ltb (length a) (length b) (omega arith)) in
           let e = eqb-true (length a) (length b) (both (eqb (length a) (length b)) (unitsLess (map fold a) (map fold b)) q .0) in
-          let r = or-second (ltb (length b) (length a)) (eqb (length b) (length a) && unitsLess (map fold b) (map fold a)) k (le-ltb (length b) (length a) (omega arith)) in
+          let r = or-second (ltb (length b) (length a)) (eqb (length b) (length a) && unitsLess (map fold b) (map fold a)) k
+          (le-ltb (length b) (length a) (omega arith)) in
           units-asym (map fold a) (map fold b) (both (eqb (length a) (length b)) (unitsLess (map fold a) (map fold b)) q .1)
           (both (eqb (length b) (length a)) (unitsLess (map fold b) (map fold a)) r .1)
     ]
@@ -153,7 +156,8 @@ legal-units (x ∷ a) [] e h = absurd (omega (arith, ap length e))
 legal-units (x ∷ a) (y ∷ b) e h =
     let p : fold x ≡ fold y = cc in
     let q : map fold a ≡ map fold b = cc in
-    and-true-of (legalUnit x) (all legalUnit a) (legal-unit x y p (both (legalUnit y) (all legalUnit b) h .0)) (legal-units a b q (both (legalUnit y) (all legalUnit b) h .1))
+    and-true-of (legalUnit x) (all legalUnit a) (legal-unit x y p (both (legalUnit y) (all legalUnit b) h .0))
+    (legal-units a b q (both (legalUnit y) (all legalUnit b) h .1))
 
 pub legal-name : (n m : Name) → nameEqual n m ≡ true → legalName m ≡ true → legalName n ≡ true
 unfolding legalName

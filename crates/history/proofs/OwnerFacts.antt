@@ -57,7 +57,8 @@ make-owned sp sys L them e ok chains facts = record { chains = chains; single = 
                 | yes p ↦ absurd (omega (arith, facts s p .0))
                 | no r ↦
                     elim (decLt 0 (owners s L)) [
-                      | yes p ↦ let k = owner-place s L p in absurd (omega (arith, linked-below (sp .cell) (sp .limit) (getD L (k .0) []) (chains (k .0) (k .1)) s (k .2)))
+                      | yes p ↦ let k = owner-place s L p in absurd
+                          (omega (arith, linked-below (sp .cell) (sp .limit) (getD L (k .0) []) (chains (k .0) (k .1)) s (k .2)))
                       | no t ↦ omega arith
                     ]
               ]

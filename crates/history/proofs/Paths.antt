@@ -52,7 +52,8 @@ child-hits-missing : (d : Directory) (ns : List Name) → childHits d ns missing
 unfolding childHits
 child-hits-missing d ns = refl
 
-child-hits-present : (d : Directory) (ns : List Name) (y : ℕ) (b : Forest) → childHits d ns (present y b) ≡ cond (isStream (d .entry y) && isNone ns) (y ∷ []) [] ++ hits d (rest ns) b
+child-hits-present : (d : Directory) (ns : List Name) (y : ℕ) (b : Forest) →
+    childHits d ns (present y b) ≡ cond (isStream (d .entry y) && isNone ns) (y ∷ []) [] ++ hits d (rest ns) b
 unfolding childHits
 child-hits-present d ns y b = refl
 
@@ -61,7 +62,8 @@ unfolding descend enter
 descend-refused d a [] = refl
 descend-refused d a (n ∷ ns) = descend-refused d a ns
 
-descend-hits : (d : Directory) (ns : List Name) (e : ℕ) (t : Forest) → everyNode (sidesOrdered d) t ≡ true → everyNode (streamIsLeaf d) t ≡ true → (isStream (d .entry e) ≡ true → t ≡ empty) →
+descend-hits : (d : Directory) (ns : List Name) (e : ℕ) (t : Forest) → everyNode (sidesOrdered d) t ≡ true → everyNode (streamIsLeaf d) t ≡ true →
+    (isStream (d .entry e) ≡ true → t ≡ empty) →
     foundList (needStream d (descend d (at e t) ns)) ≡ cond (isStream (d .entry e) && isNone ns) (e ∷ []) [] ++ hits d (rest ns) t
 unfolding descend enter foundChild needStream foundList isNone
 descend-hits d [] e t o f z = rw (hits-end d t) (go (isStream (d .entry e)))
@@ -94,7 +96,8 @@ unfolding all isNone
 illegal-not-none [] z = absurd (clash refl z)
 illegal-not-none (n ∷ ns) z = refl
 
-legal-hits : (d : Directory) (t : Forest) → ((x : ℕ) → 0 < count x (entries t) → legalName (name (d .entry x)) ≡ true) → (ns : List Name) → all legalName ns ≡ false → hits d (rest ns) t ≡ []
+legal-hits : (d : Directory) (t : Forest) → ((x : ℕ) → 0 < count x (entries t) → legalName (name (d .entry x)) ≡ true) → (ns : List Name) →
+    all legalName ns ≡ false → hits d (rest ns) t ≡ []
 unfolding hits entries
 legal-hits d empty h ns z = refl
 legal-hits d broken h ns z = refl
@@ -108,7 +111,8 @@ legal-hits d (node l y b r) h (n ∷ ns) z =
     (go (nameEqual n (name (d .entry y))) refl (h y (omega (arith, bit-self y)))
     (legal-hits d b (λ x q. h x (omega (arith, count-append x (entries l) (y ∷ (entries b ++ entries r)), count-append x (entries b) (entries r))))))
   where
-    go : (t : Bool) → nameEqual n (name (d .entry y)) ≡ t → legalName (name (d .entry y)) ≡ true → ((ns : List Name) → all legalName ns ≡ false → hits d (rest ns) b ≡ []) →
+    go : (t : Bool) → nameEqual n (name (d .entry y)) ≡ t → legalName (name (d .entry y)) ≡ true →
+        ((ns : List Name) → all legalName ns ≡ false → hits d (rest ns) b ≡ []) →
         ownHit d (rest (n ∷ ns)) y ++ (hits d (advance (rest (n ∷ ns)) (name (d .entry y))) b ++ []) ≡ []
     go false e k r = let u = advance-fails n (name (d .entry y)) ns e in rw (own-hit-off d (rest (n ∷ ns)) y u, u, hits-off d b)
     go true e k r =
@@ -129,7 +133,8 @@ tree-every q true some t h = refl
 tree-every q false true t h = h refl
 tree-every q false false t h = refl
 
-node-every : (q : Forest → ℕ → Forest → Forest → Bool) (l : Forest) (x : ℕ) (b r : Forest) → q l x b r ≡ true → everyNode q l ≡ true → everyNode q b ≡ true → everyNode q r ≡ true →
+node-every : (q : Forest → ℕ → Forest → Forest → Bool) (l : Forest) (x : ℕ) (b r : Forest) → q l x b r ≡ true → everyNode q l ≡ true → everyNode q b ≡ true →
+    everyNode q r ≡ true →
     everyNode q (node l x b r) ≡ true
 unfolding everyNode
 node-every q l x b r h p k s = rw (h, p, k, s)
@@ -147,7 +152,8 @@ leaf-of-empty d l e b r h = go (isStream (d .entry e)) h
     go false k = refl
 
 -- where the child of every stream is NOSTREAM, no stream has anything below it
-grow-leaf : (d : Directory) → ((x : ℕ) → named d x ≡ true → isStream (d .entry x) ≡ true → child (d .entry x) ≡ NOSTREAM) → (depth x : ℕ) → everyNode (streamIsLeaf d) (grow d depth x) ≡ true
+grow-leaf : (d : Directory) → ((x : ℕ) → named d x ≡ true → isStream (d .entry x) ≡ true → child (d .entry x) ≡ NOSTREAM) → (depth x : ℕ) →
+    everyNode (streamIsLeaf d) (grow d depth x) ≡ true
 unfolding grow
 grow-leaf d h zero x = tree-every (streamIsLeaf d) (eqb x NOSTREAM) false broken (λ z. absurd (clash z refl))
 grow-leaf d h (suc depth) x =
@@ -177,7 +183,8 @@ pub path-hits : (d : Directory) (p : Path) → Findable d → foundList (resolve
 unfolding resolveStream resolve wellFormed
 path-hits d p f = go (all legalName (names p)) refl
   where
-    go : (t : Bool) → all legalName (names p) ≡ t → foundList (needStream d (cond t (descend d (at 0 (forest d)) (names p)) (refused 20))) ≡ hits d (rest (names p)) (forest d)
+    go : (t : Bool) → all legalName (names p) ≡ t → foundList (needStream d (cond t (descend d (at 0 (forest d)) (names p)) (refused 20)))
+        ≡ hits d (rest (names p)) (forest d)
     go true e =
         descend-hits d (names p) 0 (forest d) (f .ordered) (forest-leaf d (f .leaves)) (λ st. absurd (clash st (f .rootPlain)))
         ∙ rw (f .rootPlain)

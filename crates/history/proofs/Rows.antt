@@ -50,17 +50,21 @@ unfolding meantLengths firstOr0 rowLength
 row-length-meant [] p = refl
 row-length-meant (r ∷ rs) p = go (means p r) (row-length-meant rs p)
   where
-    go : (t : Bool) → rowLength rs p ≡ firstOr0 (meantLengths rs p) → cond t (length (r .bytes)) (rowLength rs p) ≡ firstOr0 (cond t (length (r .bytes) ∷ []) [] ++ meantLengths rs p)
+    go : (t : Bool) → rowLength rs p ≡ firstOr0 (meantLengths rs p) →
+        cond t (length (r .bytes)) (rowLength rs p) ≡ firstOr0 (cond t (length (r .bytes) ∷ []) [] ++ meantLengths rs p)
     go true h = refl
     go false h = h
 
 meant-append : (a b : List Row) (p : Path) → meantLengths (a ++ b) p ≡ meantLengths a p ++ meantLengths b p
 unfolding meantLengths
 meant-append [] b p = refl
-meant-append (r ∷ a) b p = ap (λ t. cond (means p r) (length (r .bytes) ∷ []) [] ++ t) (meant-append a b p) ∙ sym (append-assoc (cond (means p r) (length (r .bytes) ∷ []) []) (meantLengths a p) (meantLengths b p))
+meant-append (r ∷ a) b p =
+    ap (λ t. cond (means p r) (length (r .bytes) ∷ []) [] ++ t) (meant-append a b p)
+    ∙ sym (append-assoc (cond (means p r) (length (r .bytes) ∷ []) []) (meantLengths a p) (meantLengths b p))
 
 -- the row of the entry y, below `before`
-row-means : (p : Path) (before : List Name) (m : Name) (bytes : Bytes) → means p (record { path = before ++ (m ∷ []); bytes = bytes }) ≡ isDone (advance (strip (names p) before) m)
+row-means : (p : Path) (before : List Name) (m : Name) (bytes : Bytes) →
+    means p (record { path = before ++ (m ∷ []); bytes = bytes }) ≡ isDone (advance (strip (names p) before) m)
 unfolding means
 row-means p before m bytes = same-path-strip (names p) (before ++ (m ∷ [])) ∙ ap isDone (strip-snoc (names p) before m)
 
@@ -96,7 +100,8 @@ rows-meant v img p before (node l y b r) =
     ∙ sym (map-append f (hits (v .directory) k l) (ownHit (v .directory) k y ++ (hits (v .directory) (advance k m) b ++ hits (v .directory) k r))
     ∙ ap (λ t. map f (hits (v .directory) k l) ++ t) (map-append f (ownHit (v .directory) k y) (hits (v .directory) (advance k m) b ++ hits (v .directory) k r)
     ∙ ap (λ t. map f (ownHit (v .directory) k y) ++ t) (map-append f (hits (v .directory) (advance k m) b) (hits (v .directory) k r)))
-    ∙ append-regroup (map f (hits (v .directory) k l)) (map f (ownHit (v .directory) k y)) (map f (hits (v .directory) (advance k m) b)) (map f (hits (v .directory) k r)))
+    ∙ append-regroup (map f (hits (v .directory) k l)) (map f (ownHit (v .directory) k y)) (map f (hits (v .directory) (advance k m) b))
+    (map f (hits (v .directory) k r)))
   where
     one-meant : (st : Bool) → isStream (v .directory .entry y) ≡ st →
         meantLengths (cond st (record { path = before ++ (name (v .directory .entry y) ∷ []); bytes = contents v img y } ∷ []) []) p
@@ -117,7 +122,8 @@ module _ (v w : Volume) (img img′ : Bytes) (e : ℕ) (p : Path) (f : Bytes →
     (others : (i : ℕ) → i < v .directory .count → i ≢ e → isStream (v .directory .entry i) ≡ true → contents w img′ i ≡ contents v img i) where
   one-row : (before : List Name) (y : ℕ) → y < v .directory .count →
       ((x : ℕ) → 0 < count x (ownHit (v .directory) (strip (names p) before) y) → x ≡ e) →
-      (isStream (v .directory .entry y) ≡ true → y ≡ e → 0 < count e (ownHit (v .directory) (strip (names p) before) y)) → (st : Bool) → isStream (v .directory .entry y) ≡ st →
+      (isStream (v .directory .entry y) ≡ true → y ≡ e → 0 < count e (ownHit (v .directory) (strip (names p) before) y)) → (st : Bool) →
+      isStream (v .directory .entry y) ≡ st →
       cond st (record { path = before ++ (name (v .directory .entry y) ∷ []); bytes = contents w img′ y } ∷ []) []
       ≡ map (change p f) (cond st (record { path = before ++ (name (v .directory .entry y) ∷ []); bytes = contents v img y } ∷ []) [])
   unfolding change
@@ -134,7 +140,8 @@ module _ (v w : Volume) (img img′ : Bytes) (e : ℕ) (p : Path) (f : Bytes →
 
       hit : (y e : ℕ) → y ≡ e → isStream (v .directory .entry y) ≡ true → 0 < count e (ownHit (v .directory) (strip (names p) before) y) →
           isDone (advance (strip (names p) before) (name (v .directory .entry y))) ≡ true
-      hit y e q st h = go (isDone (advance (strip (names p) before) (name (v .directory .entry y)))) refl (rw (own-hit-stream (v .directory) (strip (names p) before) y st) at h)
+      hit y e q st h =
+          go (isDone (advance (strip (names p) before) (name (v .directory .entry y)))) refl (rw (own-hit-stream (v .directory) (strip (names p) before) y st) at h)
         where
           go : (t : Bool) → isDone (advance (strip (names p) before) (name (v .directory .entry y))) ≡ t → 0 < count e (cond t (y ∷ []) []) → t ≡ true
           go true u h = refl
@@ -142,7 +149,8 @@ module _ (v w : Volume) (img img′ : Bytes) (e : ℕ) (p : Path) (f : Bytes →
 
       no-hit : (y : ℕ) → isStream (v .directory .entry y) ≡ true → (0 < count y (ownHit (v .directory) (strip (names p) before) y) → y ≡ e) → y ≢ e →
           isDone (advance (strip (names p) before) (name (v .directory .entry y))) ≡ false
-      no-hit y st h q = go (isDone (advance (strip (names p) before) (name (v .directory .entry y)))) (rw (own-hit-stream (v .directory) (strip (names p) before) y st) at h)
+      no-hit y st h q =
+          go (isDone (advance (strip (names p) before) (name (v .directory .entry y)))) (rw (own-hit-stream (v .directory) (strip (names p) before) y st) at h)
         where
           go : (t : Bool) → (0 < count y (cond t (y ∷ []) []) → y ≡ e) → t ≡ false
           go false h = refl
@@ -182,7 +190,8 @@ module _ (v w : Volume) (img img′ : Bytes) (e : ℕ) (p : Path) (f : Bytes →
     where
       parts : (k : Want) (m : Name) (l : Forest) (y : ℕ) (b r : Forest) (x : ℕ) →
           count x (hits (v .directory) k l ++ (ownHit (v .directory) k y ++ (hits (v .directory) (advance k m) b ++ hits (v .directory) k r)))
-          ≡ count x (hits (v .directory) k l) + (count x (ownHit (v .directory) k y) + (count x (hits (v .directory) (advance k m) b) + count x (hits (v .directory) k r)))
+          ≡ count x (hits (v .directory) k l) + (count x (ownHit (v .directory) k y) +
+          (count x (hits (v .directory) (advance k m) b) + count x (hits (v .directory) k r)))
       parts k m l y b r x =
           let a = count-append x (hits (v .directory) k l) (ownHit (v .directory) k y ++ (hits (v .directory) (advance k m) b ++ hits (v .directory) k r)) in
           let b1 = count-append x (ownHit (v .directory) k y) (hits (v .directory) (advance k m) b ++ hits (v .directory) k r) in

@@ -28,7 +28,8 @@ unfolding advance
 advance-fails n m ns h = rw h
 
 -- no sibling has the name
-no-sibling-hits : (d : Directory) (n : Name) (ns : List Name) (t : Forest) → ((x : ℕ) → 0 < count x (siblings t) → nameEqual n (name (d .entry x)) ≡ false) → hits d (rest (n ∷ ns)) t ≡ []
+no-sibling-hits : (d : Directory) (n : Name) (ns : List Name) (t : Forest) → ((x : ℕ) → 0 < count x (siblings t) → nameEqual n (name (d .entry x)) ≡ false) →
+    hits d (rest (n ∷ ns)) t ≡ []
 unfolding hits siblings
 no-sibling-hits d n ns empty h = refl
 no-sibling-hits d n ns broken h = refl
@@ -84,7 +85,8 @@ child-found d n (node l y b r) z c h =
     count-siblings : (s : ℕ) → count s (siblings l ++ (y ∷ siblings r)) ≡ count s (siblings l) + (bit (eqb s y) + count s (siblings r))
     count-siblings s = count-append s (siblings l) (y ∷ siblings r)
 
-    go : (k : Child) (t : Bool) → childNamed d n l ≡ k → nameEqual n (name (d .entry y)) ≡ t → orElse k (orElse (cond t (present y b) missing) (childNamed d n r)) ≡ present z c →
+    go : (k : Child) (t : Bool) → childNamed d n l ≡ k → nameEqual n (name (d .entry y)) ≡ t →
+        orElse k (orElse (cond t (present y b) missing) (childNamed d n r)) ≡ present z c →
         (childNamed d n l ≡ present z c → Sibling d n l z c) → (childNamed d n r ≡ present z c → Sibling d n r z c) → Sibling d n (node l y b r) z c
     go (present a f) t e u h p q =
         let s = p (e ∙ h) in
@@ -108,13 +110,15 @@ unfoldable pub childHits : Directory → List Name → Child → List ℕ
 childHits d ns missing = []
 childHits d ns (present y b) = cond (isStream (d .entry y) && isNone ns) (y ∷ []) [] ++ hits d (rest ns) b
 
-ordered-left : (d : Directory) (l : Forest) (y : ℕ) (b r : Forest) → sidesOrdered d l y b r ≡ true → (x : ℕ) → 0 < count x (siblings l) → nameLess (name (d .entry x)) (name (d .entry y)) ≡ true
+ordered-left : (d : Directory) (l : Forest) (y : ℕ) (b r : Forest) → sidesOrdered d l y b r ≡ true → (x : ℕ) → 0 < count x (siblings l) →
+    nameLess (name (d .entry x)) (name (d .entry y)) ≡ true
 unfolding sidesOrdered greater less
 ordered-left d l y b r h x q =
     all-at (greater d y) (siblings l)
     (both (all (greater d y) (siblings l)) (all (less d y) (siblings r)) h .0) x q
 
-ordered-right : (d : Directory) (l : Forest) (y : ℕ) (b r : Forest) → sidesOrdered d l y b r ≡ true → (x : ℕ) → 0 < count x (siblings r) → nameLess (name (d .entry y)) (name (d .entry x)) ≡ true
+ordered-right : (d : Directory) (l : Forest) (y : ℕ) (b r : Forest) → sidesOrdered d l y b r ≡ true → (x : ℕ) → 0 < count x (siblings r) →
+    nameLess (name (d .entry y)) (name (d .entry x)) ≡ true
 unfolding sidesOrdered greater less
 ordered-right d l y b r h x q =
     all-at (less d y) (siblings r)
@@ -125,7 +129,8 @@ pub own-hit-fits : (d : Directory) (n : Name) (ns : List Name) (y : ℕ) → nam
 unfolding ownHit isDone
 own-hit-fits d n ns y e = rw (advance-fits n (name (d .entry y)) ns e)
 
-pub hits-child : (d : Directory) (n : Name) (ns : List Name) (t : Forest) → everyNode (sidesOrdered d) t ≡ true → hits d (rest (n ∷ ns)) t ≡ childHits d ns (childNamed d n t)
+pub hits-child : (d : Directory) (n : Name) (ns : List Name) (t : Forest) → everyNode (sidesOrdered d) t ≡ true →
+    hits d (rest (n ∷ ns)) t ≡ childHits d ns (childNamed d n t)
 unfolding hits childNamed childHits orElse
 hits-child d n ns empty h = refl
 hits-child d n ns broken h = refl

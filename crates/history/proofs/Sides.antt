@@ -30,7 +30,8 @@ cond-side b side old us (inl h) = rw h
 cond-side b side old us (inr h) = rw h (cond-nil (Bool·beq b old) ∙ sym (cond-nil (Bool·beq b side)))
 
 -- the content does not matter where there are no units
-pub refilled-side : (sp sp′ : Space) (img img′ : Bytes) (sys ws : List ℕ) (c : Bytes) (t : Bool) → Refilled sp sp′ img img′ sys (cond t ws []) c → Refilled sp sp′ img img′ sys (cond t ws []) (cond t c [])
+pub refilled-side : (sp sp′ : Space) (img img′ : Bytes) (sys ws : List ℕ) (c : Bytes) (t : Bool) → Refilled sp sp′ img img′ sys (cond t ws []) c →
+    Refilled sp sp′ img img′ sys (cond t ws []) (cond t c [])
 refilled-side sp sp′ img img′ sys ws c true h = h
 refilled-side sp sp′ img img′ sys ws c false h = record { bytes = h .bytes; sized = h .sized }
 

@@ -162,13 +162,24 @@ module _ {g : Geometry} {img : Bytes} (pos : 0 < g .sectorBytes) (ok : Judged g 
               | yes p ↦ let k = table-sector-below s (omega arith) in (k, λ z. let e = marked s k .1 p in omega arith)
               | no q2 ↦
                   elim (decLt 0 (count s (vol .directorySectors))) [
-                    | yes p ↦ (linked-below f N (vol .directorySectors) (directory-chain .linked) s p, linked-not-free f N sector-limit (vol .directorySectors) (directory-chain .linked) s p)
+                    | yes p ↦ (
+                      linked-below f N (vol .directorySectors) (directory-chain .linked) s p,
+                      linked-not-free f N sector-limit (vol .directorySectors)
+                          (directory-chain .linked) s p,
+                    )
                     | no q3 ↦
                         elim (decLt 0 (count s (vol .miniFat))) [
-                          | yes p ↦ (linked-below f N (vol .miniFat) (mini-fat-chain .linked) s p, linked-not-free f N sector-limit (vol .miniFat) (mini-fat-chain .linked) s p)
+                          | yes p ↦ (
+                            linked-below f N (vol .miniFat) (mini-fat-chain .linked) s p,
+                            linked-not-free f N sector-limit (vol .miniFat)
+                                (mini-fat-chain .linked) s p,
+                          )
                           | no q4 ↦
-                              let p : 0 < count s (vol .miniStream) = omega arith in
-                              (linked-below f N (vol .miniStream) (mini-stream-chain .linked) s p, linked-not-free f N sector-limit (vol .miniStream) (mini-stream-chain .linked) s p)
+                              let p : 0 < count s (vol .miniStream) = omega arith in (
+                                linked-below f N (vol .miniStream) (mini-stream-chain .linked) s p,
+                                linked-not-free f N sector-limit (vol .miniStream)
+                                    (mini-stream-chain .linked) s p,
+                              )
                         ]
                   ]
             ]

@@ -86,7 +86,8 @@ module _ (g : Geometry) (pos : 0 < g .sectorBytes) (fr : Frame g) (img : Bytes) 
     same-cells true = wrote .miniCells
     same-cells false = wrote .sectorCells
 
-    bytes-here : (b : Bool) → Refilled (spaceOf v b) (spaceOf (volume g after) b) img after (systemOf v b) (cond (Bool·beq b side) units []) (putBytes (laid (block (spaceOf v b) img) units) offset bytes)
+    bytes-here : (b : Bool) → Refilled (spaceOf v b) (spaceOf (volume g after) b) img after (systemOf v b) (cond (Bool·beq b side) units [])
+        (putBytes (laid (block (spaceOf v b) img) units) offset bytes)
     unfolding inSectors inMinis
     bytes-here true = rw (← cond-beq-true side units) (wrote .miniBytes)
     bytes-here false = rw (← cond-beq-false side units) (wrote .sectorBytes)
@@ -113,7 +114,8 @@ module _ (g : Geometry) (pos : 0 < g .sectorBytes) (fr : Frame g) (img : Bytes) 
           inside = may .inside;
           stream = may .stream;
           others = λ i z. wrote .entries i;
-          fields = same-fields (v .directory .entry e) (volume g after .directory .entry e) (wrote .entries e) (common-fields-of (v .directory .entry e) e (entry-fields good e (may .inside)));
+          fields = same-fields (v .directory .entry e) (volume g after .directory .entry e) (wrote .entries e)
+              (common-fields-of (v .directory .entry e) e (entry-fields good e (may .inside)));
           start = ap start (wrote .entries e) ∙ sym (good .chains e (may .inside) (may .stream) .head) ∙ ap startOf (sym here-units);
           size = same-size;
           cells = λ b. record {
@@ -121,7 +123,8 @@ module _ (g : Geometry) (pos : 0 < g .sectorBytes) (fr : Frame g) (img : Bytes) 
             rest = λ u h. same-cells b u;
           };
           bytes = λ b. rw (units-in b)
-              (refilled-side (spaceOf v b) (spaceOf (volume g after) b) img after (systemOf v b) units (putBytes (laid (block (spaceOf v b) img) units) offset bytes) (Bool·beq b side) (bytes-here b));
+              (refilled-side (spaceOf v b) (spaceOf (volume g after) b) img after (systemOf v b) units
+              (putBytes (laid (block (spaceOf v b) img) units) offset bytes) (Bool·beq b side) (bytes-here b));
           becomes = λ b. same-becomes (spaceOf v b .cell) (spaceOf v b .limit) (good .lim b) (unitsOf v b e) (linked b);
           full = λ b. rw (units-in b) (full-side v units (λ b. putBytes (laid (block (spaceOf v b) img) units) offset bytes) b side put-long);
           need = ap length here-units ∙ good .chains e (may .inside) (may .stream) .long;
