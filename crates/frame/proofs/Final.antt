@@ -22,6 +22,6 @@ frame g z =
       writing = λ img e offset bytes m. writing g z img e offset bytes m;
     }
 
-pub frame3 : Frame version3
+pub sized3 : Sized version3
 unfolding version3
-frame3 = frame version3 (record { wide = omega arith; even = refl })
+sized3 = record { wide = omega arith; even = refl }

@@ -1,0 +1,152 @@
+-- DEMAND 3, for every geometry with sectors of at least one byte, from the frame laws.
+use Prim.Native.Nat.{ℕ, zero, suc, _+_, _<_}
+use mathlib.Core.Path.{_≡_, refl, sym, _∙_, subst}
+use mathlib.Core.Logic.{_↔_}
+use mathlib.Core.Bool.{Bool, true, false, cond}
+use mathlib.Core.List.{List, [], _∷_, map}
+use native.Mathlib.Omega.{arith}
+use lib.Dec.{ltb}
+use lib.ListN.{length}
+use borrow.Author.Tests.{ltb-false}
+use Rattle.format.specs.Basics.Bytes.{Bytes}
+use Rattle.format.specs.Basics.Lists.{fit}
+use Rattle.format.specs.Layout.Geometry.{Geometry}
+use Rattle.format.specs.Layout.Space.{freeUnits}
+use Rattle.format.specs.Layout.Stream.{streamSize}
+use Rattle.format.specs.Layout.Volume.{Volume, volume}
+use Rattle.format.specs.Rules.Verdict.{Accepted}
+use Rattle.format.specs.Calls.Answer.{target, answer, firstOf}
+use Rattle.format.specs.Calls.Reply.{onZero}
+use Rattle.format.specs.Calls.Paths.{Path}
+use Rattle.format.specs.Calls.Find.{Found, at, refused, resolveStream, answerOf, entryOf}
+use Rattle.format.specs.Calls.SetLength.{crosses, tooFew, resized}
+use Rattle.format.specs.Calls.Overwrite.{overwritten}
+use Rattle.format.specs.Calls.Call.{Call, validate, find, read, overwrite, setLength, list}
+use Rattle.format.specs.Calls.Buffers.{edited, imageAfter}
+use Rattle.format.specs.History.Rows.{rowsOf}
+use Rattle.format.specs.History.Setting.{settingOf}
+use Rattle.format.specs.History.Step.{accepts, changed, change, rowsStep, rowsAfter, putInto}
+use Rattle.format.specs.History.Claim.{after, isEdit, Holds, Demand3}
+use Rattle.theory.proofs.Tests.{clash}
+use Rattle.frame.specs.Frame.{Frame}
+use Rattle.history.proofs.Refusals.{RefusedLow, resolve-stream-low}
+use Rattle.history.proofs.Room.{allocated-sectors, allocated-minis}
+use Rattle.history.proofs.Answers.{answers-0-iff, answers-26-iff, write-answer, length-answer}
+use Rattle.history.proofs.EditStep.{Step, write-step}
+use Rattle.history.proofs.LengthStep.{length-step}
+use Rattle.history.proofs.Filled.{frame-sized, Sized}
+
+on-zero-same : (n : ℕ) (x : Bytes) → onZero n x x ≡ x
+unfolding onZero
+on-zero-same zero x = refl
+on-zero-same (suc n) x = refl
+
+first-zero : (a b : ℕ) → firstOf a b ≡ 0 → (a ≡ 0) × (b ≡ 0)
+unfolding firstOf
+first-zero zero b h = (refl, h)
+first-zero (suc a) b h = absurd (omega arith)
+
+cond-24-zero : (t : Bool) → cond {A = ℕ} t 24 0 ≡ 0 → t ≡ false
+cond-24-zero true h = absurd (omega arith)
+cond-24-zero false h = refl
+
+cond-25-26-zero : (c t : Bool) → cond {A = ℕ} c 25 (cond t 26 0) ≡ 0 → (c ≡ false) × (t ≡ false)
+cond-25-26-zero true t h = absurd (omega arith)
+cond-25-26-zero false true h = absurd (omega arith)
+cond-25-26-zero false false h = (refl, refl)
+
+module _ (g : Geometry) (pos : 0 < g .sectorBytes) (fr : Frame g) (img : Bytes) (acc : Accepted g img) where
+  abbrev v : Volume
+  v = volume g img
+
+  abbrev sized : Sized v img
+  sized = frame-sized fr img acc
+
+  -- what holds of the image itself
+  pub holds-now : Holds g (settingOf g img) img (rowsOf g img)
+  holds-now =
+      record {
+        accepted = acc;
+        streams = refl;
+        sectors = allocated-sectors g pos img acc sized;
+        minis = allocated-minis g pos img acc sized;
+        answersZero = answers-0-iff g pos img acc sized;
+        answersFull = answers-26-iff g pos img acc sized;
+      }
+
+  unchanged-step : Step g img img (rowsOf g img)
+  unchanged-step = record { accepted = acc; setting = refl; rows = refl }
+
+  -- ---- one call
+
+  write-answered-0 : (p : Path) (offset : ℕ) (bytes : Bytes) (work : List ℕ) (f : Found) → resolveStream (v .directory) p ≡ f → RefusedLow f →
+      answer g img (overwrite p offset bytes work) ≡ 0 →
+      Step g img (overwritten v img (entryOf f) offset bytes) (map (change p (putInto offset bytes)) (rowsOf g img))
+  unfolding answerOf entryOf
+  write-answered-0 p offset bytes work (at e b) h l a =
+      let r = first-zero _ _ (first-zero _ _ (sym (write-answer g pos img acc sized p offset bytes work (at e b) h) ∙ a) .1) .1 in
+      write-step g pos fr img acc p offset bytes h (ltb-false (streamSize v e) (offset + length bytes) (cond-24-zero (ltb (streamSize v e) (offset + length bytes)) r))
+  write-answered-0 p offset bytes work (refused n) h l a =
+      let r = first-zero _ _ (first-zero _ _ (sym (write-answer g pos img acc sized p offset bytes work (refused n) h) ∙ a) .1) .0 in
+      absurd (omega (arith, l .0))
+
+  length-answered-0 : (p : Path) (new : ℕ) (work : List ℕ) (f : Found) → resolveStream (v .directory) p ≡ f → RefusedLow f → answer g img (setLength p new work) ≡ 0 →
+      Step g img (resized v img (entryOf f) new) (map (change p (fit new)) (rowsOf g img))
+  unfolding answerOf entryOf
+  length-answered-0 p new work (at e b) h l a =
+      let r = first-zero _ _ (first-zero _ _ (sym (length-answer g pos img acc sized p new work (at e b) h) ∙ a) .1) .1 in
+      let k = cond-25-26-zero (crosses (streamSize v e) new) (tooFew g (length (freeUnits (v .sectors))) (length (freeUnits (v .minis))) (streamSize v e) new) r in
+      length-step g pos fr img acc p new h (k .0) (k .1)
+  length-answered-0 p new work (refused n) h l a =
+      let r = first-zero _ _ (first-zero _ _ (sym (length-answer g pos img acc sized p new work (refused n) h) ∙ a) .1) .0 in
+      absurd (omega (arith, l .0))
+
+  accepted-step : (c : Call) → isEdit c ≡ true → answer g img c ≡ 0 → Step g img (edited v img c) (changed (rowsOf g img) c)
+  unfolding isEdit edited changed target
+  accepted-step (validate work) h a = absurd (clash h refl)
+  accepted-step (find p work) h a = absurd (clash h refl)
+  accepted-step (read p offset out work) h a = absurd (clash h refl)
+  accepted-step (overwrite p offset bytes work) h a = write-answered-0 p offset bytes work (resolveStream (v .directory) p) refl (resolve-stream-low (v .directory) p) a
+  accepted-step (setLength p new work) h a = length-answered-0 p new work (resolveStream (v .directory) p) refl (resolve-stream-low (v .directory) p) a
+  accepted-step (list out work) h a = absurd (clash h refl)
+
+  edit-call : (c : Call) → isEdit c ≡ true → Step g img (imageAfter g img c) (rowsStep (settingOf g img) (rowsOf g img) c)
+  unfolding imageAfter rowsStep onZero
+  edit-call c h = go (answer g img c) refl
+    where
+      says : (answer g img c ≡ 0) ↔ (accepts (settingOf g img) (rowsOf g img) c ≡ true)
+      says = answers-0-iff g pos img acc sized c h
+
+      refusal : (n : ℕ) → answer g img c ≡ suc n → (t : Bool) → accepts (settingOf g img) (rowsOf g img) c ≡ t → t ≡ false
+      refusal n e true k = absurd (omega (arith, says .1 k))
+      refusal n e false k = refl
+
+      go : (n : ℕ) → answer g img c ≡ n → Step g img (onZero n (edited v img c) img)
+          (cond (accepts (settingOf g img) (rowsOf g img) c) (changed (rowsOf g img) c) (rowsOf g img))
+      go zero e = rw (says .0 e) (accepted-step c h e)
+      go (suc n) e = rw (refusal n e (accepts (settingOf g img) (rowsOf g img) c) refl) unchanged-step
+
+  other-call : (c : Call) → edited v img c ≡ img → accepts (settingOf g img) (rowsOf g img) c ≡ false →
+      Step g img (imageAfter g img c) (rowsStep (settingOf g img) (rowsOf g img) c)
+  unfolding imageAfter rowsStep
+  other-call c e a = rw (e, a, on-zero-same (answer g img c) img) unchanged-step
+
+  pub call-step : (c : Call) → Step g img (imageAfter g img c) (rowsStep (settingOf g img) (rowsOf g img) c)
+  unfolding edited accepts isEdit
+  call-step (validate work) = other-call (validate work) refl refl
+  call-step (find p work) = other-call (find p work) refl refl
+  call-step (read p offset out work) = other-call (read p offset out work) refl refl
+  call-step (overwrite p offset bytes work) = edit-call (overwrite p offset bytes work) refl
+  call-step (setLength p new work) = edit-call (setLength p new work) refl
+  call-step (list out work) = other-call (list out work) refl refl
+
+-- ---- every list of calls
+
+pub demand3 : (g : Geometry) → 0 < g .sectorBytes → Frame g → Demand3 g
+unfolding after rowsAfter
+demand3 g pos fr img [] acc = holds-now g pos fr img acc
+demand3 g pos fr img (c ∷ calls) acc =
+    let s = call-step g pos fr img acc c in
+    let h = demand3 g pos fr (imageAfter g img c) calls (s .accepted) in
+    subst (λ rows. Holds g (settingOf g img) (after g (imageAfter g img c) calls) (rowsAfter (settingOf g img) rows calls)) (s .rows)
+    (subst (λ st. Holds g st (after g (imageAfter g img c) calls) (rowsAfter st (rowsOf g (imageAfter g img c)) calls)) (s .setting) h)

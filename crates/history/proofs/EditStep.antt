@@ -1,0 +1,105 @@
+-- An edit of the stream that a path leads to leaves an accepted image, with the same setting and the row changed.
+use Prim.Native.Nat.{ℕ, _+_, _≤_, _<_}
+use mathlib.Core.Path.{_≡_, ap, ap₂, _∙_}
+use mathlib.Core.Bool.{Bool, false}
+use mathlib.Core.List.{List, [], map}
+use lib.ListN.{length}
+use Rattle.format.specs.Basics.Bytes.{Bytes}
+use Rattle.format.specs.Layout.Geometry.{Geometry}
+use Rattle.format.specs.Layout.Tree.{forest, Forest}
+use Rattle.format.specs.Layout.Volume.{volume, fixedNumber, systemSectors, Volume}
+use Rattle.format.specs.Layout.Stream.{streamSize, contents}
+use Rattle.format.specs.Layout.Entry.{isStream}
+use Rattle.format.specs.Rules.Length.{workNeed, lengthAllowed}
+use Rattle.format.specs.Rules.Verdict.{Accepted}
+use Rattle.format.specs.Calls.Paths.{Path}
+use Rattle.format.specs.Calls.Find.{at, resolveStream}
+use Rattle.format.specs.Calls.Overwrite.{overwritten}
+use Rattle.format.specs.History.Rows.{Row, rowsIn, rowsOf}
+use Rattle.format.specs.History.Setting.{settingOf, Setting}
+use Rattle.format.specs.History.Step.{change, putInto}
+use Rattle.frame.specs.Edits.{Preserved, MayWrite}
+use Rattle.frame.specs.Frame.{Frame}
+use Rattle.history.specs.Good.{Changed, Good}
+use Rattle.history.proofs.Alike.{forest-same}
+use Rattle.history.proofs.Judged.{accepted-judged, judged-accepted}
+use Rattle.history.proofs.GoodBack.{good-groups}
+use Rattle.history.proofs.Edited.{alike, changed-good}
+use Rattle.history.proofs.EditedUnits.{system-same}
+use Rattle.history.proofs.Filled.{contents-other, frame-sized, Sized}
+use Rattle.history.proofs.Counting.{inside-forest}
+use Rattle.history.proofs.Rows.{rows-changed}
+use Rattle.history.proofs.Finding.{is-stream, is-inside, hit-is-found, found-hit-everywhere}
+use Rattle.history.proofs.Written.{write-changed, write-contents}
+use Rattle.history.proofs.Good.{accepted-good}
+use Rattle.history.proofs.EntryFacts.{root-plain}
+
+-- what a step leaves
+pub record Step (g : Geometry) (img img′ : Bytes) (rows′ : List Row) : Type 0 where
+  pub accepted : Accepted g img′
+  pub setting : settingOf g img′ ≡ settingOf g img
+  pub rows : rowsOf g img′ ≡ rows′
+
+setting : Geometry → ℕ → ℕ → ℕ → ℕ → Setting
+setting g a b c d = record { geometry = g; sectors = a; minis = b; fixed = c; work = d }
+
+module _ (g : Geometry) (pos : 0 < g .sectorBytes) (fr : Frame g) (img : Bytes) (acc : Accepted g img) where
+  abbrev v : Volume
+  v = volume g img
+
+  abbrev good : Good v
+  good = accepted-good g img pos acc
+
+  abbrev sized : Sized v img
+  sized = frame-sized fr img acc
+
+  rootPlain : isStream (v .directory .entry 0) ≡ false
+  rootPlain = root-plain g img good
+
+  -- ---- an edit of the stream e that the path p leads to, with the function f on its bytes
+
+  module _ (p : Path) {e new : ℕ} {b : Forest} (found : resolveStream (v .directory) p ≡ at e b) (img′ : Bytes) {ws : Bool → List ℕ} {c : Bool → Bytes}
+      (f : Bytes → Bytes)
+      (x : Changed v (volume g img′) img img′ e new ws c) (kept : Preserved g img img′) (mine : contents (volume g img′) img′ e ≡ f (contents v img e)) where
+    edit-accepted : Accepted g img′
+    edit-accepted =
+        let j = accepted-judged g img acc in
+        judged-accepted g img′
+        (record {
+          allowed = ap (lengthAllowed g) (kept .length) ∙ j .allowed;
+          header = kept .header;
+          tables = kept .tables;
+          volume = good-groups (volume g img′) (changed-good good x);
+        })
+
+    edit-setting : settingOf g img′ ≡ settingOf g img
+    unfolding settingOf fixedNumber setting
+    edit-setting =
+        ap₂ (λ a b. setting g a b (length (systemSectors (volume g img′))) (workNeed (length img′))) (kept .parts .sectorLimit) (kept .parts .miniLimit)
+        ∙ ap₂ (λ a b. setting g (v .sectors .limit) (v .minis .limit) a b) (ap length (system-same good x)) (ap workNeed (kept .length))
+
+    edit-rows : rowsOf g img′ ≡ map (change p f) (rowsOf g img)
+    unfolding rowsOf
+    edit-rows =
+        ap (rowsIn (volume g img′) img′ []) (forest-same (v .directory) (volume g img′ .directory) (alike good x))
+        ∙ rows-changed v (volume g img′) img img′ e p f (alike good x) mine
+        (contents-other good x sized) (is-stream v img good sized rootPlain p found) [] (forest (v .directory))
+        (inside-forest v img good sized) (hit-is-found v img good sized rootPlain p found) (found-hit-everywhere v img good sized rootPlain p found)
+
+    pub edit-step : Step g img img′ (map (change p f) (rowsOf g img))
+    edit-step = record { accepted = edit-accepted; setting = edit-setting; rows = edit-rows }
+
+  -- ---- an overwrite that answers 0
+
+  pub write-step : (p : Path) (offset : ℕ) (bytes : Bytes) {e : ℕ} {b : Forest} → resolveStream (v .directory) p ≡ at e b → offset + length bytes ≤ streamSize v e →
+      Step g img (overwritten v img e offset bytes) (map (change p (putInto offset bytes)) (rowsOf g img))
+  unfolding putInto
+  write-step p offset bytes {e} found room =
+      let may : MayWrite g img e offset bytes = record {
+        accepted = acc;
+        inside = is-inside v img good sized rootPlain p found;
+        stream = is-stream v img good sized rootPlain p found;
+        fits = room;
+      } in
+      edit-step p found (overwritten v img e offset bytes) (putInto offset bytes)
+      (write-changed g pos fr img acc e offset bytes may) (fr .writing img e offset bytes may .kept) (write-contents g pos fr img acc e offset bytes may)

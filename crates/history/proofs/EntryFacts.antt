@@ -1,0 +1,86 @@
+-- What group 14 says of a stream, of a storage and of the root, as facts.
+use Prim.Native.Nat.{ℕ, zero, suc, _%_, _-_, _<_}
+use mathlib.Core.Path.{_≡_, ap, refl}
+use mathlib.Core.Bool.{true, _&&_, _||_, false}
+use native.Mathlib.Omega.{arith}
+use native.Mathlib.Decide.{decLt}
+use lib.Dec.{eqb, leb}
+use borrow.Author.Tests.{eqb-true, le-ltb}
+use Rattle.format.specs.Basics.Bytes.{Bytes, u16at, part, allZero, byteAt}
+use Rattle.format.specs.Layout.Name.{legalName}
+use Rattle.format.specs.Layout.Entry.{NOSTREAM, name, nameBytes, kind, child, clsid, created, modified, isStream, isStorage, isRoot, start, sizeField, isBlank}
+use Rattle.format.specs.Layout.Volume.{Volume, volume, directory}
+use Rattle.format.specs.Layout.Geometry.{Geometry}
+use Rattle.format.specs.Layout.Directory.{directoryOf, entryIn}
+use Rattle.format.specs.Rules.Entries.{entryFields, streamFields, storageFields, nameFields, commonFields, rootFields, entryRight, blankFields, entryRules}
+use Rattle.theory.proofs.Tests.{both, below-at, or-only, and-true-of}
+use Rattle.frame.specs.Edits.{SameFields}
+use Rattle.history.specs.Good.{Good}
+
+module _ (a : Bytes) where
+  -- ---- a stream, a storage
+
+  pub name-fields-legal : nameFields a ≡ true → legalName (name a) ≡ true
+  unfolding nameFields
+  name-fields-legal h = both (eqb (nameBytes a % 2) 0 && leb 4 (nameBytes a) && leb (nameBytes a) 64 && eqb (u16at a (nameBytes a - 2)) 0) (legalName (name a)) h .1
+
+  pub stream-fields-say : streamFields a ≡ true → (nameFields a ≡ true) × (child a ≡ NOSTREAM)
+  unfolding streamFields
+  stream-fields-say h =
+      let front = nameFields a && eqb (child a) NOSTREAM in
+      let c = both (front && allZero (clsid a) && allZero (created a)) (allZero (modified a)) h .0 in
+      let b = both (front && allZero (clsid a)) (allZero (created a)) c .0 in
+      let p = both (nameFields a) (eqb (child a) NOSTREAM) (both front (allZero (clsid a)) b .0) in
+      (p .0, eqb-true (child a) NOSTREAM (p .1))
+
+  pub storage-fields-say : storageFields a ≡ true → nameFields a ≡ true
+  unfolding storageFields
+  storage-fields-say h = both (nameFields a) (eqb (start a) 0) (both (nameFields a && eqb (start a) 0) (allZero (part a sizeField 8)) h .0) .0
+
+  -- ---- which fields an entry has
+
+  root-kind : entryFields 0 a ≡ true → kind a ≡ 5
+  unfolding entryFields
+  root-kind h = eqb-true (kind a) 5 (both (isRoot a) (rootFields a) (both (isRoot a && rootFields a) (commonFields a) h .0) .0)
+
+  pub stream-fields-of : (i : ℕ) → entryFields i a ≡ true → isStream a ≡ true → streamFields a ≡ true
+  unfolding entryFields
+  stream-fields-of zero h st = absurd (omega (arith, root-kind h, eqb-true (kind a) 2 st))
+  stream-fields-of (suc i) h st = let k = eqb-true (kind a) 2 st in both (streamFields a) (commonFields a) (rw k at h) .0
+
+  pub storage-fields-of : (i : ℕ) → entryFields i a ≡ true → isStorage a ≡ true → storageFields a ≡ true
+  unfolding entryFields
+  storage-fields-of zero h st = absurd (omega (arith, root-kind h, eqb-true (kind a) 1 st))
+  storage-fields-of (suc i) h st = let k = eqb-true (kind a) 1 st in or-only (storageFields a) (both (storageFields a || false) (commonFields a) (rw k at h) .0)
+
+  pub common-fields-of : (i : ℕ) → entryFields i a ≡ true → commonFields a ≡ true
+  unfolding entryFields
+  common-fields-of zero h = both (isRoot a && rootFields a) (commonFields a) h .1
+  common-fields-of (suc i) h = both ((isBlank a && blankFields a) || (isStorage a && storageFields a) || (isStream a && streamFields a)) (commonFields a) h .1
+
+  -- an edited stream's entry has the fields again
+  pub edited-fields : (i : ℕ) (b : Bytes) → isStream a ≡ true → SameFields a b → entryFields (suc i) a ≡ true → entryFields (suc i) b ≡ true
+  unfolding entryFields
+  edited-fields i b st t h =
+      let k = eqb-true (kind a) 2 st in
+      let r = both (streamFields a) (commonFields a) (rw k at h) .0 in
+      rw (t .kind, k, t .common, t .rules) (and-true-of (streamFields a) true r refl)
+
+-- ---- the entries of a good volume
+
+module _ {v : Volume} (o : Good v) where
+  pub entry-fields : (i : ℕ) → i < v .directory .count → entryFields i (v .directory .entry i) ≡ true
+  unfolding entryRules entryRight
+  entry-fields = below-at (v .directory .count) (entryRight (v .directory)) (o .entries)
+
+  pub root-no-stream : 0 < v .directory .count → isStream (v .directory .entry 0) ≡ false
+  root-no-stream h = ap (λ n. eqb n 2) (root-kind (v .directory .entry 0) (entry-fields 0 h))
+
+-- entry 0 of an image is no stream: it is the root, or there is no entry at all
+pub root-plain : (g : Geometry) (img : Bytes) → Good (volume g img) → isStream (volume g img .directory .entry 0) ≡ false
+unfolding volume directory directoryOf entryIn kind byteAt
+root-plain g img o =
+    elim (decLt 0 (volume g img .directory .count)) [
+      | yes p ↦ root-no-stream o p
+      | no q ↦ rw (le-ltb 0 (volume g img .directory .count) (omega arith))
+    ]

@@ -1,0 +1,169 @@
+-- Equal names have the same place in the order and are legal together, and a name is equal to at most one of ordered siblings.
+use Prim.Native.Nat.{ℕ, _-_, _≤_, _<_}
+use mathlib.Core.Path.{_≡_, refl, sym, ap, ap₂, _∙_}
+use mathlib.Core.Logic.{_≢_, _⊎_, inl, inr}
+use mathlib.Core.Bool.{Bool, true, false, not, _&&_, _||_}
+use mathlib.Core.List.{List, [], _∷_, map}
+use native.Mathlib.Omega.{arith}
+use native.Mathlib.Decide.{decLt}
+use lib.Dec.{eqb, ltb, leb}
+use lib.ListN.{length, length-map}
+use borrow.Author.Tests.{eqb-true, eqb-false, ne-eqb, le-ltb, le-leb, lt-leb}
+use Rattle.format.specs.Basics.Lists.{all, equal}
+use Rattle.format.specs.Layout.Name.{Name, slash, illegal, legalUnit, legalName, fold, unitsLess, nameLess, nameEqual}
+use Rattle.theory.proofs.Tests.{both, and-true-of, clash, neither}
+
+equal-is : (a b : List ℕ) → equal a b ≡ true → a ≡ b
+unfolding equal
+equal-is [] [] h = refl
+equal-is [] (y ∷ b) h = absurd (clash h refl)
+equal-is (x ∷ a) [] h = absurd (clash h refl)
+equal-is (x ∷ a) (y ∷ b) h = ap₂ _∷_ (eqb-true x y (both (eqb x y) (equal a b) h .0)) (equal-is a b (both (eqb x y) (equal a b) h .1))
+
+pub equal-folded : (a b : Name) → nameEqual a b ≡ true → map fold a ≡ map fold b
+unfolding nameEqual
+equal-folded a b h = equal-is (map fold a) (map fold b) h
+
+folded-length : (a b : Name) → map fold a ≡ map fold b → length a ≡ length b
+folded-length a b e = sym (length-map a fold) ∙ ap length e ∙ length-map b fold
+
+or-second : (a b : Bool) → (a || b) ≡ true → (a ≡ false → b ≡ true)
+or-second true b h z = absurd (clash refl z)
+or-second false b h z = h
+
+units-asym : (a b : List ℕ) → unitsLess a b ≡ true → unitsLess b a ≡ true → ⊥
+unfolding unitsLess
+units-asym [] [] h k = clash h refl
+units-asym [] (y ∷ b) h k = clash k refl
+units-asym (x ∷ a) [] h k = clash h refl
+units-asym (x ∷ a) (y ∷ b) h k =
+    elim (decLt x y) [
+      | yes p ↦
+          let q = or-second (ltb y x) (eqb y x && unitsLess b a) k (le-ltb y x (omega arith)) in
+          omega (arith, eqb-true y x (both (eqb y x) (unitsLess b a) q .0))
+      | no n ↦
+          let q = or-second (ltb x y) (eqb x y && unitsLess a b) h (le-ltb x y (omega arith)) in
+          let e = eqb-true x y (both (eqb x y) (unitsLess a b) q .0) in
+          let r = or-second (ltb y x) (eqb y x && unitsLess b a) k (le-ltb y x (omega arith)) in
+          units-asym a b (both (eqb x y) (unitsLess a b) q .1) (both (eqb y x) (unitsLess b a) r .1)
+    ]
+
+less-asym : (a b : Name) → nameLess a b ≡ true → nameLess b a ≡ true → ⊥
+unfolding nameLess
+less-asym a b h k =
+    elim (decLt (length a) (length b)) [
+      | yes p ↦
+          let q = or-second (ltb (length b) (length a)) (eqb (length b) (length a) && unitsLess (map fold b) (map fold a)) k
+          (le-ltb (length b) (length a) (omega arith)) in
+          omega (arith, eqb-true (length b) (length a) (both (eqb (length b) (length a)) (unitsLess (map fold b) (map fold a)) q .0))
+      | no n ↦
+          let q = or-second (ltb (length a) (length b)) (eqb (length a) (length b) && unitsLess (map fold a) (map fold b)) h
+          (le-ltb (length a) (length b) (omega arith)) in
+          let e = eqb-true (length a) (length b) (both (eqb (length a) (length b)) (unitsLess (map fold a) (map fold b)) q .0) in
+          let r = or-second (ltb (length b) (length a)) (eqb (length b) (length a) && unitsLess (map fold b) (map fold a)) k
+          (le-ltb (length b) (length a) (omega arith)) in
+          units-asym (map fold a) (map fold b) (both (eqb (length a) (length b)) (unitsLess (map fold a) (map fold b)) q .1)
+          (both (eqb (length b) (length a)) (unitsLess (map fold b) (map fold a)) r .1)
+    ]
+
+less-folded : (a b c : Name) → map fold b ≡ map fold c → nameLess a b ≡ nameLess a c
+unfolding nameLess
+less-folded a b c e = rw (folded-length b c e, e)
+
+-- what equals n stands at one place of the order
+pub equal-lower-not-upper : (n a b : Name) → nameEqual n a ≡ true → nameLess a b ≡ true → nameEqual n b ≡ false
+equal-lower-not-upper n a b p l = go (nameEqual n b) refl
+  where
+    go : (t : Bool) → nameEqual n b ≡ t → t ≡ false
+    go false e = refl
+    go true e =
+        let k = sym (equal-folded n a p) ∙ equal-folded n b e in
+        let self : nameLess a a ≡ true = less-folded a a b k ∙ l in
+        absurd (less-asym a a self self)
+
+pub equal-upper-not-lower : (n a b : Name) → nameEqual n b ≡ true → nameLess a b ≡ true → nameEqual n a ≡ false
+equal-upper-not-lower n a b p l = go (nameEqual n a) refl
+  where
+    go : (t : Bool) → nameEqual n a ≡ t → t ≡ false
+    go false e = refl
+    go true e = absurd (clash p (equal-lower-not-upper n a b e l))
+
+pub equal-not-two-above : (n a b c : Name) → nameEqual n a ≡ true → nameLess a b ≡ true → nameLess b c ≡ true → nameEqual n c ≡ false
+equal-not-two-above n a b c p l k = go (nameEqual n c) refl
+  where
+    go : (t : Bool) → nameEqual n c ≡ t → t ≡ false
+    go false e = refl
+    go true e = absurd (less-asym a b l (less-folded b a c (sym (equal-folded n a p) ∙ equal-folded n c e) ∙ k))
+
+-- ---- legal names
+
+fold-cases : (u : ℕ) → ((0x61 ≤ u) × (u ≤ 0x7A) × (fold u ≡ u - 0x20)) ⊎ (((u < 0x61) ⊎ (0x7A < u)) × (fold u ≡ u))
+unfolding fold
+fold-cases u =
+    elim (decLt u 0x61) [
+      | yes p ↦ inr (inl p, rw (lt-leb 0x61 u p))
+      | no n ↦
+          elim (decLt 0x7A u) [
+            | yes p ↦ inr (inr p, rw (le-leb 0x61 u (omega arith), lt-leb u 0x7A p))
+            | no m ↦ inl (omega arith, omega arith, rw (le-leb 0x61 u (omega arith), le-leb u 0x7A (omega arith)))
+          ]
+    ]
+
+-- a unit that is not a letter is folded to from itself alone
+fold-keeps-other : (u w k : ℕ) → fold u ≡ fold w → w ≢ k → ((k < 0x41) ⊎ (0x7A < k) ⊎ ((0x5A < k) × (k < 0x61))) → u ≢ k
+fold-keeps-other u w k e h p z =
+    elim (fold-cases u) [
+      | inl a ↦ not-small-letter p (a .0) (a .1) z
+      | inr a ↦
+          elim (fold-cases w) [
+            | inl b ↦ not-capital p (b .0) (b .1) (omega (arith, a .1, b .2))
+            | inr b ↦ h (omega (arith, a .1, b .1))
+          ]
+    ]
+  where
+    not-small-letter : ((k < 0x41) ⊎ (0x7A < k) ⊎ ((0x5A < k) × (k < 0x61))) → 0x61 ≤ u → u ≤ 0x7A → u ≡ k → ⊥
+    not-small-letter (inl p) a b e = omega arith
+    not-small-letter (inr (inl p)) a b e = omega arith
+    not-small-letter (inr (inr p)) a b e = omega (arith, p .0, p .1)
+
+    not-capital : ((k < 0x41) ⊎ (0x7A < k) ⊎ ((0x5A < k) × (k < 0x61))) → 0x61 ≤ w → w ≤ 0x7A → k ≡ w - 0x20 → ⊥
+    not-capital (inl p) a b e = omega arith
+    not-capital (inr (inl p)) a b e = omega arith
+    not-capital (inr (inr p)) a b e = omega (arith, p .0, p .1)
+
+not-true : (b : Bool) → not b ≡ true → b ≡ false
+not-true true h = sym h
+not-true false h = refl
+
+legal-unit : (u w : ℕ) → fold u ≡ fold w → legalUnit w ≡ true → legalUnit u ≡ true
+unfolding legalUnit illegal
+legal-unit u w e h =
+    let a = not-true (eqb w 0) (both (not (eqb w 0)) (not (eqb w slash || eqb w 0x5C || eqb w 0x3A)) h .0) in
+    let b = not-true (eqb w slash || eqb w 0x5C || eqb w 0x3A) (both (not (eqb w 0)) (not (eqb w slash || eqb w 0x5C || eqb w 0x3A)) h .1) in
+    let b1 = neither (eqb w slash) (eqb w 0x5C) (neither (eqb w slash || eqb w 0x5C) (eqb w 0x3A) b .0) .0 in
+    let b2 = neither (eqb w slash) (eqb w 0x5C) (neither (eqb w slash || eqb w 0x5C) (eqb w 0x3A) b .0) .1 in
+    let b3 = neither (eqb w slash || eqb w 0x5C) (eqb w 0x3A) b .1 in
+    let c0 = ne-eqb u 0 (fold-keeps-other u w 0 e (eqb-false w 0 a) (inl (omega arith))) in
+    let c1 = ne-eqb u slash (fold-keeps-other u w slash e (eqb-false w slash b1) (inl (omega arith))) in
+    let c2 = ne-eqb u 0x5C (fold-keeps-other u w 0x5C e (eqb-false w 0x5C b2) (inr (inr (omega arith, omega arith)))) in
+    let c3 = ne-eqb u 0x3A (fold-keeps-other u w 0x3A e (eqb-false w 0x3A b3) (inl (omega arith))) in
+    rw (c0, c1, c2, c3)
+
+legal-units : (a b : List ℕ) → map fold a ≡ map fold b → all legalUnit b ≡ true → all legalUnit a ≡ true
+unfolding all
+legal-units [] b e h = refl
+legal-units (x ∷ a) [] e h = absurd (omega (arith, ap length e))
+legal-units (x ∷ a) (y ∷ b) e h =
+    let p : fold x ≡ fold y = cc in
+    let q : map fold a ≡ map fold b = cc in
+    and-true-of (legalUnit x) (all legalUnit a) (legal-unit x y p (both (legalUnit y) (all legalUnit b) h .0))
+    (legal-units a b q (both (legalUnit y) (all legalUnit b) h .1))
+
+pub legal-name : (n m : Name) → nameEqual n m ≡ true → legalName m ≡ true → legalName n ≡ true
+unfolding legalName
+legal-name n m e h =
+    let k = equal-folded n m e in
+    let l = folded-length n m k in
+    let a = both (leb 1 (length m) && leb (length m) 31) (all legalUnit m) h .0 in
+    and-true-of (leb 1 (length n) && leb (length n) 31) (all legalUnit n) (rw l a)
+    (legal-units n m k (both (leb 1 (length m) && leb (length m) 31) (all legalUnit m) h .1))

@@ -1,0 +1,65 @@
+-- A path that leads to no entry is refused by a number from 20 to 23, and where a stream is needed what is found is one.
+use Prim.Native.Nat.{ℕ, _≤_}
+use mathlib.Core.Path.{_≡_, refl}
+use mathlib.Core.Bool.{Bool, true, false, cond}
+use mathlib.Core.List.{List, [], _∷_}
+use native.Mathlib.Omega.{arith}
+use Rattle.format.specs.Layout.Name.{Name}
+use Rattle.format.specs.Layout.Entry.{isStream}
+use Rattle.format.specs.Layout.Directory.{Directory}
+use Rattle.format.specs.Layout.Tree.{Forest, forest}
+use Rattle.format.specs.Calls.Paths.{Path, names, wellFormed}
+use Rattle.format.specs.Calls.Find.{Child, missing, present, childNamed, Found, at, refused, descend, resolve, needStream, resolveStream, enter, foundChild}
+
+abbrev pub RefusedLow : Found → Type 0
+RefusedLow (at e b) = Unit {0}
+RefusedLow (refused a) = (20 ≤ a) × (a ≤ 23)
+
+enter-low : (d : Directory) (f : Found) (n : Name) → RefusedLow f → RefusedLow (enter d f n)
+unfolding enter foundChild
+enter-low d (refused a) n h = h
+enter-low d (at e b) n h = go (isStream (d .entry e)) (childNamed d n b)
+  where
+    go : (st : Bool) (k : Child) → RefusedLow (cond st (refused 22) (foundChild k))
+    go true k = (omega arith, omega arith)
+    go false missing = (omega arith, omega arith)
+    go false (present y b) = tt
+
+descend-low : (d : Directory) (ns : List Name) (f : Found) → RefusedLow f → RefusedLow (descend d f ns)
+unfolding descend
+descend-low d [] f h = h
+descend-low d (n ∷ ns) f h = descend-low d ns (enter d f n) (enter-low d f n h)
+
+need-stream-low : (d : Directory) (f : Found) → RefusedLow f → RefusedLow (needStream d f)
+unfolding needStream
+need-stream-low d (refused a) h = h
+need-stream-low d (at e b) h = go (isStream (d .entry e))
+  where
+    go : (st : Bool) → RefusedLow (cond st (at e b) (refused 23))
+    go true = tt
+    go false = (omega arith, omega arith)
+
+pub resolve-low : (d : Directory) (p : Path) → RefusedLow (resolve d p)
+unfolding resolve
+resolve-low d p = go (wellFormed p)
+  where
+    go : (t : Bool) → RefusedLow (cond t (descend d (at 0 (forest d)) (names p)) (refused 20))
+    go true = descend-low d (names p) (at 0 (forest d)) tt
+    go false = (omega arith, omega arith)
+
+pub resolve-stream-low : (d : Directory) (p : Path) → RefusedLow (resolveStream d p)
+unfolding resolveStream
+resolve-stream-low d p = need-stream-low d (resolve d p) (resolve-low d p)
+
+-- what is found is a stream
+pub found-stream : (d : Directory) (p : Path) (e : ℕ) (b : Forest) → resolveStream d p ≡ at e b → isStream (d .entry e) ≡ true
+unfolding resolveStream needStream
+found-stream d p e b h = go (resolve d p) h
+  where
+    found-is : (x : ℕ) (c : Forest) (t : Bool) → isStream (d .entry x) ≡ t → cond t (at x c) (refused 23) ≡ at e b → isStream (d .entry e) ≡ true
+    found-is x c true s k = let z : x ≡ e = cc in rw z at s
+    found-is x c false s k = let z : _≡_ {A = ℕ} 0 1 = cc in absurd (omega arith)
+
+    go : (f : Found) → needStream d f ≡ at e b → isStream (d .entry e) ≡ true
+    go (at x c) k = found-is x c (isStream (d .entry x)) refl k
+    go (refused n) k = let z : _≡_ {A = ℕ} 0 1 = cc in absurd (omega arith)

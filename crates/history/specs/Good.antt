@@ -1,0 +1,88 @@
+-- What the groups say of a volume, as facts (`Good`), and what an accepted edit of one stream does to a volume (`Changed`), alike for both
+-- edits and for both spaces: `b` is true for the mini sectors and false for the sectors.
+use Prim.Native.Nat.{ℕ, _*_, _%_, _≤_, _<_}
+use mathlib.Core.Path.{_≡_}
+use mathlib.Core.Logic.{_≢_}
+use mathlib.Core.Bool.{Bool, true, not, cond, _&&_, Bool·beq}
+use mathlib.Core.List.{List, []}
+use lib.Dec.{eqb, ltb, leb}
+use lib.ListN.{length}
+use Rattle.format.specs.Basics.Lists.{listBelow}
+use Rattle.format.specs.Basics.Bytes.{Bytes}
+use Rattle.format.specs.Layout.Need.{cutoff, roundUp}
+use Rattle.format.specs.Layout.Geometry.{miniBytes}
+use Rattle.format.specs.Layout.Space.{Space}
+use Rattle.format.specs.Layout.Entry.{start, size, isStream}
+use Rattle.format.specs.Layout.Volume.{Volume, systemSectors, root}
+use Rattle.format.specs.Layout.Stream.{streamUnits, streamSize}
+use Rattle.format.specs.Layout.Chain.{END, startOf}
+use Rattle.format.specs.Rules.Cells.{plainCell, restFree, cellRules}
+use Rattle.format.specs.Rules.Entries.{entryRules}
+use Rattle.format.specs.Rules.Trees.{treeRules}
+use Rattle.theory.specs.Links.{Linked}
+use Rattle.theory.specs.Owned.{Owned, MayBecome}
+use Rattle.frame.specs.Edits.{SameParts, SameFields, Relinked, Refilled}
+
+abbrev pub spaceOf : Volume → Bool → Space
+spaceOf v b = cond b (v .minis) (v .sectors)
+
+abbrev pub systemOf : Volume → Bool → List ℕ
+systemOf v b = cond b [] (systemSectors v)
+
+-- the space that the stream of entry i lies in
+abbrev pub sideOf : Volume → ℕ → Bool
+sideOf v i = ltb (streamSize v i) cutoff
+
+-- the units of the space b that entry i has
+unfoldable pub unitsOf : Volume → Bool → ℕ → List ℕ
+unitsOf v b i = cond (isStream (v .directory .entry i) && Bool·beq b (sideOf v i)) (streamUnits v i) []
+
+-- the units of each entry
+unfoldable pub entryUnits : Volume → Bool → List (List ℕ)
+entryUnits v b = listBelow (v .directory .count) (unitsOf v b)
+
+-- a chain of these units, from a start, of a number of units
+pub record Chain (sp : Space) (us : List ℕ) (start number : ℕ) : Type 0 where
+  pub linked : Linked (sp .cell) (sp .limit) us
+  pub head : startOf us ≡ start
+  pub long : length us ≡ number
+
+pub record Good (v : Volume) : Type 0 where
+  pub lim : (b : Bool) → spaceOf v b .limit ≤ END
+  pub unit : (b : Bool) → 0 < spaceOf v b .unit
+  -- groups 12, 14, 15
+  pub cells : cellRules (v .sectors) ≡ true
+  pub entries : entryRules (v .directory) ≡ true
+  pub trees : treeRules (v .directory) ≡ true
+  -- 13
+  pub directory : Chain (v .sectors) (v .directorySectors) (v .directoryStart) (length (v .directorySectors))
+  pub directoryLong : leb 1 (length (v .directorySectors)) ≡ true
+  -- 16
+  pub miniFat : Chain (v .sectors) (v .miniFat) (v .miniFatStart) (v .miniFatCount)
+  pub miniStream : Chain (v .sectors) (v .miniStream) (start (root v)) (roundUp (size (root v)) (v .sectors .unit))
+  pub rootSize : eqb (size (root v) % miniBytes) 0 ≡ true
+  pub miniTable : leb (v .minis .limit) (v .minis .cells) ≡ true
+  pub miniCells : (m : ℕ) → m < v .minis .limit → plainCell (v .minis) (v .minis .cell m) ≡ true
+  pub miniRest : restFree (v .minis) ≡ true
+  -- 17
+  pub chains : (i : ℕ) → i < v .directory .count → isStream (v .directory .entry i) ≡ true
+      → Chain (spaceOf v (sideOf v i)) (streamUnits v i) (start (v .directory .entry i))
+      (roundUp (streamSize v i) (spaceOf v (sideOf v i) .unit))
+  -- 11 and 18
+  pub owned : (b : Bool) → Owned (spaceOf v b .limit) (systemOf v b) (spaceOf v b .cell) (entryUnits v b)
+
+-- stream e has become `new` bytes long; in the space b its units are `ws b` and their content is `c b`
+pub record Changed (v w : Volume) (img img′ : Bytes) (e new : ℕ) (ws : Bool → List ℕ) (c : Bool → Bytes) : Type 0 where
+  pub parts : SameParts v w
+  pub inside : e < v .directory .count
+  pub stream : isStream (v .directory .entry e) ≡ true
+  pub others : (i : ℕ) → i ≢ e → w .directory .entry i ≡ v .directory .entry i
+  pub fields : SameFields (v .directory .entry e) (w .directory .entry e)
+  pub start : start (w .directory .entry e) ≡ startOf (ws (ltb new cutoff))
+  pub size : streamSize w e ≡ new
+  pub cells : (b : Bool) → Relinked (spaceOf v b) (spaceOf w b) (unitsOf v b e) (ws b)
+  pub bytes : (b : Bool) → Refilled (spaceOf v b) (spaceOf w b) img img′ (systemOf v b) (ws b) (c b)
+  pub becomes : (b : Bool) → MayBecome (spaceOf v b .limit) (spaceOf v b .cell) (unitsOf v b e) (ws b)
+  pub full : (b : Bool) → length (c b) ≡ length (ws b) * spaceOf v b .unit
+  pub need : length (ws (ltb new cutoff)) ≡ roundUp new (spaceOf v (ltb new cutoff) .unit)
+  pub none : ws (not (ltb new cutoff)) ≡ []

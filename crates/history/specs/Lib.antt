@@ -1,0 +1,2 @@
+-- What the history speaks of.
+pub mod Good
