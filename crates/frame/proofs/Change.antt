@@ -161,7 +161,7 @@ module _ (g : Geometry) (z : Sized g) (img : Bytes) (e new : ℕ) (m : MayResize
         where
           by : (t : Bool) → ltb n cutoff ≡ t → Linked (fatCell g img) (sectorCount g img) us
           by true k = subst (λ (l : List ℕ). Linked (fatCell g img) (sectorCount g img) l) (sym (no-units (not-crossed n new (m .within) h k))) tt
-          by false k = stream-in-sectors g z img groups sound e (m .inside) (m .stream) k
+          by false k = stream-in-sectors g z img groups e (m .inside) (m .stream) k
 
       go : (t : Bool) → ltb M cutoff ≡ t → new < 0x1_0000_0000
       go true h = small-new n new h

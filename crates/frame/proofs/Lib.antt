@@ -1,12 +1,16 @@
--- The frame laws, in the order of reading: bytes and places; what each view reads where nothing was written; the single steps of an edit; the two edits.
+-- The frame laws, in the order of reading: what acceptance says; what each view reads where nothing was written; the single steps of an edit; the two edits.
+pub mod Accepted
+pub mod OwnerFacts
+pub mod SystemFacts
+pub mod Good
+pub mod GoodBack
+pub mod Sound
 pub mod Kept
 pub mod Places
 pub mod Things
 pub mod Relink
 pub mod Blocks
 pub mod Chunks
-pub mod Accepted
-pub mod Sound
 pub mod Views
 pub mod Parts
 pub mod Streams

@@ -85,10 +85,10 @@ module _ (g : Geometry) (z : Sized g) (img : Bytes) (e new : ℕ) (m : MayResize
   lim = let f = mini-few g z img groups sound in omega arith
 
   linked : Linked (v .minis .cell) C us
-  linked = stream-in-minis g z img groups sound e (m .inside) (m .stream) n-small
+  linked = stream-in-minis g z img groups e (m .inside) (m .stream) n-small
 
   long : length us ≡ roundUp n (v .minis .unit)
-  long = stream-units-long g z img groups sound e (m .inside) (m .stream) ∙ ap (λ (s : Space). roundUp n (s .unit)) (space-small v n n-small)
+  long = stream-units-long g z img groups e (m .inside) (m .stream) ∙ ap (λ (s : Space). roundUp n (s .unit)) (space-small v n n-small)
 
   becomes : MayBecome C (v .minis .cell) us ws
   unfolding freeUnits

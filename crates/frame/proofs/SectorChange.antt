@@ -28,7 +28,7 @@ use Rattle.theory.specs.Owned.{MayBecome}
 use Rattle.theory.proofs.FreeUnits.{resized-becomes, resized-front}
 use Rattle.frame.specs.Kept.{Sized, Kept, Off}
 use Rattle.frame.proofs.Blocks.{block-length}
-use Rattle.frame.proofs.Sound.{Sound, sound-of, marks-at}
+use Rattle.frame.proofs.Sound.{Sound, sound-of, marks-of}
 use Rattle.frame.proofs.Views.{kept-fat}
 use Rattle.frame.specs.Edits.{inSectors, inMinis, MayResize, IsResized}
 use Rattle.frame.proofs.Parts.{fat-cells-is, fat-cell-is, system-apart, fat-in, difat-in, dirs-in, miniFat-in, miniStream-in, table-of, sector-units, mini-units, kept-entry, preserved, kept-miniCell, mini-block, sector-place, entry-is, entry-at}
@@ -86,15 +86,15 @@ module _ (g : Geometry) (z : Sized g) (img : Bytes) (e new : ℕ) (m : MayResize
       go false h = f h
 
   linked : Linked (fatCell g img) N us
-  linked = by-size (stream-in-sectors g z img groups sound e (m .inside) (m .stream)) (λ q. subst (λ (l : List ℕ). Linked (fatCell g img) N l) (sym (no-units g z img e new m q)) tt)
+  linked = by-size (stream-in-sectors g z img groups e (m .inside) (m .stream)) (λ q. subst (λ (l : List ℕ). Linked (fatCell g img) N l) (sym (no-units g z img e new m q)) tt)
 
   long : length us ≡ roundUp n (v .sectors .unit)
   long =
-      by-size (λ h. stream-units-long g z img groups sound e (m .inside) (m .stream) ∙ ap (λ (s : Space). roundUp n (s .unit)) (space-large v n h))
+      by-size (λ h. stream-units-long g z img groups e (m .inside) (m .stream) ∙ ap (λ (s : Space). roundUp n (s .unit)) (space-large v n h))
       (λ q. ap length (no-units g z img e new m q) ∙ sym (ap (λ (k : ℕ). roundUp k (v .sectors .unit)) q ∙ round-zero (v .sectors .unit) (sector-units g z img sound .some)))
 
   us-sys : (s : ℕ) → 0 < count s us → count s (systemSectors v) ≡ 0
-  us-sys s p = by-size (λ h. stream-apart g z img groups sound e (m .inside) (m .stream) h s p) (λ q. absurd (omega (arith, p, ap (count s) (no-units g z img e new m q))))
+  us-sys s p = by-size (λ h. stream-apart g z img groups e (m .inside) (m .stream) h s p) (λ q. absurd (omega (arith, p, ap (count s) (no-units g z img e new m q))))
 
   becomes : MayBecome N (fatCell g img) us ws
   becomes =
@@ -230,8 +230,8 @@ module _ (g : Geometry) (z : Sized g) (img : Bytes) (e new : ℕ) (m : MayResize
       record {
         kept = preserved g z T img w K sound offDifat cells entry0 groups
             (λ s l. (
-              mark FATSECT (omega arith) (omega arith) (let f = sound .few in omega arith) s l (fatSectors g img) (fat-in g z img sound) (marks-at g z img groups s l .0),
-              mark DIFSECT (omega arith) (omega arith) (let f = sound .few in omega arith) s l (difatSectors g img) (difat-in g z img sound) (marks-at g z img groups s l .1),
+              mark FATSECT (omega arith) (omega arith) (let f = sound .few in omega arith) s l (fatSectors g img) (fat-in g z img sound) (marks-of g z img groups s l .0),
+              mark DIFSECT (omega arith) (omega arith) (let f = sound .few in omega arith) s l (difatSectors g img) (difat-in g z img sound) (marks-of g z img groups s l .1),
             ));
         others = λ i q. kept-entry g z T img w K sound offDifat cells entry0 i (other i q);
         fields = t .0;

@@ -1,5 +1,5 @@
 -- The units of a stream of an accepted image.
-use mathlib.Core.Path.{_≡_, refl, sym, ap, subst}
+use mathlib.Core.Path.{_≡_, refl, sym, ap, subst, _∙_}
 use mathlib.Core.List.{List, []}
 use mathlib.Core.Bool.{Bool, true, false, cond, not, _||_}
 use Prim.Native.Nat.{ℕ, _+_, _*_, _/_, _%_, _<_}
@@ -8,31 +8,30 @@ use native.Mathlib.Decide.{decLt}
 use native.Mathlib.Omega.{arith}
 use lib.Dec.{ltb}
 use lib.ListN.{length, getD}
-use borrow.Author.Tests.{ltb-true, ltb-false, le-leb}
+use borrow.Author.Tests.{ltb-true}
 use Rattle.format.specs.Basics.Lists.{count}
 use Rattle.format.specs.Basics.Bytes.{Bytes, part}
 use Rattle.format.specs.Layout.Geometry.{Geometry, sectorPlace, placeIn, entriesIn, entryBytes, sectorCount}
 use Rattle.format.specs.Layout.Need.{cutoff, roundUp}
-use Rattle.format.specs.Layout.Space.{Space, unitsFor, chainFor}
 use Rattle.format.specs.Layout.Tables.{fatCell, sectorSpace}
-use Rattle.format.specs.Layout.Entry.{size, start, isStream}
+use Rattle.format.specs.Layout.Entry.{isStream}
 use Rattle.format.specs.Layout.Directory.{entryIn, entryPlace, entryCount}
 use Rattle.format.specs.Layout.Volume.{Volume, volume, systemSectors, miniStreamSectors, directory}
 use Rattle.format.specs.Layout.Stream.{spaceFor, streamUnits, streamSize}
-use Rattle.format.specs.Rules.Streams.{streamChain, streamRules, streamRight}
-use Rattle.format.specs.Rules.Owners.{ownSectors}
 use Rattle.theory.specs.Links.{Linked}
-use Rattle.theory.proofs.Chains.{linked-below, linked-short, chain-linked, length-units}
+use Rattle.theory.proofs.Chains.{linked-short}
 use Rattle.theory.proofs.Counts.{count-at}
-use Rattle.theory.proofs.Tests.{below-at}
-use Rattle.theory.proofs.OwnerCounts.{count-join-at}
+use Rattle.theory.proofs.OwnerCounts.{owners-at}
 use Rattle.frame.specs.Kept.{Sized, Kept, Off}
 use Rattle.frame.specs.Edits.{inSectors, inMinis}
 use Rattle.frame.proofs.Kept.{part-body}
 use Rattle.frame.proofs.Places.{thing-fits, thing-index}
-use Rattle.frame.proofs.Sound.{Sound, owners-at, miniStream-linked}
+use Rattle.frame.proofs.Sound.{Sound}
 use Rattle.frame.proofs.Parts.{mini-index, minis-in-sector}
 use Rattle.frame.specs.Groups.{ImageGroups}
+use Rattle.frame.specs.Good.{Good, spaceOf, entryUnits, unitsOf}
+use Rattle.frame.proofs.Good.{groups-good}
+use Rattle.theory.proofs.Below.{getD-below}
 
 or-true : (a b : Bool) → not a || b ≡ true → a ≡ true → b ≡ true
 or-true true b h e = h
@@ -84,51 +83,38 @@ pub inMinis-small : (n : ℕ) (us : List ℕ) → ltb n cutoff ≡ true → inMi
 unfolding inMinis
 inMinis-small n us h = rw h
 
-module _ (g : Geometry) (z : Sized g) (img : Bytes) (G : ImageGroups g img) (A : Sound g img) (e : ℕ)
+module _ (g : Geometry) (z : Sized g) (img : Bytes) (G : ImageGroups g img) (e : ℕ)
     (inside : e < volume g img .directory .count) (stream : isStream (volume g img .directory .entry e) ≡ true) where
-  chained : streamChain (volume g img) (volume g img .directory .entry e) ≡ true
-  unfolding streamRules streamRight
-  chained =
-      let v = volume g img in
-      or-true (isStream (v .directory .entry e)) (streamChain v (v .directory .entry e))
-      (below-at (v .directory .count) (streamRight v) (G .volume .chains) e inside) stream
-
-  pub linked : Linked (spaceFor (volume g img) (streamSize (volume g img) e) .cell) (spaceFor (volume g img) (streamSize (volume g img) e) .limit) (streamUnits (volume g img) e)
-  unfolding streamChain chainFor streamUnits unitsFor streamSize
-  linked =
-      let v = volume g img in
-      let n = size (v .directory .entry e) in
-      chain-linked (spaceFor v n .cell) (spaceFor v n .limit) (roundUp n (spaceFor v n .unit)) (start (v .directory .entry e)) chained .0
+  good : Good (volume g img)
+  good = groups-good (let w = z .wide in omega arith) G
 
   pub stream-units-long : length (streamUnits (volume g img) e) ≡ roundUp (streamSize (volume g img) e) (spaceFor (volume g img) (streamSize (volume g img) e) .unit)
-  unfolding streamUnits unitsFor streamSize
-  stream-units-long =
-      let v = volume g img in
-      let n = size (v .directory .entry e) in
-      length-units (spaceFor v n .cell) (roundUp n (spaceFor v n .unit)) (start (v .directory .entry e))
+  unfolding spaceFor
+  stream-units-long = good .chains e inside stream .long
 
   pub stream-in-sectors : ltb (streamSize (volume g img) e) cutoff ≡ false → Linked (fatCell g img) (sectorCount g img) (streamUnits (volume g img) e)
   unfolding volume sectorSpace
-  stream-in-sectors h = subst (λ (sp : Space). Linked (sp .cell) (sp .limit) (streamUnits (volume g img) e)) (space-large (volume g img) (streamSize (volume g img) e) h) linked
+  stream-in-sectors h =
+      subst (λ (b : Bool). Linked (spaceOf (volume g img) b .cell) (spaceOf (volume g img) b .limit) (streamUnits (volume g img) e)) h
+      (good .chains e inside stream .linked)
 
   pub stream-in-minis : ltb (streamSize (volume g img) e) cutoff ≡ true → Linked (volume g img .minis .cell) (volume g img .minis .limit) (streamUnits (volume g img) e)
-  stream-in-minis h = subst (λ (sp : Space). Linked (sp .cell) (sp .limit) (streamUnits (volume g img) e)) (space-small (volume g img) (streamSize (volume g img) e) h) linked
+  stream-in-minis h =
+      subst (λ (b : Bool). Linked (spaceOf (volume g img) b .cell) (spaceOf (volume g img) b .limit) (streamUnits (volume g img) e)) h
+      (good .chains e inside stream .linked)
 
-  own-big : ltb (streamSize (volume g img) e) cutoff ≡ false → ownSectors (volume g img) e ≡ streamUnits (volume g img) e
-  unfolding ownSectors streamSize cutoff
-  own-big h =
-      let n = size (volume g img .directory .entry e) in
-      rw (stream, le-leb 4096 n (ltb-false n 4096 h))
+  entry-units-are : ltb (streamSize (volume g img) e) cutoff ≡ false → getD (entryUnits (volume g img) false) e [] ≡ streamUnits (volume g img) e
+  unfolding entryUnits unitsOf
+  entry-units-are h = getD-below (volume g img .directory .count) (unitsOf (volume g img) false) e [] inside ∙ rw (stream, h)
 
   -- a stream's sectors are none of the system's
   pub stream-apart : ltb (streamSize (volume g img) e) cutoff ≡ false → (s : ℕ) → 0 < count s (streamUnits (volume g img) e) → count s (systemSectors (volume g img)) ≡ 0
   stream-apart h s q =
-      let v = volume g img in
-      let b = linked-below (fatCell g img) (sectorCount g img) (streamUnits v e) (stream-in-sectors h) s q in
-      let o = owners-at g z img G s b in
-      let j = count-join-at s (v .directory .count) (ownSectors v) e inside in
-      let c = ap (count s) (own-big h) in
-      omega arith
+      omega (arith, q, good .owned false .single s, owners-at s e (entryUnits (volume g img) false), ap (count s) (entry-units-are h))
+
+mini-stream : (g : Geometry) (z : Sized g) (img : Bytes) → ImageGroups g img → Linked (fatCell g img) (sectorCount g img) (miniStreamSectors g img)
+unfolding volume sectorSpace
+mini-stream g z img G = groups-good (let w = z .wide in omega arith) G .miniStream .linked
 
 -- sectors are few, and so are mini sectors
 pub mini-few : (g : Geometry) (z : Sized g) (img : Bytes) → ImageGroups g img → Sound g img → volume g img .minis .limit < 0x100_0000
@@ -136,7 +122,7 @@ mini-few g z img G A =
     let N = sectorCount g img in
     let l = miniStreamSectors g img in
     let few = A .few in
-    let a = linked-short (fatCell g img) N (omega arith) l (miniStream-linked g z img G) in
+    let a = linked-short (fatCell g img) N (omega arith) l (mini-stream g z img G) in
     let b = mul-le-mul-left (g .sectorBytes / 64) a in
     let c : g .sectorBytes * N ≡ g .sectorBytes / 64 * N * 64 = omega (arith, ap (λ (n : ℕ). n * N) (minis-in-sector g z img A)) in
     elim (decLt (volume g img .minis .limit) 0x100_0000) [

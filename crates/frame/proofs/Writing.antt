@@ -96,7 +96,7 @@ module _ (g : Geometry) (z : Sized g) (img : Bytes) (e offset : ℕ) (bytes : By
   room : (sp : Space) → spaceFor v n ≡ sp → 0 < sp .unit → offset + length bytes ≤ length us * sp .unit
   room sp q p =
       let r = round-enough n (sp .unit) p in
-      let c : length us ≡ roundUp n (sp .unit) = stream-units-long g z img G A e (m .inside) (m .stream) ∙ ap (λ (s : Space). roundUp n (s .unit)) q in
+      let c : length us ≡ roundUp n (sp .unit) = stream-units-long g z img G e (m .inside) (m .stream) ∙ ap (λ (s : Space). roundUp n (s .unit)) q in
       omega (arith, r, m .fits, ap (λ (k : ℕ). k * sp .unit) c)
 
   write-big : ltb n cutoff ≡ false → IsWritten g img e offset bytes (putChain (v .sectors) us img offset bytes)
@@ -114,7 +114,7 @@ module _ (g : Geometry) (z : Sized g) (img : Bytes) (e offset : ℕ) (bytes : By
       w = putChain (v .sectors) us img offset bytes
 
       L : Linked (fatCell g img) (sectorCount g img) us
-      L = stream-in-sectors g z img G A e (m .inside) (m .stream) h
+      L = stream-in-sectors g z img G e (m .inside) (m .stream) h
 
       o : (s : ℕ) → count s us ≤ 1
       o = linked-once (fatCell g img) (sectorCount g img) (let f = A .few in omega arith) us L
@@ -131,7 +131,7 @@ module _ (g : Geometry) (z : Sized g) (img : Bytes) (e offset : ℕ) (bytes : By
       off : (l : List ℕ) → ((s : ℕ) → count s l ≤ count s (systemSectors v)) → (s : ℕ) → 0 < count s l → count s us ≡ 0
       off l f s q =
           elim (decLt 0 (count s us)) [
-            | yes p ↦ absurd (omega (arith, f s, q, stream-apart g z img G A e (m .inside) (m .stream) h s p))
+            | yes p ↦ absurd (omega (arith, f s, q, stream-apart g z img G e (m .inside) (m .stream) h s p))
             | no p ↦ (let k : count s us ≡ 0 = omega arith in k)
           ]
 
@@ -181,7 +181,7 @@ module _ (g : Geometry) (z : Sized g) (img : Bytes) (e offset : ℕ) (bytes : By
       w = putChain (v .minis) us img offset bytes
 
       L : Linked (v .minis .cell) (v .minis .limit) us
-      L = stream-in-minis g z img G A e (m .inside) (m .stream) h
+      L = stream-in-minis g z img G e (m .inside) (m .stream) h
 
       o : (s : ℕ) → count s us ≤ 1
       o = linked-once (v .minis .cell) (v .minis .limit) (let f = mini-few g z img G A in omega arith) us L

@@ -1,5 +1,6 @@
 -- What the frame laws speak of.
-pub mod Kept
 pub mod Groups
+pub mod Good
+pub mod Kept
 pub mod Edits
 pub mod Frame

@@ -27,9 +27,9 @@ use Rattle.format.specs.History.Setting.{Setting, settingOf}
 use Rattle.format.specs.History.Step.{reaches, lacks, accepts, answers26}
 use Rattle.format.specs.History.Claim.{isEdit}
 use Rattle.theory.proofs.Tests.{leb-not, clash}
-use Rattle.history.specs.Good.{Good}
-use Rattle.history.proofs.Judged.{accepted-judged, groups-zero}
-use Rattle.history.proofs.Good.{accepted-good}
+use Rattle.frame.specs.Good.{Good}
+use Rattle.frame.proofs.Accepted.{accepted-kept, volume-passed}
+use Rattle.frame.proofs.Good.{accepted-good}
 use Rattle.history.proofs.Filled.{Sized}
 use Rattle.history.proofs.Refusals.{RefusedLow, resolve-low, resolve-stream-low}
 use Rattle.history.proofs.Finding.{refused-has-no-row, has-row, row-length}
@@ -40,8 +40,8 @@ use Rattle.history.proofs.EntryFacts.{root-plain}
 verdict-accepted : (g : Geometry) (img : Bytes) (n : ℕ) → Accepted g img → verdict g img n ≡ cond (leb (workNeed (length img)) n) 0 2
 unfolding verdict groups check
 verdict-accepted g img n h =
-    let j = accepted-judged g img h in
-    rw (j .allowed, j .header, j .tables, groups-zero (volume g img) (j .volume)) (go (leb (workNeed (length img)) n))
+    let j = accepted-kept g img h in
+    rw (j .allowed, j .header, j .tables, volume-passed (volume g img) (j .volume)) (go (leb (workNeed (length img)) n))
   where
     go : (t : Bool) → check true 1 (check t 2 (check true 10 (check true 11 0))) ≡ cond t 0 2
     go true = refl

@@ -23,9 +23,9 @@ use Rattle.theory.specs.Sums.{sumBelow, lengths}
 use Rattle.theory.proofs.Counts.{sum-ext, eqb-cases, bit-self}
 use Rattle.theory.proofs.Owned.{allocated-is, free-count}
 use Rattle.theory.proofs.Tests.{both, below-at}
-use Rattle.history.specs.Good.{spaceOf, systemOf, unitsOf, entryUnits, Good, sideOf}
+use Rattle.theory.proofs.ListSums.{lengths-below, sum-map-append, sum-map-count}
+use Rattle.frame.specs.Good.{spaceOf, systemOf, unitsOf, entryUnits, Good, sideOf}
 use Rattle.history.proofs.Filled.{Sized, length-contents}
-use Rattle.history.proofs.Sums.{lengths-below, sum-map-append, sum-map-count}
 use Rattle.history.proofs.Forest.{count-node, entries-below}
 
 -- ---- the rows' needs

@@ -20,10 +20,12 @@ use Rattle.format.specs.History.Setting.{settingOf, Setting}
 use Rattle.format.specs.History.Step.{change, putInto}
 use Rattle.frame.specs.Edits.{Preserved, MayWrite}
 use Rattle.frame.specs.Frame.{Frame}
-use Rattle.history.specs.Good.{Changed, Good}
+use Rattle.frame.specs.Good.{Good}
+use Rattle.frame.proofs.Accepted.{accepted-kept, kept-accepted}
+use Rattle.frame.proofs.GoodBack.{good-groups}
+use Rattle.frame.proofs.Good.{accepted-good}
+use Rattle.history.specs.Changed.{Changed}
 use Rattle.history.proofs.Alike.{forest-same}
-use Rattle.history.proofs.Judged.{accepted-judged, judged-accepted}
-use Rattle.history.proofs.GoodBack.{good-groups}
 use Rattle.history.proofs.Edited.{alike, changed-good}
 use Rattle.history.proofs.EditedUnits.{system-same}
 use Rattle.history.proofs.Filled.{contents-other, frame-sized, Sized}
@@ -31,7 +33,6 @@ use Rattle.history.proofs.Counting.{inside-forest}
 use Rattle.history.proofs.Rows.{rows-changed}
 use Rattle.history.proofs.Finding.{is-stream, is-inside, hit-is-found, found-hit-everywhere}
 use Rattle.history.proofs.Written.{write-changed, write-contents}
-use Rattle.history.proofs.Good.{accepted-good}
 use Rattle.history.proofs.EntryFacts.{root-plain}
 
 -- what a step leaves
@@ -63,8 +64,8 @@ module _ (g : Geometry) (pos : 0 < g .sectorBytes) (fr : Frame g) (img : Bytes) 
       (x : Changed v (volume g img′) img img′ e new ws c) (kept : Preserved g img img′) (mine : contents (volume g img′) img′ e ≡ f (contents v img e)) where
     edit-accepted : Accepted g img′
     edit-accepted =
-        let j = accepted-judged g img acc in
-        judged-accepted g img′
+        let j = accepted-kept g img acc in
+        kept-accepted g img′
         (record {
           allowed = ap (lengthAllowed g) (kept .length) ∙ j .allowed;
           header = kept .header;

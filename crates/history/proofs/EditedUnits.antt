@@ -22,7 +22,8 @@ use Rattle.theory.proofs.Chains.{linked-chain}
 use Rattle.theory.proofs.Owned.{owned-rechained}
 use Rattle.theory.proofs.Tests.{beq-self}
 use Rattle.theory.proofs.Below.{length-below, getD-below, below-set}
-use Rattle.history.specs.Good.{spaceOf, systemOf, unitsOf, entryUnits, Good, Changed, sideOf}
+use Rattle.frame.specs.Good.{spaceOf, systemOf, unitsOf, entryUnits, Good, sideOf}
+use Rattle.history.specs.Changed.{Changed}
 
 pub units-self : (v : Volume) (i : ℕ) → isStream (v .directory .entry i) ≡ true → unitsOf v (sideOf v i) i ≡ streamUnits v i
 unfolding unitsOf

@@ -15,7 +15,7 @@ use Rattle.format.specs.Layout.Directory.{directoryOf, entryIn}
 use Rattle.format.specs.Rules.Entries.{entryFields, streamFields, storageFields, nameFields, commonFields, rootFields, entryRight, blankFields, entryRules}
 use Rattle.theory.proofs.Tests.{both, below-at, or-only, and-true-of}
 use Rattle.frame.specs.Edits.{SameFields}
-use Rattle.history.specs.Good.{Good}
+use Rattle.frame.specs.Good.{Good}
 
 module _ (a : Bytes) where
   -- ---- a stream, a storage

@@ -24,7 +24,8 @@ use Rattle.theory.proofs.Edits.{edited-content, edited-others}
 use Rattle.theory.proofs.RoundUp.{round-enough}
 use Rattle.theory.proofs.Below.{length-below}
 use Rattle.frame.specs.Frame.{Frame}
-use Rattle.history.specs.Good.{spaceOf, systemOf, unitsOf, entryUnits, Good, Changed, sideOf}
+use Rattle.frame.specs.Good.{spaceOf, systemOf, unitsOf, entryUnits, Good, sideOf}
+use Rattle.history.specs.Changed.{Changed}
 use Rattle.history.proofs.EditedUnits.{units-self, in-entry-units, entry-units-at, edit-becomes, edit-cells, units-other, edited-units, size-other}
 
 -- every unit lies whole in the image

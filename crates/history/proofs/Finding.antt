@@ -20,7 +20,7 @@ use Rattle.format.specs.Calls.Find.{at, refused, resolveStream}
 use Rattle.format.specs.History.Rows.{rowsIn, hasRow, rowLength}
 use Rattle.theory.proofs.Counts.{bit-self, eqb-cases}
 use Rattle.theory.proofs.Tests.{or-only}
-use Rattle.history.specs.Good.{Good}
+use Rattle.frame.specs.Good.{Good}
 use Rattle.history.proofs.Filled.{Sized, length-contents}
 use Rattle.history.proofs.Counting.{inside-forest, tree-parts, reached}
 use Rattle.history.proofs.Hits.{strip, hits, hits-le}

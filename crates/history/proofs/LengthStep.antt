@@ -27,18 +27,18 @@ use Rattle.format.specs.History.Rows.{rowsOf}
 use Rattle.format.specs.History.Step.{change}
 use Rattle.theory.proofs.RoundUp.{round-zero}
 use Rattle.theory.proofs.Tests.{neither}
+use Rattle.theory.proofs.Fits.{fit-same}
 use Rattle.frame.specs.Edits.{MayResize}
 use Rattle.frame.specs.Frame.{Frame}
-use Rattle.history.specs.Good.{spaceOf, Good}
+use Rattle.frame.specs.Good.{spaceOf, Good}
+use Rattle.frame.proofs.Good.{accepted-good}
 use Rattle.history.proofs.Filled.{length-contents, frame-sized, Sized}
 use Rattle.history.proofs.Counting.{inside-forest}
 use Rattle.history.proofs.Rows.{rows-changed}
 use Rattle.history.proofs.Finding.{is-stream, is-inside, hit-is-found, found-hit-everywhere}
 use Rattle.history.proofs.Lengths.{sides-uncrossed, old-units-length}
-use Rattle.history.proofs.Extra.{fit-same}
 use Rattle.history.proofs.Resized.{resize-changed, resize-contents}
 use Rattle.history.proofs.EditStep.{Step, edit-step}
-use Rattle.history.proofs.Good.{accepted-good}
 use Rattle.history.proofs.EntryFacts.{root-plain}
 use Rattle.history.proofs.Alike.{Alike}
 

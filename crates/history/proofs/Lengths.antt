@@ -25,12 +25,11 @@ use Rattle.theory.specs.Blocks.{target}
 use Rattle.theory.proofs.Chains.{linked-below}
 use Rattle.theory.proofs.FreeUnits.{resized-becomes}
 use Rattle.theory.proofs.Edits.{target-length, target-is}
-use Rattle.theory.proofs.RoundUp.{round-enough, round-zero}
+use Rattle.theory.proofs.RoundUp.{round-enough, round-zero, round-mono}
 use Rattle.theory.proofs.Tests.{clash, neither}
-use Rattle.history.specs.Good.{spaceOf, unitsOf, Good}
+use Rattle.frame.specs.Good.{spaceOf, unitsOf, Good}
 use Rattle.history.proofs.Filled.{Sized, contents-read}
 use Rattle.history.proofs.Sides.{cond-side}
-use Rattle.history.proofs.Extra.{round-mono}
 
 -- two lengths that do not cross lie in the space of the greater, or are 0
 pub sides-uncrossed : (old new : ℕ) → crosses old new ≡ false →

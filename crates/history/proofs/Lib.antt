@@ -1,17 +1,10 @@
 -- Demand 3, step by step.
-pub mod Extra
 pub mod Alike
-pub mod Judged
-pub mod OwnerFacts
-pub mod SystemFacts
-pub mod Good
-pub mod GoodBack
 pub mod EntryFacts
 pub mod CellCases
 pub mod EditedUnits
 pub mod Edited
 pub mod Filled
-pub mod Sums
 pub mod Forest
 pub mod Counting
 pub mod Names

@@ -18,15 +18,16 @@ use Rattle.format.specs.Layout.Chain.{startOf}
 use Rattle.format.specs.Rules.Verdict.{Accepted}
 use Rattle.format.specs.Calls.SetLength.{editSpace, newUnits, resized}
 use Rattle.theory.specs.Blocks.{target}
-use Rattle.theory.proofs.Tests.{beq-self}
+use Rattle.theory.proofs.Tests.{beq-self, beq-not}
 use Rattle.theory.proofs.RoundUp.{round-zero}
+use Rattle.theory.proofs.Fits.{fit-zero}
 use Rattle.frame.specs.Edits.{inSectors, inMinis, Relinked, Refilled, MayResize, IsResized}
 use Rattle.frame.specs.Frame.{Frame}
-use Rattle.history.specs.Good.{spaceOf, systemOf, Good, Changed}
-use Rattle.history.proofs.Good.{accepted-good}
+use Rattle.frame.specs.Good.{spaceOf, systemOf, Good}
+use Rattle.frame.proofs.Good.{accepted-good}
+use Rattle.history.specs.Changed.{Changed}
 use Rattle.history.proofs.Filled.{Sized, edited-contents, frame-sized}
 use Rattle.history.proofs.Lengths.{sides-uncrossed, old-units, new-units-become, new-units-length, new-content-length, new-content-fits, new-units-none}
-use Rattle.history.proofs.Extra.{fit-zero, beq-not}
 use Rattle.history.proofs.Sides.{becomes-side, cond-beq-false, cond-nil, full-side, refilled-side, cond-beq-true}
 
 module _ (g : Geometry) (pos : 0 < g .sectorBytes) (fr : Frame g) (img : Bytes) (acc : Accepted g img) where

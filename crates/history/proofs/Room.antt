@@ -15,11 +15,11 @@ use Rattle.format.specs.Layout.Volume.{Volume, volume, fixedNumber, systemSecto
 use Rattle.format.specs.Rules.Verdict.{Accepted}
 use Rattle.format.specs.History.Rows.{Row, rowsOf, total}
 use Rattle.format.specs.History.Setting.{Setting, settingOf, freeSectors, freeMinis}
-use Rattle.history.specs.Good.{Good}
-use Rattle.history.proofs.Good.{accepted-good}
+use Rattle.theory.proofs.Tests.{beq-true}
+use Rattle.frame.specs.Good.{Good}
+use Rattle.frame.proofs.Good.{accepted-good}
 use Rattle.history.proofs.Filled.{Sized}
 use Rattle.history.proofs.Counting.{spaceNeed, allocated-by-rows, free-by-rows}
-use Rattle.history.proofs.Extra.{beq-true}
 
 module _ (g : Geometry) (pos : 0 < g .sectorBytes) (img : Bytes) (acc : Accepted g img) (sized : Sized (volume g img) img) where
   abbrev v : Volume

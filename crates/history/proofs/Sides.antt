@@ -11,7 +11,7 @@ use Rattle.format.specs.Layout.Space.{Space}
 use Rattle.format.specs.Layout.Volume.{Volume}
 use Rattle.theory.specs.Owned.{MayBecome}
 use Rattle.frame.specs.Edits.{Refilled}
-use Rattle.history.specs.Good.{spaceOf}
+use Rattle.frame.specs.Good.{spaceOf}
 
 pub cond-nil : (t : Bool) → cond {A = List ℕ} t [] [] ≡ []
 cond-nil true = refl

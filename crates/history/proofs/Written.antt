@@ -21,17 +21,17 @@ use Rattle.theory.specs.Links.{Linked}
 use Rattle.theory.proofs.Relinks.{rechain-same}
 use Rattle.theory.proofs.FreeUnits.{same-becomes}
 use Rattle.theory.proofs.Contents.{laid-length}
-use Rattle.theory.proofs.Tests.{beq-self}
+use Rattle.theory.proofs.Tests.{beq-self, beq-not}
 use Rattle.theory.proofs.Sets.{take-sets-in}
 use Rattle.frame.specs.Edits.{inSectors, inMinis, Refilled, MayWrite, IsWritten, SameFields}
 use Rattle.frame.specs.Frame.{Frame}
-use Rattle.history.specs.Good.{spaceOf, systemOf, unitsOf, Good, Changed}
-use Rattle.history.proofs.OwnerFacts.{units-linked}
+use Rattle.frame.specs.Good.{spaceOf, systemOf, unitsOf, Good}
+use Rattle.frame.proofs.OwnerFacts.{units-linked}
+use Rattle.frame.proofs.Good.{accepted-good}
+use Rattle.history.specs.Changed.{Changed}
 use Rattle.history.proofs.Filled.{contents-read, edited-contents, unit-full, frame-sized, Sized}
 use Rattle.history.proofs.Sides.{cond-beq-false, full-side, refilled-side, cond-beq-true}
-use Rattle.history.proofs.Good.{accepted-good}
 use Rattle.history.proofs.EntryFacts.{common-fields-of, entry-fields}
-use Rattle.history.proofs.Extra.{beq-not}
 
 same-fields : (a b : Bytes) → b ≡ a → commonFields a ≡ true → SameFields a b
 same-fields a b e h =

@@ -1,2 +1,2 @@
--- What the history speaks of.
-pub mod Good
+-- What the steps of the history speak of.
+pub mod Changed

@@ -1,10 +1,10 @@
 -- A list cut, or with zeros added.
 use mathlib.Core.Path.{_≡_, refl, ap, _∙_}
-use mathlib.Core.List.{List, _∷_, _++_, append-nil}
+use mathlib.Core.List.{List, _∷_, _++_, append-nil, []}
 use Prim.Native.Nat.{ℕ, zero, suc, _+_, _-_, _≤_}
 use native.Mathlib.Omega.{arith}
 use lib.ListN.{length, take, replicate, length-append, length-take, length-replicate, drop-of-length-le}
-use lib.Seq.{take-all, take-append-add, sets, length-take-le, sets-eq}
+use lib.Seq.{take-all, take-append-add, sets, length-take-le, sets-eq, take-length}
 use Rattle.format.specs.Basics.Lists.{fit}
 
 pub length-fit : (n : ℕ) (xs : List ℕ) → length (fit n xs) ≡ n
@@ -40,3 +40,9 @@ zeros-fit c d n m l h e k =
     ∙ ap (λ (x : List ℕ). take n c ++ replicate (m - n) 0 ++ x) (drop-of-length-le c {i = n + length (replicate {A = ℕ} (m - n) 0)} (omega arith))
     ∙ append-nil (take n c ++ replicate (m - n) 0)
     ∙ rw (e, take-all m (take n d) (omega arith), t)
+
+pub fit-zero : (xs : List ℕ) → fit 0 xs ≡ []
+fit-zero xs = fit-cut 0 xs (omega arith)
+
+pub fit-same : (xs : List ℕ) → fit (length xs) xs ≡ xs
+fit-same xs = fit-cut (length xs) xs (omega arith) ∙ take-length xs

@@ -8,6 +8,7 @@ pub mod Bytes
 pub mod ByteTests
 pub mod RoundUp
 pub mod OwnerCounts
+pub mod ListSums
 pub mod Chains
 pub mod Relinks
 pub mod Cuts

@@ -35,6 +35,18 @@ pub beq-self : (b : Bool) → Bool·beq b b ≡ true
 beq-self true = refl
 beq-self false = refl
 
+pub beq-true : (b : Bool) → Bool·beq true b ≡ b
+beq-true true = refl
+beq-true false = refl
+
+pub beq-false : (b : Bool) → Bool·beq false b ≡ not b
+beq-false true = refl
+beq-false false = refl
+
+pub beq-not : (b : Bool) → Bool·beq (not b) b ≡ false
+beq-not true = refl
+beq-not false = refl
+
 pub beq-equal : (a b : Bool) → Bool·beq a b ≡ true → a ≡ b
 beq-equal true true h = refl
 beq-equal true false h = sym h

@@ -21,9 +21,9 @@ use Rattle.format.specs.Rules.Owners.{ownedSectors, ownedMinis, ownersIn, owner
 use Rattle.theory.specs.Sums.{owners}
 use Rattle.theory.proofs.Chains.{linked-chain}
 use Rattle.theory.proofs.Tests.{and-true-of, below-of}
-use Rattle.history.specs.Good.{spaceOf, entryUnits, Chain, Good, sideOf}
-use Rattle.history.proofs.Judged.{Groups}
-use Rattle.history.proofs.OwnerFacts.{owned-owners, owned-sectors-count, owned-minis-count}
+use Rattle.frame.specs.Good.{spaceOf, entryUnits, Chain, Good, sideOf}
+use Rattle.frame.specs.Groups.{VolumeGroups}
+use Rattle.frame.proofs.OwnerFacts.{owned-owners, owned-sectors-count, owned-minis-count}
 
 chain-of : (sp : Space) (us : List ℕ) (s n : ℕ) → Chain sp us s n → chain (sp .cell) (sp .limit) n s ≡ true
 chain-of sp us s n c = linked-chain (sp .cell) (sp .limit) n s us (c .linked) (c .long) (c .head) .0
@@ -39,7 +39,7 @@ mini-cells : (v : Volume) → Good v → allBelow (v .minis .limit) (miniCellRig
 unfolding miniCellRight
 mini-cells v h = below-of (v .minis .limit) (miniCellRight (v .minis)) (h .miniCells)
 
-pub good-groups : (v : Volume) → Good v → Groups v
+pub good-groups : (v : Volume) → Good v → VolumeGroups v
 unfolding directoryRules someChain miniRules streamRules streamRight streamChain chainFor spaceFor streamSize ownerRules
 good-groups v h =
     record {

@@ -1,5 +1,4 @@
--- What the groups say of a volume, as facts (`Good`), and what an accepted edit of one stream does to a volume (`Changed`), alike for both
--- edits and for both spaces: `b` is true for the mini sectors and false for the sectors.
+-- What the groups say of a volume, as facts, alike for both spaces: `b` is true for the mini sectors and false for the sectors.
 use Prim.Native.Nat.{ℕ, _*_, _%_, _≤_, _<_}
 use mathlib.Core.Path.{_≡_}
 use mathlib.Core.Logic.{_≢_}
@@ -21,7 +20,6 @@ use Rattle.format.specs.Rules.Entries.{entryRules}
 use Rattle.format.specs.Rules.Trees.{treeRules}
 use Rattle.theory.specs.Links.{Linked}
 use Rattle.theory.specs.Owned.{Owned, MayBecome}
-use Rattle.frame.specs.Edits.{SameParts, SameFields, Relinked, Refilled}
 
 abbrev pub spaceOf : Volume → Bool → Space
 spaceOf v b = cond b (v .minis) (v .sectors)
@@ -70,19 +68,3 @@ pub record Good (v : Volume) : Type 0 where
       (roundUp (streamSize v i) (spaceOf v (sideOf v i) .unit))
   -- 11 and 18
   pub owned : (b : Bool) → Owned (spaceOf v b .limit) (systemOf v b) (spaceOf v b .cell) (entryUnits v b)
-
--- stream e has become `new` bytes long; in the space b its units are `ws b` and their content is `c b`
-pub record Changed (v w : Volume) (img img′ : Bytes) (e new : ℕ) (ws : Bool → List ℕ) (c : Bool → Bytes) : Type 0 where
-  pub parts : SameParts v w
-  pub inside : e < v .directory .count
-  pub stream : isStream (v .directory .entry e) ≡ true
-  pub others : (i : ℕ) → i ≢ e → w .directory .entry i ≡ v .directory .entry i
-  pub fields : SameFields (v .directory .entry e) (w .directory .entry e)
-  pub start : start (w .directory .entry e) ≡ startOf (ws (ltb new cutoff))
-  pub size : streamSize w e ≡ new
-  pub cells : (b : Bool) → Relinked (spaceOf v b) (spaceOf w b) (unitsOf v b e) (ws b)
-  pub bytes : (b : Bool) → Refilled (spaceOf v b) (spaceOf w b) img img′ (systemOf v b) (ws b) (c b)
-  pub becomes : (b : Bool) → MayBecome (spaceOf v b .limit) (spaceOf v b .cell) (unitsOf v b e) (ws b)
-  pub full : (b : Bool) → length (c b) ≡ length (ws b) * spaceOf v b .unit
-  pub need : length (ws (ltb new cutoff)) ≡ roundUp new (spaceOf v (ltb new cutoff) .unit)
-  pub none : ws (not (ltb new cutoff)) ≡ []

@@ -22,10 +22,9 @@ use Rattle.theory.specs.Owned.{Owned}
 use Rattle.theory.proofs.Counts.{count-append}
 use Rattle.theory.proofs.OwnerCounts.{owner-place, count-join}
 use Rattle.theory.proofs.Chains.{linked-below}
-use Rattle.theory.proofs.Tests.{leb-not, below-at, below-of, clash}
+use Rattle.theory.proofs.Tests.{leb-not, below-at, below-of, clash, beq-true, beq-false}
 use Rattle.theory.proofs.Below.{join-ext}
-use Rattle.history.specs.Good.{spaceOf, unitsOf, entryUnits, sideOf}
-use Rattle.history.proofs.Extra.{beq-true, beq-false}
+use Rattle.frame.specs.Good.{spaceOf, unitsOf, entryUnits, sideOf}
 
 owner-rule-says : (n c : ℕ) → ownerRule n c ≡ true → (n ≤ 1) × (n ≡ 0 → c ≡ FREE)
 unfolding ownerRule

@@ -1,13 +1,13 @@
 -- What groups 11, 13 and 16 say of the system's sectors: they are below the limit and not free, and its chains are chains.
 use Prim.Native.Nat.{ℕ, _-_, _*_, _/_, _%_, _≤_, _<_}
-use mathlib.Core.Path.{_≡_, refl, subst}
+use mathlib.Core.Path.{_≡_, refl, subst, _∙_}
 use mathlib.Core.Logic.{_≢_}
 use mathlib.Core.Bool.{true, _&&_, Bool·beq}
 use mathlib.Core.List.{_++_}
 use native.Mathlib.Nat.{div-le-self, div-mul-le-self, mul-le-mul-right}
 use native.Mathlib.Omega.{arith}
 use native.Mathlib.Decide.{decLt}
-use lib.Dec.{eqb, ltb, leb}
+use lib.Dec.{eqb, leb}
 use lib.ListN.{length}
 use borrow.Author.Tests.{eqb-true, ltb-true, lt-ltb, leb-true}
 use Rattle.format.specs.Basics.Lists.{allBelow, all, count, member, distinct}
@@ -16,7 +16,7 @@ use Rattle.format.specs.Layout.Geometry.{Geometry, miniBytes, sectorCount}
 use Rattle.format.specs.Layout.Need.{roundUp}
 use Rattle.format.specs.Layout.Chain.{FREE, FATSECT, DIFSECT, chain, END, startOf}
 use Rattle.format.specs.Layout.Space.{unitsFor, chainFor}
-use Rattle.format.specs.Layout.Tables.{fatSectors, difatSectors, sectorSpace, fatCell}
+use Rattle.format.specs.Layout.Tables.{fatSectors, difatSectors, sectorSpace}
 use Rattle.format.specs.Layout.Entry.{size, start}
 use Rattle.format.specs.Layout.Directory.{directorySectors}
 use Rattle.format.specs.Layout.Volume.{Volume, volume, root, systemSectors, miniFatSectors, miniStreamSectors, directorySectorsOf, directory}
@@ -28,12 +28,11 @@ use Rattle.format.specs.Rules.Mini.{miniRules, miniFatChain, miniStreamChain, m
 use Rattle.theory.specs.Links.{Linked}
 use Rattle.theory.proofs.Counts.{count-append}
 use Rattle.theory.proofs.Chains.{linked-below, linked-not-free, length-units, chain-linked, follow-units}
-use Rattle.theory.proofs.Tests.{both, below-at, all-at}
-use Rattle.history.specs.Good.{Chain}
-use Rattle.history.proofs.Judged.{Judged}
-use Rattle.history.proofs.Extra.{beq-true-right}
+use Rattle.theory.proofs.Tests.{both, below-at, all-at, beq-equal}
+use Rattle.frame.specs.Good.{Chain}
+use Rattle.frame.specs.Groups.{ImageGroups}
 
-module _ {g : Geometry} {img : Bytes} (pos : 0 < g .sectorBytes) (ok : Judged g img) where
+module _ {g : Geometry} {img : Bytes} (pos : 0 < g .sectorBytes) (ok : ImageGroups g img) where
   abbrev vol : Volume
   vol = volume g img
 
@@ -136,30 +135,26 @@ module _ {g : Geometry} {img : Bytes} (pos : 0 < g .sectorBytes) (ok : Judged g 
       let a = both (all (isSector g img) (fatSectors g img ++ difatSectors g img)) (distinct (fatSectors g img ++ difatSectors g img)) (table-facts .0) .0 in
       ltb-true s (sectorCount g img) (all-at (isSector g img) (fatSectors g img ++ difatSectors g img) a s h)
 
-  marked : (s : ℕ) → s < N → ((0 < count s (vol .fat)) → f s ≡ FATSECT) × ((0 < count s (vol .difat)) → f s ≡ DIFSECT)
-  unfolding tableMarks markRight fatCell volume sectorSpace member
-  marked s h =
-      let a = below-at (sectorCount g img) _ (table-facts .1) s h in (
-        (λ p. eqb-true (f s) FATSECT (beq-true-right (eqb (f s) FATSECT)
-            (rw (lt-ltb 0 (count s (vol .fat)) p) at
-            (both (Bool·beq (eqb (f s) FATSECT) (ltb 0 (count s (vol .fat)))) (Bool·beq (eqb (f s) DIFSECT) (ltb 0 (count s (vol .difat)))) a .0)))),
-        (λ p. eqb-true (f s) DIFSECT (beq-true-right (eqb (f s) DIFSECT)
-            (rw (lt-ltb 0 (count s (vol .difat)) p) at
-            (both (Bool·beq (eqb (f s) FATSECT) (ltb 0 (count s (vol .fat)))) (Bool·beq (eqb (f s) DIFSECT) (ltb 0 (count s (vol .difat)))) a .1)))),
-      )
+  -- FATSECT and DIFSECT stand for exactly these sectors
+  pub marks-at : (s : ℕ) → s < N → (eqb (f s) FATSECT ≡ member s (vol .fat)) × (eqb (f s) DIFSECT ≡ member s (vol .difat))
+  unfolding tableMarks markRight volume sectorSpace
+  marks-at s h =
+      let a = below-at (sectorCount g img) (markRight g img) (table-facts .1) s h in
+      let b = both (Bool·beq (eqb (f s) FATSECT) (member s (vol .fat))) (Bool·beq (eqb (f s) DIFSECT) (member s (vol .difat))) a in
+      (beq-equal (eqb (f s) FATSECT) (member s (vol .fat)) (b .0), beq-equal (eqb (f s) DIFSECT) (member s (vol .difat)) (b .1))
 
   pub system-facts : (s : ℕ) → 0 < count s (systemSectors vol) → (s < N) × (f s ≢ FREE)
-  unfolding systemSectors
+  unfolding systemSectors member
   system-facts s h =
       let tables = count-append s (vol .fat) (vol .difat) in
       let a = count-append s (vol .fat ++ vol .difat) (vol .directorySectors) in
       let b = count-append s (vol .fat ++ vol .difat ++ vol .directorySectors) (vol .miniFat) in
       let c = count-append s (vol .fat ++ vol .difat ++ vol .directorySectors ++ vol .miniFat) (vol .miniStream) in
       elim (decLt 0 (count s (vol .fat))) [
-        | yes p ↦ let k = table-sector-below s (omega arith) in (k, λ z. let e = marked s k .0 p in omega arith)
+        | yes p ↦ let k = table-sector-below s (omega arith) in (k, λ z. let e = eqb-true (f s) FATSECT (marks-at s k .0 ∙ lt-ltb 0 (count s (vol .fat)) p) in omega arith)
         | no q1 ↦
             elim (decLt 0 (count s (vol .difat))) [
-              | yes p ↦ let k = table-sector-below s (omega arith) in (k, λ z. let e = marked s k .1 p in omega arith)
+              | yes p ↦ let k = table-sector-below s (omega arith) in (k, λ z. let e = eqb-true (f s) DIFSECT (marks-at s k .1 ∙ lt-ltb 0 (count s (vol .difat)) p) in omega arith)
               | no q2 ↦
                   elim (decLt 0 (count s (vol .directorySectors))) [
                     | yes p ↦ (

@@ -26,12 +26,13 @@ use Rattle.theory.proofs.Chains.{linked-short, length-units, chain-linked}
 use Rattle.theory.proofs.Tests.{both, below-at}
 use Rattle.theory.proofs.Below.{length-below, getD-below}
 use Rattle.theory.proofs.RoundUp.{round-enough}
-use Rattle.history.specs.Good.{spaceOf, systemOf, unitsOf, entryUnits, Chain, Good, sideOf}
-use Rattle.history.proofs.Judged.{Judged, accepted-judged}
-use Rattle.history.proofs.OwnerFacts.{units-linked, make-owned, owned-sectors-count, owned-minis-count}
-use Rattle.history.proofs.SystemFacts.{bounded, sector-bytes, sector-limit, directory-chain, directory-long, mini-table, mini-cells, mini-rest, root-size, mini-fat-chain, mini-stream-chain, system-facts}
+use Rattle.frame.specs.Good.{spaceOf, systemOf, unitsOf, entryUnits, Chain, Good, sideOf}
+use Rattle.frame.specs.Groups.{ImageGroups}
+use Rattle.frame.proofs.Accepted.{accepted-kept}
+use Rattle.frame.proofs.OwnerFacts.{units-linked, make-owned, owned-sectors-count, owned-minis-count}
+use Rattle.frame.proofs.SystemFacts.{bounded, sector-bytes, sector-limit, directory-chain, directory-long, mini-table, mini-cells, mini-rest, root-size, mini-fat-chain, mini-stream-chain, system-facts}
 
-module _ {g : Geometry} {img : Bytes} (pos : 0 < g .sectorBytes) (ok : Judged g img) where
+module _ {g : Geometry} {img : Bytes} (pos : 0 < g .sectorBytes) (ok : ImageGroups g img) where
   abbrev vol : Volume
   vol = volume g img
 
@@ -102,8 +103,8 @@ module _ {g : Geometry} {img : Bytes} (pos : 0 < g .sectorBytes) (ok : Judged g 
   unit-sizes true = omega arith
   unit-sizes false = pos
 
-  pub judged-good : Good vol
-  judged-good =
+  pub groups-good : Good vol
+  groups-good =
       record {
         lim = limits;
         unit = unit-sizes;
@@ -123,4 +124,4 @@ module _ {g : Geometry} {img : Bytes} (pos : 0 < g .sectorBytes) (ok : Judged g 
       }
 
 pub accepted-good : (g : Geometry) (img : Bytes) → 0 < g .sectorBytes → Accepted g img → Good (volume g img)
-accepted-good g img pos acc = judged-good pos (accepted-judged g img acc)
+accepted-good g img pos acc = groups-good pos (accepted-kept g img acc)
