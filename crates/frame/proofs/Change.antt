@@ -18,7 +18,7 @@ use Rattle.format.specs.Layout.Space.{Space, unitsFor, laid, freeUnits, block}
 use Rattle.format.specs.Layout.Tables.{cellPlaceIn, fatSectors, fatCell, sectorSpace}
 use Rattle.format.specs.Layout.Entry.{size, start, nameBytes}
 use Rattle.format.specs.Layout.Directory.{entryCount}
-use Rattle.format.specs.Rules.Entries.{entryRules, commonFields, entryRight}
+use Rattle.format.specs.Rules.Entries.{entryRules, commonFields, entryRight, entryFields}
 use Rattle.format.specs.Layout.Volume.{Volume, volume, miniSpace, directorySectorsOf, miniFatSectors, directory}
 use Rattle.format.specs.Layout.Stream.{spaceFor, streamUnits, streamSize}
 use Rattle.format.specs.Calls.SetLength.{editSpace, newUnits, entryWritten, resized, tailZeroed}
@@ -40,9 +40,9 @@ use Rattle.frame.specs.Groups.{ImageGroups}
 use Rattle.theory.proofs.RoundUp.{round-enough, round-zero, round-mono}
 use Rattle.frame.proofs.Crossing.{not-crossed, small-new}
 use Rattle.frame.proofs.Accepted.{accepted-kept}
-use Rattle.frame.proofs.StreamEntry.{stream-entry}
 use Rattle.theory.proofs.FreeUnits.{pool-short}
 use Rattle.theory.proofs.Contents.{laid-prefix}
+use Rattle.frame.proofs.EntryFacts.{stream-not-root, name-bytes-short, stream-fields-say, stream-fields-of, common-fields-of}
 
 pub relinked-at : (sp sp′ : Space) (a a′ b b′ : List ℕ) → a′ ≡ a → b′ ≡ b → Relinked sp sp′ a b → Relinked sp sp′ a′ b′
 relinked-at sp sp′ a a′ b b′ p q r = subst (λ (x : List ℕ). Relinked sp sp′ x b′) (sym p) (subst (λ (x : List ℕ). Relinked sp sp′ a x) (sym q) r)
@@ -98,9 +98,17 @@ module _ (g : Geometry) (z : Sized g) (img : Bytes) (e new : ℕ) (m : MayResize
   pub sound : Sound g img
   sound = sound-of g z img groups
 
-  pub entry-facts : (e ≢ 0) × (nameBytes (v .directory .entry e) ≤ 64) × (commonFields (v .directory .entry e) ≡ true)
+  fields : entryFields e (v .directory .entry e) ≡ true
   unfolding entryRules entryRight
-  entry-facts = stream-entry e (v .directory .entry e) (below-at (v .directory .count) (entryRight (v .directory)) (groups .volume .entries) e (m .inside)) (m .stream)
+  fields = below-at (v .directory .count) (entryRight (v .directory)) (groups .volume .entries) e (m .inside)
+
+  pub entry-facts : (e ≢ 0) × (nameBytes (v .directory .entry e) ≤ 64) × (commonFields (v .directory .entry e) ≡ true)
+  entry-facts =
+      let b = v .directory .entry e in (
+        stream-not-root b e fields (m .stream),
+        name-bytes-short b (stream-fields-say b (stream-fields-of b e fields (m .stream)) .0),
+        common-fields-of b e fields,
+      )
 
   pub entry-inside : e < entryCount g dirs
   entry-inside = rw (sym (entry-count-is g img)) (m .inside)

@@ -4,6 +4,7 @@ pub mod OwnerFacts
 pub mod SystemFacts
 pub mod Good
 pub mod GoodBack
+pub mod EntryFacts
 pub mod Sound
 pub mod Kept
 pub mod Places
@@ -18,7 +19,6 @@ pub mod Writing
 pub mod Entry
 pub mod Edited
 pub mod Crossing
-pub mod StreamEntry
 pub mod Change
 pub mod SectorChange
 pub mod MiniChange

@@ -35,7 +35,7 @@ use Rattle.history.proofs.Refusals.{RefusedLow, resolve-low, resolve-st
 use Rattle.history.proofs.Finding.{refused-has-no-row, has-row, row-length}
 use Rattle.history.proofs.AnswerNumbers.{cond-not-26, first-not-26, iff-along, iff-never, length-26-iff, length-zero-iff, work-first-not-26, refused-not-0-26, refused-not-26, write-zero-iff}
 use Rattle.history.proofs.Room.{free-minis, free-sectors}
-use Rattle.history.proofs.EntryFacts.{root-plain}
+use Rattle.frame.proofs.EntryFacts.{root-plain}
 
 verdict-accepted : (g : Geometry) (img : Bytes) (n : ℕ) → Accepted g img → verdict g img n ≡ cond (leb (workNeed (length img)) n) 0 2
 unfolding verdict groups check

@@ -33,7 +33,7 @@ use Rattle.history.proofs.Counting.{inside-forest}
 use Rattle.history.proofs.Rows.{rows-changed}
 use Rattle.history.proofs.Finding.{is-stream, is-inside, hit-is-found, found-hit-everywhere}
 use Rattle.history.proofs.Written.{write-changed, write-contents}
-use Rattle.history.proofs.EntryFacts.{root-plain}
+use Rattle.frame.proofs.EntryFacts.{root-plain}
 
 -- what a step leaves
 pub record Step (g : Geometry) (img img′ : Bytes) (rows′ : List Row) : Type 0 where

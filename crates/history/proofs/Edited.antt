@@ -28,7 +28,7 @@ use Rattle.history.specs.Changed.{Changed}
 use Rattle.history.proofs.Alike.{Alike, trees-same}
 use Rattle.history.proofs.EditedUnits.{edit-becomes, edit-cells, edited-units, in-entry-units, limit-same, unit-same, units-other, cells-same, edit-linked, other-chain, owned-after, size-other}
 use Rattle.history.proofs.CellCases.{rechain-cases, or-more, plain-free, plain-end, plain-number}
-use Rattle.history.proofs.EntryFacts.{entry-fields, root-no-stream, edited-fields}
+use Rattle.frame.proofs.EntryFacts.{entry-fields, root-no-stream, edited-fields}
 
 -- ---- the edit
 

@@ -27,7 +27,7 @@ use Rattle.history.proofs.Hits.{strip, hits, hits-le}
 use Rattle.history.proofs.Paths.{Findable, path-hits, foundList}
 use Rattle.history.proofs.Refusals.{found-stream}
 use Rattle.history.proofs.Rows.{meantLengths, nonEmpty, firstOr0, has-row-meant, row-length-meant, rows-meant}
-use Rattle.history.proofs.EntryFacts.{entry-fields, name-fields-legal, stream-fields-say, stream-fields-of, storage-fields-say, storage-fields-of}
+use Rattle.frame.proofs.EntryFacts.{entry-fields, name-fields-legal, stream-fields-say, stream-fields-of, storage-fields-say, storage-fields-of}
 use Rattle.history.proofs.Forest.{named-below}
 
 module _ (v : Volume) (img : Bytes) (o : Good v) (sized : Sized v img) (rootPlain : isStream (v .directory .entry 0) ≡ false) where

@@ -39,7 +39,7 @@ use Rattle.history.proofs.Finding.{is-stream, is-inside, hit-is-found, 
 use Rattle.history.proofs.Lengths.{sides-uncrossed, old-units-length}
 use Rattle.history.proofs.Resized.{resize-changed, resize-contents}
 use Rattle.history.proofs.EditStep.{Step, edit-step}
-use Rattle.history.proofs.EntryFacts.{root-plain}
+use Rattle.frame.proofs.EntryFacts.{root-plain}
 use Rattle.history.proofs.Alike.{Alike}
 
 -- the same directory is like itself

@@ -1,6 +1,5 @@
 -- Demand 3, step by step.
 pub mod Alike
-pub mod EntryFacts
 pub mod CellCases
 pub mod EditedUnits
 pub mod Edited

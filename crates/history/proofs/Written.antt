@@ -31,7 +31,7 @@ use Rattle.frame.proofs.Good.{accepted-good}
 use Rattle.history.specs.Changed.{Changed}
 use Rattle.history.proofs.Filled.{contents-read, edited-contents, unit-full, frame-sized, Sized}
 use Rattle.history.proofs.Sides.{cond-beq-false, full-side, refilled-side, cond-beq-true}
-use Rattle.history.proofs.EntryFacts.{common-fields-of, entry-fields}
+use Rattle.frame.proofs.EntryFacts.{common-fields-of, entry-fields}
 
 same-fields : (a b : Bytes) → b ≡ a → commonFields a ≡ true → SameFields a b
 same-fields a b e h =

@@ -1,11 +1,12 @@
 -- What group 14 says of a stream, of a storage and of the root, as facts.
-use Prim.Native.Nat.{ℕ, zero, suc, _%_, _-_, _<_}
+use mathlib.Core.Logic.{_≢_}
+use Prim.Native.Nat.{ℕ, zero, suc, _%_, _-_, _<_, _≤_}
 use mathlib.Core.Path.{_≡_, ap, refl}
 use mathlib.Core.Bool.{true, _&&_, _||_, false}
 use native.Mathlib.Omega.{arith}
 use native.Mathlib.Decide.{decLt}
 use lib.Dec.{eqb, leb}
-use borrow.Author.Tests.{eqb-true, le-ltb}
+use borrow.Author.Tests.{eqb-true, le-ltb, leb-true}
 use Rattle.format.specs.Basics.Bytes.{Bytes, u16at, part, allZero, byteAt}
 use Rattle.format.specs.Layout.Name.{legalName}
 use Rattle.format.specs.Layout.Entry.{NOSTREAM, name, nameBytes, kind, child, clsid, created, modified, isStream, isStorage, isRoot, start, sizeField, isBlank}
@@ -23,6 +24,15 @@ module _ (a : Bytes) where
   pub name-fields-legal : nameFields a ≡ true → legalName (name a) ≡ true
   unfolding nameFields
   name-fields-legal h = both (eqb (nameBytes a % 2) 0 && leb 4 (nameBytes a) && leb (nameBytes a) 64 && eqb (u16at a (nameBytes a - 2)) 0) (legalName (name a)) h .1
+
+  pub name-bytes-short : nameFields a ≡ true → nameBytes a ≤ 64
+  unfolding nameFields
+  name-bytes-short h =
+      let even = eqb (nameBytes a % 2) 0 in
+      let some = leb 4 (nameBytes a) in
+      let short = leb (nameBytes a) 64 in
+      let ends = eqb (u16at a (nameBytes a - 2)) 0 in
+      leb-true (nameBytes a) 64 (both (even && some) short (both (even && some && short) ends (both (even && some && short && ends) (legalName (name a)) h .0) .0) .1)
 
   pub stream-fields-say : streamFields a ≡ true → (nameFields a ≡ true) × (child a ≡ NOSTREAM)
   unfolding streamFields
@@ -42,6 +52,10 @@ module _ (a : Bytes) where
   root-kind : entryFields 0 a ≡ true → kind a ≡ 5
   unfolding entryFields
   root-kind h = eqb-true (kind a) 5 (both (isRoot a) (rootFields a) (both (isRoot a && rootFields a) (commonFields a) h .0) .0)
+
+  pub stream-not-root : (i : ℕ) → entryFields i a ≡ true → isStream a ≡ true → i ≢ 0
+  stream-not-root zero h st = absurd (omega (arith, root-kind h, eqb-true (kind a) 2 st))
+  stream-not-root (suc i) h st = λ e. omega arith
 
   pub stream-fields-of : (i : ℕ) → entryFields i a ≡ true → isStream a ≡ true → streamFields a ≡ true
   unfolding entryFields
