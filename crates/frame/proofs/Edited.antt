@@ -18,7 +18,7 @@ use Rattle.format.specs.Layout.Directory.{entryIn, entryCount}
 use Rattle.format.specs.Calls.Overwrite.{putChain}
 use Rattle.format.specs.Calls.SetLength.{relinked, zeroed}
 use Rattle.theory.specs.Links.{rechain, Linked}
-use Rattle.theory.specs.Blocks.{scatter, target}
+use Rattle.theory.specs.Blocks.{scatter, target, zeroBehind}
 use Rattle.theory.proofs.Counts.{count-append}
 use Rattle.theory.proofs.Contents.{laid-agree, laid-length, scatter-same, scatter-ext}
 use Rattle.theory.proofs.Fits.{zeros-fit}
@@ -149,7 +149,7 @@ module _ (g : Geometry) (z : Sized g) (img : Bytes) (sp : Space) (secs D dirs us
   full s p = block-length sp (length img) (q .units) img refl s (q .newBelow s p)
 
   pub edit-bytes : (u : ℕ) → u < sp .limit → ok u → block sp i3 u ≡ scatter (sp .unit) ws (target (sp .unit) (block sp img) us ws n new) (block sp img) u
-  unfolding target withData zeroed
+  unfolding target zeroBehind withData zeroed
   edit-bytes u l k = blk3 u l k ∙ go (ltb n new) refl
     where
       B : ℕ
@@ -160,7 +160,7 @@ module _ (g : Geometry) (z : Sized g) (img : Bytes) (sp : Space) (secs D dirs us
 
       go : (b : Bool) → ltb n new ≡ b
           → block sp (cond b (putChain sp ws i1 n (replicate (length ws * sp .unit - n) 0)) i1) u
-          ≡ scatter (sp .unit) ws (cond b (fit (length ws * sp .unit) (take n (laid (block sp img) us))) (laid (block sp img) ws)) (block sp img) u
+          ≡ scatter (sp .unit) ws (cond b (zeroBehind (length ws * sp .unit) n (laid (block sp img) us)) (laid (block sp img) ws)) (block sp img) u
       go true h =
           let r = length-replicate {A = ℕ} (length ws * sp .unit - n) 0 in
           let gr = q .grows h in

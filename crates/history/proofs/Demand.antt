@@ -9,7 +9,6 @@ use lib.Dec.{ltb}
 use lib.ListN.{length}
 use borrow.Author.Tests.{ltb-false}
 use Rattle.format.specs.Basics.Bytes.{Bytes}
-use Rattle.format.specs.Basics.Lists.{fit}
 use Rattle.format.specs.Layout.Geometry.{Geometry}
 use Rattle.format.specs.Layout.Space.{freeUnits}
 use Rattle.format.specs.Layout.Stream.{streamSize}
@@ -32,9 +31,10 @@ use Rattle.frame.specs.Frame.{Frame}
 use Rattle.history.proofs.Refusals.{RefusedLow, resolve-stream-low}
 use Rattle.history.proofs.Room.{allocated-sectors, allocated-minis}
 use Rattle.history.proofs.Answers.{answers-0-iff, answers-26-iff, write-answer, length-answer}
-use Rattle.history.proofs.EditStep.{Step, write-step}
+use Rattle.history.proofs.EditStep.{write-step}
 use Rattle.history.proofs.LengthStep.{length-step}
 use Rattle.history.proofs.Filled.{frame-sized, Sized}
+use Rattle.history.specs.Step.{Step, CallStep, After, lengthRows}
 
 on-zero-same : (n : ℕ) (x : Bytes) → onZero n x x ≡ x
 unfolding onZero
@@ -91,7 +91,7 @@ module _ (g : Geometry) (pos : 0 < g .sectorBytes) (fr : Frame g) (img : Bytes) 
       absurd (omega (arith, l .0))
 
   length-answered-0 : (p : Path) (new : ℕ) (work : List ℕ) (f : Found) → resolveStream (v .directory) p ≡ f → RefusedLow f → answer g img (setLength p new work) ≡ 0 →
-      Step g img (resized v img (entryOf f) new) (map (change p (fit new)) (rowsOf g img))
+      Step g img (resized v img (entryOf f) new) (lengthRows p new (rowsOf g img))
   unfolding answerOf entryOf
   length-answered-0 p new work (at e b) h l a =
       let r = first-zero _ _ (first-zero _ _ (sym (length-answer g pos img acc sized p new work (at e b) h) ∙ a) .1) .1 in
@@ -110,7 +110,7 @@ module _ (g : Geometry) (pos : 0 < g .sectorBytes) (fr : Frame g) (img : Bytes) 
   accepted-step (setLength p new work) h a = length-answered-0 p new work (resolveStream (v .directory) p) refl (resolve-stream-low (v .directory) p) a
   accepted-step (list out work) h a = absurd (clash h refl)
 
-  edit-call : (c : Call) → isEdit c ≡ true → Step g img (imageAfter g img c) (rowsStep (settingOf g img) (rowsOf g img) c)
+  edit-call : (c : Call) → isEdit c ≡ true → CallStep g img c
   unfolding imageAfter rowsStep onZero
   edit-call c h = go (answer g img c) refl
     where
@@ -131,7 +131,7 @@ module _ (g : Geometry) (pos : 0 < g .sectorBytes) (fr : Frame g) (img : Bytes) 
   unfolding imageAfter rowsStep
   other-call c e a = rw (e, a, on-zero-same (answer g img c) img) unchanged-step
 
-  pub call-step : (c : Call) → Step g img (imageAfter g img c) (rowsStep (settingOf g img) (rowsOf g img) c)
+  pub call-step : (c : Call) → CallStep g img c
   unfolding edited accepts isEdit
   call-step (validate work) = other-call (validate work) refl refl
   call-step (find p work) = other-call (find p work) refl refl
@@ -142,11 +142,14 @@ module _ (g : Geometry) (pos : 0 < g .sectorBytes) (fr : Frame g) (img : Bytes) 
 
 -- ---- every list of calls
 
-pub demand3 : (g : Geometry) → 0 < g .sectorBytes → Frame g → Demand3 g
+list-after : (g : Geometry) → 0 < g .sectorBytes → Frame g → (img : Bytes) (calls : List Call) → Accepted g img → After g img calls
 unfolding after rowsAfter
-demand3 g pos fr img [] acc = holds-now g pos fr img acc
-demand3 g pos fr img (c ∷ calls) acc =
+list-after g pos fr img [] acc = holds-now g pos fr img acc
+list-after g pos fr img (c ∷ calls) acc =
     let s = call-step g pos fr img acc c in
-    let h = demand3 g pos fr (imageAfter g img c) calls (s .accepted) in
+    let h = list-after g pos fr (imageAfter g img c) calls (s .accepted) in
     subst (λ rows. Holds g (settingOf g img) (after g (imageAfter g img c) calls) (rowsAfter (settingOf g img) rows calls)) (s .rows)
     (subst (λ st. Holds g st (after g (imageAfter g img c) calls) (rowsAfter st (rowsOf g (imageAfter g img c)) calls)) (s .setting) h)
+
+pub demand3 : (g : Geometry) → 0 < g .sectorBytes → Frame g → Demand3 g
+demand3 g pos fr = list-after g pos fr

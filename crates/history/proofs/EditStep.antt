@@ -15,7 +15,7 @@ use Rattle.format.specs.Rules.Verdict.{Accepted}
 use Rattle.format.specs.Calls.Paths.{Path}
 use Rattle.format.specs.Calls.Find.{at, resolveStream}
 use Rattle.format.specs.Calls.Overwrite.{overwritten}
-use Rattle.format.specs.History.Rows.{Row, rowsIn, rowsOf}
+use Rattle.format.specs.History.Rows.{rowsIn, rowsOf}
 use Rattle.format.specs.History.Setting.{settingOf, Setting}
 use Rattle.format.specs.History.Step.{change, putInto}
 use Rattle.frame.specs.Edits.{Preserved, MayWrite}
@@ -34,12 +34,7 @@ use Rattle.history.proofs.Rows.{rows-changed}
 use Rattle.history.proofs.Finding.{is-stream, is-inside, hit-is-found, found-hit-everywhere}
 use Rattle.history.proofs.Written.{write-changed, write-contents}
 use Rattle.frame.proofs.EntryFacts.{root-plain}
-
--- what a step leaves
-pub record Step (g : Geometry) (img img′ : Bytes) (rows′ : List Row) : Type 0 where
-  pub accepted : Accepted g img′
-  pub setting : settingOf g img′ ≡ settingOf g img
-  pub rows : rowsOf g img′ ≡ rows′
+use Rattle.history.specs.Step.{Step}
 
 setting : Geometry → ℕ → ℕ → ℕ → ℕ → Setting
 setting g a b c d = record { geometry = g; sectors = a; minis = b; fixed = c; work = d }

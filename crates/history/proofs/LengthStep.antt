@@ -3,7 +3,7 @@ use Prim.Native.Nat.{ℕ, _+_, _≤_, _<_, max}
 use mathlib.Core.Path.{_≡_, refl, sym, ap, _∙_, subst}
 use mathlib.Core.Logic.{_≢_, _⊎_, inl, inr}
 use mathlib.Core.Bool.{Bool, true, false, cond}
-use mathlib.Core.List.{[], map}
+use mathlib.Core.List.{[]}
 use native.Mathlib.Omega.{arith}
 use native.Mathlib.Decide.{ℕ-discrete}
 use lib.Dec.{ltb}
@@ -24,7 +24,6 @@ use Rattle.format.specs.Calls.Paths.{Path}
 use Rattle.format.specs.Calls.Find.{at, resolveStream}
 use Rattle.format.specs.Calls.SetLength.{crosses, tooFew, editSpace, resized}
 use Rattle.format.specs.History.Rows.{rowsOf}
-use Rattle.format.specs.History.Step.{change}
 use Rattle.theory.proofs.RoundUp.{round-zero}
 use Rattle.theory.proofs.Tests.{neither}
 use Rattle.theory.proofs.Fits.{fit-same}
@@ -38,9 +37,10 @@ use Rattle.history.proofs.Rows.{rows-changed}
 use Rattle.history.proofs.Finding.{is-stream, is-inside, hit-is-found, found-hit-everywhere}
 use Rattle.history.proofs.Lengths.{sides-uncrossed, old-units-length}
 use Rattle.history.proofs.Resized.{resize-changed, resize-contents}
-use Rattle.history.proofs.EditStep.{Step, edit-step}
+use Rattle.history.proofs.EditStep.{edit-step}
 use Rattle.frame.proofs.EntryFacts.{root-plain}
 use Rattle.history.proofs.Alike.{Alike}
+use Rattle.history.specs.Step.{Step, lengthRows, Enough}
 
 -- the same directory is like itself
 alike-itself : (v : Volume) → Alike (v .directory) (v .directory)
@@ -92,13 +92,13 @@ module _ (g : Geometry) (pos : 0 < g .sectorBytes) (fr : Frame g) (img : Bytes) 
     inside : e < v .directory .count
     inside = is-inside v img good sized rootPlain p found
 
-    same-length-rows : contents v img e ≡ fit new (contents v img e) → rowsOf g img ≡ map (change p (fit new)) (rowsOf g img)
+    same-length-rows : contents v img e ≡ fit new (contents v img e) → rowsOf g img ≡ lengthRows p new (rowsOf g img)
     unfolding rowsOf
     same-length-rows h =
         rows-changed v v img img e p (fit new) (alike-itself v) h (λ i q z st. refl) stream [] (forest (v .directory))
         (inside-forest v img good sized) (hit-is-found v img good sized rootPlain p found) (found-hit-everywhere v img good sized rootPlain p found)
 
-    same-step : new ≡ old → Step g img img (map (change p (fit new)) (rowsOf g img))
+    same-step : new ≡ old → Step g img img (lengthRows p new (rowsOf g img))
     same-step z =
         record {
           accepted = acc;
@@ -122,14 +122,14 @@ module _ (g : Geometry) (pos : 0 < g .sectorBytes) (fr : Frame g) (img : Bytes) 
     sides : ((ltb old cutoff ≡ side) ⊎ (old ≡ 0)) × ((ltb new cutoff ≡ side) ⊎ (new ≡ 0))
     sides = sides-uncrossed old new within
 
-    enough : roundUp new (spaceOf v side .unit) ≤ length (streamUnits v e) + length (freeUnits (spaceOf v side))
+    enough : Enough (spaceOf v side) (streamUnits v e) new
     enough =
         elim (sides .1) [
           | inr z ↦ omega (arith, ap (λ n. roundUp n (spaceOf v side .unit)) z, round-zero (spaceOf v side .unit) (good .unit side))
           | inl h ↦ needs-in-space g img old new side h needs-fit (length (streamUnits v e)) (old-units-length v img good sized e new inside stream within)
         ]
 
-    differ-step : new ≢ old → Step g img (resized v img e new) (map (change p (fit new)) (rowsOf g img))
+    differ-step : new ≢ old → Step g img (resized v img e new) (lengthRows p new (rowsOf g img))
     unfolding editSpace spaceFor
     differ-step z =
         let may : MayResize g img e new = record {
@@ -143,9 +143,9 @@ module _ (g : Geometry) (pos : 0 < g .sectorBytes) (fr : Frame g) (img : Bytes) 
         edit-step g pos fr img acc p found (resized v img e new) (fit new)
         (resize-changed g pos fr img acc e new may) (fr .resizing img e new may .kept) (resize-contents g pos fr img acc e new may)
 
-    pub length-step : Step g img (resized v img e new) (map (change p (fit new)) (rowsOf g img))
+    pub length-step : Step g img (resized v img e new) (lengthRows p new (rowsOf g img))
     length-step =
         elim (ℕ-discrete new old) [
-          | yes z ↦ subst (λ i. Step g img i (map (change p (fit new)) (rowsOf g img))) (sym (resized-same v img e new z)) (same-step z)
+          | yes z ↦ subst (λ i. Step g img i (lengthRows p new (rowsOf g img))) (sym (resized-same v img e new z)) (same-step z)
           | no z ↦ differ-step z
         ]

@@ -29,6 +29,7 @@ use Rattle.history.specs.Changed.{Changed}
 use Rattle.history.proofs.Filled.{Sized, edited-contents, frame-sized}
 use Rattle.history.proofs.Lengths.{sides-uncrossed, old-units, new-units-become, new-units-length, new-content-length, new-content-fits, new-units-none}
 use Rattle.history.proofs.Sides.{becomes-side, cond-beq-false, cond-nil, full-side, refilled-side, cond-beq-true}
+use Rattle.history.specs.Step.{resizedBytes}
 
 module _ (g : Geometry) (pos : 0 < g .sectorBytes) (fr : Frame g) (img : Bytes) (acc : Accepted g img) where
   abbrev v : Volume
@@ -134,7 +135,7 @@ module _ (g : Geometry) (pos : 0 < g .sectorBytes) (fr : Frame g) (img : Bytes) 
           none = units-there;
         }
 
-    pub resize-contents : contents (volume g (resized v img e new)) (resized v img e new) e ≡ fit new (contents v img e)
+    pub resize-contents : contents (volume g (resized v img e new)) (resized v img e new) e ≡ resizedBytes new (contents v img e)
     resize-contents =
         edited-contents good resize-changed sized
         ∙ elim (sides .1) [

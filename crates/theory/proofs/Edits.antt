@@ -14,7 +14,7 @@ use Rattle.format.specs.Basics.Lists.{count, fit}
 use Rattle.format.specs.Layout.Chain.{END}
 use Rattle.format.specs.Layout.Space.{laid}
 use Rattle.theory.specs.Owned.{MayBecome}
-use Rattle.theory.specs.Blocks.{scatter, Table, Kept, Edited, target}
+use Rattle.theory.specs.Blocks.{scatter, Table, Kept, Edited, target, zeroBehind}
 use Rattle.theory.proofs.OwnerCounts.{owners-at, owners-two}
 use Rattle.theory.proofs.Chains.{linked-below, linked-not-free}
 use Rattle.theory.proofs.Contents.{laid-agree, laid-length, laid-take, laid-scatter, scatter-out}
@@ -60,22 +60,22 @@ module _ (N B : ℕ) (lim : N ≤ END) (sys : List ℕ) (t : Table) (L : List (L
 -- a change of length, by the content
 module _ (B : ℕ) (d : ℕ → List ℕ) (us fr : List ℕ) (h : (s : ℕ) → 0 < count s us → length (d s) ≡ B) (a b m : ℕ) (ha : a ≤ length us * B) (hb : b ≤ m * B) where
   pub target-length : ((s : ℕ) → 0 < count s (take m (us ++ fr)) → length (d s) ≡ B) → length (target B d us (take m (us ++ fr)) a b) ≡ length (take m (us ++ fr)) * B
-  unfolding target
+  unfolding target zeroBehind
   target-length g = go (ltb a b)
     where
-      go : (t : Bool) → length (cond t (fit (length (take m (us ++ fr)) * B) (take a (laid d us))) (laid d (take m (us ++ fr)))) ≡ length (take m (us ++ fr)) * B
-      go true = length-fit (length (take m (us ++ fr)) * B) (take a (laid d us))
+      go : (t : Bool) → length (cond t (zeroBehind (length (take m (us ++ fr)) * B) a (laid d us)) (laid d (take m (us ++ fr)))) ≡ length (take m (us ++ fr)) * B
+      go true = length-fit _ _
       go false = laid-length B d (take m (us ++ fr)) g
 
   -- the first b of the new content are the first a of the old, cut or with zeros added
   pub target-is : length (take m (us ++ fr)) ≡ m → (b ≤ a → m ≤ length us) → take b (target B d us (take m (us ++ fr)) a b) ≡ fit b (take a (laid d us))
-  unfolding target
+  unfolding target zeroBehind
   target-is l s = go (ltb a b) refl
     where
       n : length (take a (laid d us)) ≡ a
       n = length-take-le a (laid d us) (rw (laid-length B d us h) ha)
 
-      go : (t : Bool) → ltb a b ≡ t → take b (cond t (fit (length (take m (us ++ fr)) * B) (take a (laid d us))) (laid d (take m (us ++ fr)))) ≡ fit b (take a (laid d us))
+      go : (t : Bool) → ltb a b ≡ t → take b (cond t (zeroBehind (length (take m (us ++ fr)) * B) a (laid d us)) (laid d (take m (us ++ fr)))) ≡ fit b (take a (laid d us))
       go true e =
           let p = ltb-true a b e in
           rw l (take-fit b (m * B) (take a (laid d us)) (omega (arith, n)) hb)

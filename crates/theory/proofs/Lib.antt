@@ -7,6 +7,7 @@ pub mod Sets
 pub mod Bytes
 pub mod ByteTests
 pub mod RoundUp
+pub mod Digits
 pub mod OwnerCounts
 pub mod ListSums
 pub mod Chains

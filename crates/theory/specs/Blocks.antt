@@ -15,9 +15,13 @@ abbrev pub scatter : ℕ → List ℕ → List ℕ → (ℕ → List ℕ) → �
 scatter B [] c d s = d s
 scatter B (w ∷ ws) c d s = cond (eqb s w) (take B c) (scatter B ws (drop B c) d s)
 
+-- the first a numbers of c, and zeros up to n
+unfoldable pub zeroBehind : ℕ → ℕ → List ℕ → List ℕ
+zeroBehind n a c = fit n (take a c)
+
 -- what lies in ws after a change of length from a to b, where us was the chain: zeros behind a if it grows, and else nothing changes
 unfoldable pub target : ℕ → (ℕ → List ℕ) → List ℕ → List ℕ → ℕ → ℕ → List ℕ
-target B d us ws a b = cond (ltb a b) (fit (length ws * B) (take a (laid d us))) (laid d ws)
+target B d us ws a b = cond (ltb a b) (zeroBehind (length ws * B) a (laid d us)) (laid d ws)
 
 pub record Table : Type 0 where
   pub cells : ℕ → ℕ

@@ -1,0 +1,43 @@
+-- What one call of a list leaves, and the claim about the whole list.
+use mathlib.Core.Path.{_≡_}
+use mathlib.Core.List.{List, map}
+use Prim.Native.Nat.{ℕ, _+_, _≤_}
+use lib.ListN.{length}
+use Rattle.format.specs.Basics.Bytes.{Bytes}
+use Rattle.format.specs.Basics.Lists.{fit}
+use Rattle.format.specs.Layout.Geometry.{Geometry}
+use Rattle.format.specs.Layout.Need.{roundUp}
+use Rattle.format.specs.Layout.Space.{Space, freeUnits}
+use Rattle.format.specs.Rules.Verdict.{Accepted}
+use Rattle.format.specs.Calls.Paths.{Path}
+use Rattle.format.specs.Calls.Call.{Call}
+use Rattle.format.specs.Calls.Buffers.{imageAfter}
+use Rattle.format.specs.History.Rows.{Row, rowsOf}
+use Rattle.format.specs.History.Setting.{settingOf}
+use Rattle.format.specs.History.Step.{change, rowsStep, rowsAfter}
+use Rattle.format.specs.History.Claim.{after, Holds}
+
+-- from img to an accepted image img′ of the same setting, whose rows are rows′
+pub record Step (g : Geometry) (img img′ : Bytes) (rows′ : List Row) : Type 0 where
+  pub accepted : Accepted g img′
+  pub setting : settingOf g img′ ≡ settingOf g img
+  pub rows : rowsOf g img′ ≡ rows′
+
+-- a call leaves the image and the rows that the definitions say
+abbrev pub CallStep : Geometry → Bytes → Call → Type 0
+CallStep g img c = Step g img (imageAfter g img c) (rowsStep (settingOf g img) (rowsOf g img) c)
+
+-- what an accepted change of length makes of a stream's bytes, and the rows after it
+abbrev pub resizedBytes : ℕ → Bytes → Bytes
+resizedBytes new old = fit new old
+
+abbrev pub lengthRows : Path → ℕ → List Row → List Row
+lengthRows p new rows = map (change p (resizedBytes new)) rows
+
+-- there are units enough: the stream's own and the free ones
+abbrev pub Enough : Space → List ℕ → ℕ → Type 0
+Enough sp us new = roundUp new (sp .unit) ≤ length us + length (freeUnits sp)
+
+-- what holds after the whole list: demand 3 of one image
+abbrev pub After : Geometry → Bytes → List Call → Type 0
+After g img calls = Holds g (settingOf g img) (after g img calls) (rowsAfter (settingOf g img) (rowsOf g img) calls)
