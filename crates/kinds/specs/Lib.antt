@@ -1,0 +1,3 @@
+-- What the kinds mean.
+pub mod Sizes
+pub mod Numbers
