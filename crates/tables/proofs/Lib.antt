@@ -1,0 +1,3 @@
+-- Laws for the functions on tables.
+pub mod Header
+pub mod Places

@@ -1,0 +1,89 @@
+-- Where numbers stand in sectors: inside the image; and the cells of the FAT by these places.
+use Prim.Native.Nat.{ℕ, zero, suc, _+_, _-_, _*_, _/_, _%_, _≤_, _<_}
+use mathlib.Core.Path.{_≡_, refl, sym, _∙_, ap}
+use mathlib.Core.Bool.{Bool, true, false, cond}
+use native.Mathlib.Nat.{div-lt-iff-lt-mul, mod-lt, mul-div-mul-left, div-add-mod', mul-comm, mul-le-mul-right, le-div-iff-mul-le}
+use native.Mathlib.Omega.{arith}
+use lib.Dec.{ltb}
+use lib.ListN.{length, getD}
+use borrow.Author.Tests.{lt-ltb, le-ltb}
+use Rattle.format.specs.Basics.Bytes.{Bytes, u32at}
+use Rattle.format.specs.Layout.Geometry.{Geometry, headerDifat, sectorCount, sectorPlace, placeIn, cellsIn, difatIn}
+use Rattle.format.specs.Layout.Header.{fatCount, difatStart, difatPlace}
+use Rattle.format.specs.Layout.Tables.{difatSector, difatEntry, fatSectors, fatCells, fatCell, cellIn, cellPlaceIn}
+use Rattle.theory.proofs.Below.{getD-below}
+use Rattle.frame.proofs.Kept.{place-in}
+use Rattle.tables.specs.Sized.{ImageSized, F, D, wordIn}
+
+module _ {g : Geometry} {img : Bytes} (z : ImageSized g img) where
+  -- a sector lies whole in the image
+  pub sector-inside : (s : ℕ) → s < sectorCount g img → sectorPlace g s + g .sectorBytes ≤ length img
+  sector-inside s h = rw (z .long) (place-in g (sectorCount g img) s (g .sectorBytes) h (omega arith))
+
+  pub cells-bytes : 4 * cellsIn g ≡ g .sectorBytes
+  unfolding cellsIn
+  cells-bytes = let e = z .even in omega arith
+
+  pub cells-some : 128 ≤ cellsIn g
+  unfolding cellsIn
+  cells-some = let w = z .wide in omega arith
+
+  pub cells-few : cellsIn g ≤ 1024
+  unfolding cellsIn
+  cells-few = let w = z .narrow in omega arith
+
+  pub difat-is : suc (difatIn g) ≡ cellsIn g
+  unfolding difatIn
+  difat-is = let c = cells-some in omega arith
+
+  pub one-sector : 1 ≤ length img / g .sectorBytes
+  one-sector =
+      let w = z .wide in
+      le-div-iff-mul-le {k = g .sectorBytes} {x = 1} {y = length img} (omega arith) .1
+      (omega (arith, z .long, mul-le-mul-right (g .sectorBytes) (let o : 1 ≤ sectorCount g img + 1 = omega arith in o)))
+
+  -- a number in a sector lies in the image
+  pub word-inside : (s i : ℕ) → s < sectorCount g img → i < cellsIn g → sectorPlace g s + 4 * i + 4 ≤ length img
+  word-inside s i h l = omega (arith, sector-inside s h, cells-bytes)
+
+  quarter-div : (s : ℕ) → 4 * s / g .sectorBytes ≡ s / cellsIn g
+  quarter-div s = ap (λ n. 4 * s / n) (sym cells-bytes) ∙ mul-div-mul-left s (cellsIn g) (omega arith)
+
+  quarter-mod : (s : ℕ) → 4 * s % g .sectorBytes ≡ 4 * (s % cellsIn g)
+  quarter-mod s =
+      let a = div-add-mod' (4 * s) (g .sectorBytes) in
+      let b = div-add-mod' s (cellsIn g) in
+      let c : 4 * s / g .sectorBytes * g .sectorBytes ≡ s / cellsIn g * (4 * cellsIn g) = ap (λ q. q * g .sectorBytes) (quarter-div s) ∙ ap (λ n. s / cellsIn g * n) (sym cells-bytes) in
+      omega (arith, a, b, c)
+
+  -- the cell of s is a number of the FAT sector that holds it
+  pub cell-is : (s : ℕ) → s < cellsIn g * F img → fatCell g img s ≡ wordIn g img (difatEntry g img (s / cellsIn g)) (s % cellsIn g)
+  unfolding fatCell cellIn cellPlaceIn placeIn fatCells fatSectors fatCount wordIn
+  cell-is s h =
+      let c = cells-some in
+      let k : s / cellsIn g < u32at img 44 = div-lt-iff-lt-mul {k = cellsIn g} {x = s} {y = u32at img 44} (omega arith) .1 (omega (arith, mul-comm (cellsIn g) (F img))) in
+      rw (lt-ltb s (cellsIn g * u32at img 44) h, quarter-div s, quarter-mod s, getD-below (u32at img 44) (difatEntry g img) (s / cellsIn g) 0 k)
+
+  pub cell-sector : (s : ℕ) → s < cellsIn g * F img → s / cellsIn g < F img
+  cell-sector s h = let c = cells-some in div-lt-iff-lt-mul {k = cellsIn g} {x = s} {y = F img} (omega arith) .1 (omega (arith, mul-comm (cellsIn g) (F img)))
+
+  pub cell-index : (s : ℕ) → s % cellsIn g < cellsIn g
+  cell-index s = let c = cells-some in mod-lt s (omega arith)
+
+-- ---- the DIFAT by these places
+
+pub difat-first : (g : Geometry) (img : Bytes) → difatSector g img 0 ≡ u32at img 68
+unfolding difatSector difatStart
+difat-first g img = refl
+
+pub difat-next : (g : Geometry) (img : Bytes) (k : ℕ) → difatSector g img (suc k) ≡ wordIn g img (difatSector g img k) (difatIn g)
+unfolding difatSector wordIn
+difat-next g img k = refl
+
+pub entry-first : (g : Geometry) (img : Bytes) (i : ℕ) → i < 109 → difatEntry g img i ≡ u32at img (76 + 4 * i)
+unfolding difatEntry headerDifat difatPlace
+entry-first g img i h = rw (lt-ltb i 109 h)
+
+pub entry-later : (g : Geometry) (img : Bytes) (i : ℕ) → 109 ≤ i → difatEntry g img i ≡ wordIn g img (difatSector g img ((i - 109) / difatIn g)) ((i - 109) % difatIn g)
+unfolding difatEntry headerDifat wordIn
+entry-later g img i h = rw (le-ltb i 109 h)

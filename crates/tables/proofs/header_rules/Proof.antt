@@ -1,0 +1,23 @@
+use borrow.Author.Needs.{needs}
+use Rattle.kinds.specs.Sizes.{geometryOf}
+use Rattle.tables.proofs.Header.{header-numbers}
+use native.Mathlib.Omega.{arith}
+use Rattle.tables.proofs.header_rules.Statement.{statement}
+use Rattle.tables.proofs.header_rules.Tie as tie
+
+pub header-rules-spec : {M : Type 1} → statement M
+header-rules-spec =
+    tie.close
+    (tie.spec
+    (λ c κs. search needs)  -- u64-at-requires
+    (λ c κs. search needs)  -- u64-at-requires-2
+    (λ c κs. search needs)  -- u64-at-requires-3
+    (λ c κs. search needs)  -- u16-at-requires
+    (λ c κs. search needs)  -- u16-at-requires-2
+    (λ c κs. search needs)  -- u16-at-requires-3
+    (λ c κs. search needs)  -- u16-at-requires-4
+    (λ c κs. search needs)  -- u32-at-requires
+    (λ c κs. search needs)  -- u16-at-requires-5
+    (λ c κs. search needs)  -- u32-at-requires-2
+    (λ c κs. search needs)  -- u32-at-requires-3
+    (λ c. let p = c .before .before .before .before .before .before .before .before .before .before .before .before .before in rw (header-numbers (geometryOf (p .before .args .g)) (p .before .args .img .now) (omega arith) (λ i. omega (arith, p .shared-slice-known .given i))) cc))  -- returns

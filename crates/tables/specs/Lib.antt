@@ -1,0 +1,5 @@
+-- What the functions on tables require and leave.
+pub mod Sized
+pub mod Work
+pub mod Listed
+pub mod Stages

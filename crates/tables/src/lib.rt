@@ -1,0 +1,77 @@
+// The header and the tables of an image: groups 10 and 11, and the lookup of a cell.
+ghost use mathlib.Core.Path.{_≡_};
+ghost use Prim.Native.Nat.{_+_, _≤_, _<_, _*_};
+ghost use Rattle.format.specs.Layout.Geometry.{sectorCount, cellsIn, difatIn, headerDifat};
+ghost use Rattle.format.specs.Layout.Tables.{difatEntry, fatCell};
+ghost use Rattle.format.specs.Rules.Header.{headerRules};
+ghost use Rattle.format.specs.Rules.Tables.{difatNeed, tableCounts, difatRest, tableMarks, tableRules};
+ghost use Rattle.kinds.specs.Sizes.{geometryOf};
+ghost use Rattle.tables.specs.Sized.{ImageSized, F, D, wordIn};
+ghost use Rattle.tables.specs.Work.{Wrote, Holds, WorkClear};
+ghost use Rattle.tables.specs.Listed.{Listed};
+ghost use Rattle.tables.specs.Stages.{DifatArgs, DifatListed, Difats, ListArgs, ListLeft, TableMarked, TablesLeft, StageArgs, Built, ListsLeft, MarksLeft};
+use kinds::Geometry;
+use kinds::Sector;
+use le::u16_at;
+use le::u32_at;
+use le::u64_at;
+use le::zero_first;
+
+// ---- group 10
+
+pub fn header_rules(img: &[u8], g: Geometry) -> bool
+    requires { ⌜ ImageSized (geometryOf g) (now img) ⌝ }
+    ensures { λ r. ⌜ r ≡ headerRules (geometryOf g) (now (img .entry)) ⌝ }
+{
+    (u64_at(img, 0) == 0xE11A_B1A1_E011_CFD0)
+        & ((u64_at(img, 8) == 0) & (u64_at(img, 16) == 0))
+        & (u16_at(img, 26) == g.major)
+        & (u16_at(img, 28) == 0xFFFE)
+        & (u16_at(img, 30) == g.shift)
+        & (u16_at(img, 32) == 6)
+        & ((u32_at(img, 34) == 0) & (u16_at(img, 38) == 0))
+        & (u32_at(img, 40) == 0)
+        & (u32_at(img, 56) == 4096)
+}
+
+// ---- places
+
+// How many sectors there are.
+pub fn sector_count(img: &[u8], g: Geometry) -> usize
+    requires { ⌜ ImageSized (geometryOf g) (now img) ⌝ }
+    ensures { λ r. ⌜ r ≡ sectorCount (geometryOf g) (now (img .entry)) ⌝ }
+{
+    img.len() / g.bytes - 1
+}
+
+// The number that stands at index i of a sector of 32-bit numbers.
+pub fn word_in(img: &[u8], g: Geometry, s: Sector, i: usize) -> Sector
+    requires { ⌜ ImageSized (geometryOf g) (now img) ⌝ }
+    requires { ⌜ s .0 < sectorCount (geometryOf g) (now img) ⌝ }
+    requires { ⌜ i < cellsIn (geometryOf g) ⌝ }
+    ensures { λ r. ⌜ r .0 ≡ wordIn (geometryOf g) (now (img .entry)) (s .0) i ⌝ }
+{
+    Sector(u32_at(img, s.place(g) + 4 * i))
+}
+
+// The sizes, how many sectors there are, and where in the work buffer the FAT's sectors are listed.
+pub struct Tables {
+    pub geometry: Geometry,
+    pub sectors: usize,
+    pub list: usize,
+}
+
+// The cell of a sector.
+pub fn cell_at(img: &[u8], work: &[u32], t: Tables, s: Sector) -> Sector
+    requires { ⌜ Listed (geometryOf (t .geometry)) (now img) (now work) (t .sectors) (t .list) ⌝ }
+    requires { ⌜ s .0 < cellsIn (geometryOf (t .geometry)) * F (now img) ⌝ }
+    ensures { λ r. ⌜ r .0 ≡ fatCell (geometryOf (t .geometry)) (now (img .entry)) (s .0) ⌝ }
+{
+    let g = t.geometry;
+    let list = t.list;
+    let cells = g.cells();
+    let i = s.index();
+    word_in(img, g, Sector(work[list + i / cells]), i % cells)
+}
+
+// ---- group 11: counts
