@@ -8,7 +8,7 @@ use native.Mathlib.Omega.{arith}
 use lib.Dec.{ltb}
 use lib.ListN.{length, take, replicate, length-replicate}
 use lib.Seq.{sets}
-use Rattle.format.specs.Basics.Lists.{count, fit}
+use Rattle.format.specs.Basics.Lists.{count}
 use Rattle.format.specs.Basics.Bytes.{Bytes}
 use Rattle.format.specs.Layout.Geometry.{Geometry, cellsIn}
 use Rattle.format.specs.Layout.Chain.{END, startOf}

@@ -1,4 +1,5 @@
 -- The frame laws, in the order of reading: what acceptance says; what each view reads where nothing was written; the single steps of an edit; the two edits.
+pub mod Lengths
 pub mod Accepted
 pub mod OwnerFacts
 pub mod SystemFacts

@@ -3,8 +3,7 @@ use mathlib.Core.Path.{_≡_}
 use mathlib.Core.Logic.{_≢_}
 use mathlib.Core.List.{_++_}
 use mathlib.Core.Bool.{true, _&&_, false}
-use Prim.Native.Nat.{ℕ, zero, suc, _+_, _-_, _*_, _/_, _%_, _≤_, _<_}
-use native.Mathlib.Nat.{div-add-mod', mul-le-mul-left}
+use Prim.Native.Nat.{ℕ, _+_, _*_, _%_, _≤_, _<_}
 use native.Mathlib.Omega.{arith}
 use lib.Dec.{eqb, leb}
 use lib.ListN.{length}
@@ -12,7 +11,6 @@ use borrow.Author.Tests.{leb-true, eqb-true}
 use Rattle.format.specs.Basics.Lists.{count, member}
 use Rattle.format.specs.Basics.Bytes.{Bytes}
 use Rattle.format.specs.Layout.Geometry.{Geometry, sectorCount, miniBytes}
-use Rattle.format.specs.Rules.Length.{leastImage, greatestImage, lengthAllowed}
 use Rattle.format.specs.Layout.Header.{fatCount, difatCount}
 use Rattle.format.specs.Layout.Chain.{FREE, FATSECT, DIFSECT}
 use Rattle.format.specs.Layout.Tables.{fatSectors, difatSectors, fatCells, fatCell, sectorSpace}
@@ -25,6 +23,7 @@ use Rattle.theory.proofs.Tests.{both}
 use Rattle.frame.specs.Kept.{Sized}
 use Rattle.frame.specs.Groups.{ImageGroups}
 use Rattle.frame.specs.Good.{Good}
+use Rattle.frame.proofs.Lengths.{allowed-long, allowed-few, allowed-short}
 use Rattle.frame.proofs.Good.{groups-good}
 use Rattle.frame.proofs.SystemFacts.{marks-at}
 
@@ -40,7 +39,7 @@ sys-count v s =
 pub record Sound (g : Geometry) (img : Bytes) : Type 0 where
   pub long : length img ≡ (sectorCount g img + 1) * g .sectorBytes
   pub few : sectorCount g img < 0x100_0000
-  pub short : length img ≤ 8388608
+  pub short : length img ≤ 0x400_0000
   pub needs : difatCount img ≡ difatNeed g (fatCount img)
   pub enough : sectorCount g img ≤ fatCells g img
   pub once : (s : ℕ) → count s (systemSectors (volume g img)) ≤ 1
@@ -55,27 +54,6 @@ module _ (g : Geometry) (z : Sized g) (img : Bytes) (G : ImageGroups g img) wher
 
   abbrev v : Volume
   v = volume g img
-
-  lens : (length img % g .sectorBytes ≡ 0) × (3 * g .sectorBytes ≤ length img) × (length img ≤ 8388608)
-  unfolding lengthAllowed leastImage greatestImage
-  lens =
-      let n = length img in
-      let a = both (eqb (n % g .sectorBytes) 0 && leb (3 * g .sectorBytes) n) (leb n 8388608) (G .allowed) in
-      let b = both (eqb (n % g .sectorBytes) 0) (leb (3 * g .sectorBytes) n) (a .0) in
-      (eqb-true (n % g .sectorBytes) 0 (b .0), leb-true (3 * g .sectorBytes) n (b .1), leb-true n 8388608 (a .1))
-
-  long : length img ≡ (N + 1) * g .sectorBytes
-  unfolding sectorCount
-  long =
-      let d = div-add-mod' (length img) (g .sectorBytes) in
-      go (length img / g .sectorBytes) (omega (arith, d, lens .0)) (lens .1)
-    where
-      go : (q : ℕ) → q * g .sectorBytes ≡ length img → 3 * g .sectorBytes ≤ length img → length img ≡ (q - 1 + 1) * g .sectorBytes
-      go zero e h = let w = z .wide in absurd (omega arith)
-      go (suc q) e h = let r : suc q - 1 ≡ q = omega arith in rw r (omega arith)
-
-  few : N < 0x100_0000
-  few = let a = long in let b = mul-le-mul-left (N + 1) (z .wide) in omega (arith, a, b, lens .2)
 
   tabs : (tableCounts g img ≡ true) × (difatEnds g img ≡ true) × (difatRest g img ≡ true) × (tableSectors g img ≡ true) × (tableMarks g img ≡ true)
   unfolding tableRules
@@ -104,9 +82,9 @@ module _ (g : Geometry) (z : Sized g) (img : Bytes) (G : ImageGroups g img) wher
   unfolding volume sectorSpace miniSpace miniBytes
   sound-of =
       record {
-        long = long;
-        few = few;
-        short = lens .2;
+        long = allowed-long g img (G .allowed) z;
+        few = allowed-few g img (G .allowed) z;
+        short = allowed-short g img (G .allowed);
         needs = counts .2;
         enough = counts .1;
         once = λ s. omega (arith, good .owned false .single s);

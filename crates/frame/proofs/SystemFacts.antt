@@ -9,7 +9,7 @@ use native.Mathlib.Omega.{arith}
 use native.Mathlib.Decide.{decLt}
 use lib.Dec.{eqb, leb}
 use lib.ListN.{length}
-use borrow.Author.Tests.{eqb-true, ltb-true, lt-ltb, leb-true}
+use borrow.Author.Tests.{eqb-true, ltb-true, lt-ltb}
 use Rattle.format.specs.Basics.Lists.{allBelow, all, count, member, distinct}
 use Rattle.format.specs.Basics.Bytes.{Bytes}
 use Rattle.format.specs.Layout.Geometry.{Geometry, miniBytes, sectorCount}
@@ -20,7 +20,6 @@ use Rattle.format.specs.Layout.Tables.{fatSectors, difatSectors, sectorSpace}
 use Rattle.format.specs.Layout.Entry.{size, start}
 use Rattle.format.specs.Layout.Directory.{directorySectors}
 use Rattle.format.specs.Layout.Volume.{Volume, volume, root, systemSectors, miniFatSectors, miniStreamSectors, directorySectorsOf, directory}
-use Rattle.format.specs.Rules.Length.{lengthAllowed, leastImage, greatestImage}
 use Rattle.format.specs.Rules.Cells.{plainCell, restFree}
 use Rattle.format.specs.Rules.Tables.{tableRules, tableCounts, difatEnds, difatRest, tableSectors, tableMarks, isSector, markRight}
 use Rattle.format.specs.Rules.Directory.{someChain, directoryRules}
@@ -30,6 +29,7 @@ use Rattle.theory.proofs.Counts.{count-append}
 use Rattle.theory.proofs.Chains.{linked-below, linked-not-free, length-units, chain-linked, follow-units}
 use Rattle.theory.proofs.Tests.{both, below-at, all-at, beq-equal}
 use Rattle.frame.specs.Good.{Chain}
+use Rattle.frame.proofs.Lengths.{allowed-short}
 use Rattle.frame.specs.Groups.{ImageGroups}
 
 module _ {g : Geometry} {img : Bytes} (pos : 0 < g .sectorBytes) (ok : ImageGroups g img) where
@@ -42,11 +42,8 @@ module _ {g : Geometry} {img : Bytes} (pos : 0 < g .sectorBytes) (ok : ImageGrou
   abbrev N : ℕ
   N = vol .sectors .limit
 
-  pub bounded : length img ≤ 8_388_608
-  unfolding lengthAllowed greatestImage
-  bounded =
-      leb-true (length img) 8_388_608
-      (both (eqb (length img % g .sectorBytes) 0 && leb (leastImage g) (length img)) (leb (length img) greatestImage) (ok .allowed) .1)
+  pub bounded : length img ≤ 0x400_0000
+  bounded = allowed-short g img (ok .allowed)
 
   sectors-below-length : N ≤ length img
   unfolding volume sectorSpace sectorCount
