@@ -1,15 +1,16 @@
 -- Tests over the numbers below a limit, and parts of the work buffer, as loops meet them.
 use Prim.Native.Nat.{ℕ, zero, suc, _+_, _≤_, _<_}
 use mathlib.Core.Path.{_≡_, refl, sym, _∙_}
-use mathlib.Core.Logic.{_⊎_, inl, inr, ⊎-elim}
-use mathlib.Core.Bool.{Bool, true, false, not, _&&_, and-false}
+use mathlib.Core.Logic.{_⊎_, inr, ⊎-elim}
+use mathlib.Core.Bool.{Bool, true, false, not, and-false}
 use mathlib.Core.List.{List}
 use native.Mathlib.Numerals.{add-one}
 use native.Mathlib.Decide.{ℕ-discrete}
 use native.Mathlib.Omega.{arith}
-use lib.ListN.{length, getD, set, length-set}
+use lib.Dec.{ltb}
+use lib.ListN.{set, length-set}
 use lib.Seq.{getD-set-other}
-use borrow.Author.Tests.{not-true, not-false}
+use borrow.Author.Tests.{not-true, not-false, ltb-true, ltb-false}
 use Rattle.format.specs.Basics.Lists.{allBelow}
 use Rattle.format.specs.Basics.Bytes.{Bytes}
 use Rattle.format.specs.Layout.Geometry.{Geometry, sectorCount}
@@ -23,6 +24,12 @@ said-no {r} h e = sym e ∙ not-true r h
 
 pub said-yes : {r t : Bool} → not r ≡ false → r ≡ t → t ≡ true
 said-yes {r} h e = sym e ∙ not-false r h
+
+pub said-below : {r : Bool} (s n : ℕ) {limit : ℕ} → not r ≡ false → r ≡ ltb s n → n ≡ limit → s < limit
+said-below s n h e z = omega (arith, ltb-true s n (said-yes h e))
+
+pub said-beyond : {r : Bool} (s n : ℕ) {limit : ℕ} → not r ≡ true → r ≡ ltb s n → n ≡ limit → limit ≤ s
+said-beyond s n h e z = omega (arith, ltb-false s n (said-no h e))
 
 -- ---- every number below a limit
 

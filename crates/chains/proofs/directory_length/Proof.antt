@@ -2,12 +2,11 @@ use borrow.Author.Needs.{needs}
 use Prim.Native.Nat.{_-_, _≤_, _<_}
 use mathlib.Core.Path.{sym, _∙_}
 use mathlib.Core.Logic.{inl, inr}
-use borrow.Author.Tests.{ltb-true, ltb-false}
 use native.Mathlib.Omega.{arith}
 use Rattle.format.specs.Layout.Geometry.{sectorCount}
 use Rattle.format.specs.Layout.Tables.{fatCell}
 use Rattle.kinds.specs.Sizes.{geometryOf}
-use Rattle.chains.proofs.Lists.{said-yes, said-no}
+use Rattle.chains.proofs.Lists.{said-below, said-beyond}
 use Rattle.chains.proofs.Groups.{Following, following-start, following-step, following-end, directory-is}
 use Rattle.chains.proofs.directory_length.Statement.{statement}
 use Rattle.chains.proofs.directory_length.Tie as tie
@@ -18,11 +17,11 @@ Inv-loop img work t n s₀ m₀ s m = Following (fatCell (geometryOf (t .geometr
 abbrev μ-loop : tie.MeasureT-loop
 μ-loop img work t n s₀ m₀ s m = m
 
-inside : (c : tie.Else1 Inv-loop μ-loop) → c .before .before .before .loop .s .0 < sectorCount (geometryOf (c .before .before .before .before .before .before .before .args .t .geometry)) (c .before .before .before .before .before .before .before .args .img .now)
-inside c = omega (arith, ltb-true (c .before .before .before .loop .s .0) (c .before .before .before .before .before .before .before .args .t .sectors) (said-yes (c .if1 .left) (c .before .below .ensures)), c .before .before .before .before .before .before .before .pre .count)
+inside : (c : tie.Else1 Inv-loop μ-loop) → let p = c .before .before .before .before .before .before .before in c .before .before .before .loop .s .0 < sectorCount (geometryOf (p .args .t .geometry)) (p .args .img .now)
+inside c = let p = c .before .before .before .before .before .before .before in said-below _ (p .args .t .sectors) (c .if1 .left) (c .before .below .ensures) (p .pre .count)
 
-outside : (c : tie.Then1 Inv-loop μ-loop) → sectorCount (geometryOf (c .before .before .before .before .before .before .before .args .t .geometry)) (c .before .before .before .before .before .before .before .args .img .now) ≤ c .before .before .before .loop .s .0
-outside c = omega (arith, ltb-false (c .before .before .before .loop .s .0) (c .before .before .before .before .before .before .before .args .t .sectors) (said-no (c .if1 .taken) (c .before .below .ensures)), c .before .before .before .before .before .before .before .pre .count)
+outside : (c : tie.Then1 Inv-loop μ-loop) → let p = c .before .before .before .before .before .before .before in sectorCount (geometryOf (p .args .t .geometry)) (p .args .img .now) ≤ c .before .before .before .loop .s .0
+outside c = let p = c .before .before .before .before .before .before .before in said-beyond _ (p .args .t .sectors) (c .if1 .taken) (c .before .below .ensures) (p .pre .count)
 
 pub directory-length-spec : {M : Type 1} → statement M
 directory-length-spec =
@@ -37,8 +36,10 @@ directory-length-spec =
     let p = c .before .before .before .before .before .before .before .before in
     let l = c .before .before .before .before .loop in
     c .length-of .ensures
-    ∙ sym (directory-is _ _ (p .args .t .sectors - l .m) (l .s .0) (rw (← c .before .before .before .before .before .u32-at .ensures) (following-end (l .inv) (inl (outside (c .before))) _ (omega (arith, p .pre .count))))))  -- returns
-    (λ c κs. (c .before .before .before .before .before .before .before .pre, omega (arith, inside c, c .before .before .before .before .before .before .before .pre .covers)))  -- cell-at-requires
+    ∙ sym
+    (directory-is _ _ (p .args .t .sectors - l .m) (l .s .0)
+    (rw (← c .before .before .before .before .before .u32-at .ensures) (following-end (l .inv) (inl (outside (c .before))) _ (omega (arith, p .pre .count))))))  -- returns
+    (λ c κs. let p = c .before .before .before .before .before .before .before in (p .pre, omega (arith, inside c, p .pre .covers)))  -- cell-at-requires
     (λ c. search needs)  -- sub-m
     (λ c. search needs)  -- loop-less
     (λ c. rw (c .cell-at .ensures) (following-step (c .before .before .before .before .loop .inv) (c .before .before .before .loop-test .taken) (inside (c .before))))  -- loop-again
@@ -47,4 +48,6 @@ directory-length-spec =
     let p = c .before .before .before .before .before .before in
     let l = c .before .before .loop in
     c .length-of2 .ensures
-    ∙ sym (directory-is _ _ (p .args .t .sectors) (l .s .0) (rw (← c .before .before .before .u32-at .ensures) (following-end (l .inv) (inr (omega arith)) _ (omega (arith, p .pre .count)))))))  -- returns-2
+    ∙ sym
+    (directory-is _ _ (p .args .t .sectors) (l .s .0)
+    (rw (← c .before .before .before .u32-at .ensures) (following-end (l .inv) (inr (omega arith)) _ (omega (arith, p .pre .count)))))))  -- returns-2
