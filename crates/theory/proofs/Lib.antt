@@ -11,6 +11,7 @@ pub mod Digits
 pub mod OwnerCounts
 pub mod ListSums
 pub mod Chains
+pub mod Marks
 pub mod Relinks
 pub mod Cuts
 pub mod FreeUnits

@@ -1,0 +1,12 @@
+use borrow.Author.Needs.{needs}
+use Rattle.chains.proofs.Groups.{rules-are}
+use Rattle.chains.proofs.cell_rules.Statement.{statement}
+use Rattle.chains.proofs.cell_rules.Tie as tie
+
+pub cell-rules-spec : {M : Type 1} → statement M
+cell-rules-spec =
+    tie.close
+    (tie.spec
+    (λ c κs. search needs)  -- cells-below-requires
+    (λ c κs. search needs)  -- cells-rest-requires
+    (λ c. rw (rules-are, ← c .before .cells-below .ensures, ← c .cells-rest .ensures)))  -- returns

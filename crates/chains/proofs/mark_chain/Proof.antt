@@ -1,0 +1,70 @@
+use borrow.Author.Needs.{needs}
+use Prim.Native.Nat.{_<_, _≤_}
+use mathlib.Core.Path.{sym, _∙_}
+use borrow.Author.Tests.{eqb-true, eqb-false}
+use native.Mathlib.Omega.{arith}
+use lib.ListN.{length}
+use Rattle.format.specs.Layout.Geometry.{sectorCount}
+use Rattle.kinds.specs.Sizes.{geometryOf}
+use Rattle.chains.proofs.Lists.{said-below, said-beyond}
+use Rattle.chains.proofs.Walks.{Walk, listed-set, walk-start, walk-step, walk-out, walk-clash, walk-shared, walk-fresh, walk-off}
+use Rattle.chains.proofs.mark_chain.Statement.{statement}
+use Rattle.chains.proofs.mark_chain.Tie as tie
+
+abbrev Inv-loop : tie.InvT-loop
+Inv-loop img work₀ t n s₀ k₀ work s k = Walk (geometryOf (t .geometry)) img work₀ (t .sectors) (t .list) n (s₀ .0) work (s .0) k
+
+abbrev μ-loop : tie.MeasureT-loop
+μ-loop img work₀ t n s₀ k₀ work s k = k
+
+inside : (c : tie.Else1 Inv-loop μ-loop) → let p = c .before .before .before .before .before .before in c .before .before .before .loop .s .0 < sectorCount (geometryOf (p .args .t .geometry)) (p .args .img .now)
+inside c = let p = c .before .before .before .before .before .before in said-below _ (p .args .t .sectors) (c .if1 .left) (c .before .below .ensures) (c .before .before .before .loop .inv .listed .count)
+
+outside : (c : tie.Then1 Inv-loop μ-loop) → let p = c .before .before .before .before .before .before in sectorCount (geometryOf (p .args .t .geometry)) (p .args .img .now) ≤ c .before .before .before .loop .s .0
+outside c = let p = c .before .before .before .before .before .before in said-beyond _ (p .args .t .sectors) (c .if1 .taken) (c .before .below .ensures) (c .before .before .before .loop .inv .listed .count)
+
+-- the sector has a mark
+in-work : (c : tie.Else1 Inv-loop μ-loop) → let l = c .before .before .before .loop in l .s .0 < length (l .work)
+in-work c = let l = c .before .before .before .loop .inv .listed in omega (arith, inside c, l .apart, l .room)
+
+pub mark-chain-spec : {M : Type 1} → statement M
+mark-chain-spec =
+    tie.close
+    (tie.spec Inv-loop μ-loop
+    (λ c. let p = c .before .before in walk-start (p .pre .0) (p .pre .1))  -- loop-holds
+    (λ c κs. search needs)  -- below-requires
+    (λ c. search needs)  -- same-length
+    (λ c. let a = walk-out (c .before .before .before .loop .inv) (c .before .before .loop-test .taken) (outside c) in (a .answer, a .left))  -- returns
+    (λ c κs. search needs)  -- index-requires
+    (λ c. omega (arith, inside (c .before), c .index .ensures, c .before .before .before .before .loop .inv .listed .sized .few))  -- mul-m
+    (λ c. omega (arith, in-work (c .before .before), c .before .index .ensures))  -- slice-read-m
+    (λ c. search needs)  -- same-length-2
+    (λ c.
+    let at = c .before .before .before .before in
+    let i = c .before .before .before .index .ensures in
+    let a = walk-shared (at .before .before .before .loop .inv) (at .before .before .loop-test .taken) (inside at) (rw (← i) (c .if3 .taken)) in
+    (a .answer, a .left))  -- returns-2
+    (λ c. search needs)  -- same-length-3
+    (λ c.
+    let at = c .before .before .before .before in
+    let i = c .before .before .before .index .ensures in
+    let a = walk-clash (at .before .before .before .loop .inv) (at .before .before .before .before .before .before .pre .1) (inside at) (rw (← i) (c .before .if2 .taken)) (rw (← i) (c .if3 .left)) in
+    (a .answer, a .left))  -- returns-3
+    (λ c κs. search needs)  -- index-requires-2
+    (λ c. omega (arith, inside (c .before .before .before .before), c .index2 .ensures, c .before .before .before .before .before .before .before .loop .inv .listed .sized .few))  -- mul-work
+    (λ c. omega (arith, in-work (c .before .before .before .before), c .index2 .ensures))  -- slice-write-work
+    (λ c κs.
+    let at = c .before .before .before .before .before in
+    let l = at .before .before .before .loop .inv .listed in
+    (rw (c .before .index2 .ensures) (listed-set _ _ l (inside at)), omega (arith, inside at, l .covers)))  -- cell-at-requires
+    (λ c. search needs)  -- sub-k
+    (λ c. search needs)  -- loop-less
+    (λ c.
+    let at = c .before .before .before .before .before .before in
+    rw (c .cell-at .ensures, c .before .before .index2 .ensures)
+    (walk-step (at .before .before .before .loop .inv) (at .before .before .loop-test .taken) (inside at) (rw (← c .before .before .before .before .before .index .ensures) (c .before .before .before .if2 .left))))  -- loop-again
+    (λ c κs. search needs)  -- is-end-requires
+    (λ c. search needs)  -- same-length-4
+    (λ c. let a = walk-fresh (c .before .before .before .loop .inv) (c .before .before .loop-test .left) (eqb-true _ _ (sym (c .before .is-end .ensures) ∙ c .if4 .taken)) in (a .answer, a .left))  -- returns-4
+    (λ c. search needs)  -- same-length-5
+    (λ c. let a = walk-off (c .before .before .before .loop .inv) (c .before .before .loop-test .left) (eqb-false _ _ (sym (c .before .is-end .ensures) ∙ c .if4 .left)) in (a .answer, a .left)))  -- returns-5

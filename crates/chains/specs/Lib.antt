@@ -1,0 +1,2 @@
+-- What the walks along the FAT answer and leave.
+pub mod Answers

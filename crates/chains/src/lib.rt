@@ -1,0 +1,148 @@
+// Walks along the FAT: the walk that marks a chain, group 12, and group 13.
+ghost use mathlib.Core.Path.{_≡_};
+ghost use mathlib.Core.Bool.{_&&_};
+ghost use Prim.Native.Nat.{_<_};
+ghost use lib.Dec.{leb, eqb};
+ghost use lib.ListN.{length};
+ghost use Rattle.format.specs.Basics.Lists.{allBelow};
+ghost use Rattle.format.specs.Layout.Geometry.{sectorCount};
+ghost use Rattle.format.specs.Layout.Chain.{END};
+ghost use Rattle.format.specs.Layout.Tables.{fatCell, sectorSpace};
+ghost use Rattle.format.specs.Layout.Volume.{directorySectorsOf, volume};
+ghost use Rattle.format.specs.Rules.Cells.{fatCellRight, restFree, cellRules};
+ghost use Rattle.format.specs.Rules.Directory.{directoryRules};
+ghost use Rattle.theory.specs.Marks.{marks, Closed};
+ghost use Rattle.kinds.specs.Sizes.{geometryOf};
+ghost use Rattle.tables.specs.Listed.{Listed};
+ghost use Rattle.chains.specs.Answers.{markAnswer, Remarked, lengthAnswer};
+use kinds::Sector;
+use le::u32_at;
+use tables::Tables;
+use tables::cell_at;
+
+// ---- marking a chain
+
+// There is no such chain; there is, and none of its units had a mark; or one had, from another chain.
+pub enum Marked {
+    Broken,
+    Fresh,
+    Shared,
+}
+
+// Marks the n sectors of a chain, each with how many are left from there.
+pub fn mark_chain(img: &[u8], work: &mut [u32], t: Tables, start: Sector, n: u32) -> Marked
+    requires { ⌜ Listed (geometryOf (t .geometry)) (now img) (now work) (t .sectors) (t .list) ⌝ }
+    requires { ⌜ Closed (fatCell (geometryOf (t .geometry)) (now img)) (sectorCount (geometryOf (t .geometry)) (now img)) (marks (now work)) ⌝ }
+    ensures { λ r. ⌜ r ≡ markAnswer (fatCell (geometryOf (t .geometry)) (now (img .entry))) (sectorCount (geometryOf (t .geometry)) (now (img .entry))) n (start .0) (marks (now (work .entry))) ⌝ }
+    ensures { λ _. ⌜ Remarked (geometryOf (t .geometry)) (now (img .entry)) n (start .0) (now (work .entry)) (now (work .exit)) ⌝ }
+{
+    let mut s = start;
+    let mut k = n;
+    while 0 < k {
+        if !s.below(t.sectors) {
+            return Marked::Broken;
+        }
+        let m = work[s.index()];
+        if 0 < m {
+            if m == k {
+                return Marked::Shared;
+            }
+            return Marked::Broken;
+        }
+        work[s.index()] = k;
+        s = cell_at(img, work, t, s);
+        k -= 1;
+    }
+    if s.is_end() {
+        return Marked::Fresh;
+    }
+    Marked::Broken
+}
+
+// ---- group 12
+
+// The cells below the number of sectors.
+pub fn cells_below(img: &[u8], work: &[u32], t: Tables) -> bool
+    requires { ⌜ Listed (geometryOf (t .geometry)) (now img) (now work) (t .sectors) (t .list) ⌝ }
+    ensures { λ r. ⌜ r ≡ allBelow (sectorCount (geometryOf (t .geometry)) (now (img .entry))) (fatCellRight (sectorSpace (geometryOf (t .geometry)) (now (img .entry)))) ⌝ }
+{
+    let n = t.sectors;
+    let mut i = 0;
+    while i < n {
+        let c = cell_at(img, work, t, Sector(i as u32));
+        let right = (c.is_fat() | c.is_difat()) | (c.below(n) | c.is_end() | c.is_free());
+        if !right {
+            return false;
+        }
+        i += 1;
+    }
+    true
+}
+
+// The cells from the number of sectors on. Each has a number of 32 bits, since the image is shorter than 4 GiB.
+pub fn cells_rest(img: &[u8], work: &[u32], t: Tables) -> bool
+    requires { ⌜ Listed (geometryOf (t .geometry)) (now img) (now work) (t .sectors) (t .list) ⌝ }
+    requires { ⌜ length (now img) < 0x1_0000_0000 ⌝ }
+    ensures { λ r. ⌜ r ≡ restFree (sectorSpace (geometryOf (t .geometry)) (now (img .entry))) ⌝ }
+{
+    let g = t.geometry;
+    let n = t.sectors;
+    let f = u32_at(img, 44) as usize;
+    let end = g.cells() * f - n;
+    let mut i = 0;
+    while i < end {
+        let c = cell_at(img, work, t, Sector((n + i) as u32));
+        if !c.is_free() {
+            return false;
+        }
+        i += 1;
+    }
+    true
+}
+
+// Group 12.
+pub fn cell_rules(img: &[u8], work: &[u32], t: Tables) -> bool
+    requires { ⌜ Listed (geometryOf (t .geometry)) (now img) (now work) (t .sectors) (t .list) ⌝ }
+    requires { ⌜ length (now img) < 0x1_0000_0000 ⌝ }
+    ensures { λ r. ⌜ r ≡ cellRules (sectorSpace (geometryOf (t .geometry)) (now (img .entry))) ⌝ }
+{
+    cells_below(img, work, t) & cells_rest(img, work, t)
+}
+
+// ---- group 13
+
+// How many units a chain has, where there is one of at least one unit.
+pub enum Length {
+    Is(usize),
+    Never,
+}
+
+// The length of a chain of k sectors after which s comes.
+fn length_of(k: usize, s: Sector) -> Length
+    ensures { λ r. ⌜ r ≡ lengthAnswer (leb 1 k && eqb (s .0) END) k ⌝ }
+{
+    if 0 < k {
+        if s.is_end() {
+            return Length::Is(k);
+        }
+    }
+    Length::Never
+}
+
+// Group 13: how many sectors the directory has.
+pub fn directory_length(img: &[u8], work: &[u32], t: Tables) -> Length
+    requires { ⌜ Listed (geometryOf (t .geometry)) (now img) (now work) (t .sectors) (t .list) ⌝ }
+    ensures { λ r. ⌜ r ≡ lengthAnswer (directoryRules (volume (geometryOf (t .geometry)) (now (img .entry)))) (length (directorySectorsOf (geometryOf (t .geometry)) (now (img .entry)))) ⌝ }
+{
+    let n = t.sectors;
+    let mut s = Sector(u32_at(img, 48));
+    let mut m = n;
+    while 0 < m {
+        if !s.below(n) {
+            return length_of(n - m, s);
+        }
+        s = cell_at(img, work, t, s);
+        m -= 1;
+    }
+    length_of(n, s)
+}

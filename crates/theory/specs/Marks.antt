@@ -1,0 +1,29 @@
+-- Marks on units: at each marked unit, how many units its chain still has, itself included. 0 is no mark.
+use mathlib.Core.Path.{_≡_}
+use mathlib.Core.Logic.{_⊎_}
+use mathlib.Core.Bool.{Bool, _||_}
+use mathlib.Core.List.{List}
+use Prim.Native.Nat.{ℕ, suc, _<_}
+use lib.Dec.{eqb, ltb}
+use lib.ListN.{getD}
+use Rattle.format.specs.Basics.Lists.{member}
+use Rattle.format.specs.Layout.Chain.{END, units}
+
+-- the marks that stand in a list, each at its unit's number
+unfoldable pub marks : List ℕ → ℕ → ℕ
+marks w u = getD w u 0
+
+unfoldable pub unmarked : (ℕ → ℕ) → ℕ → Bool
+unmarked m u = eqb (m u) 0
+
+-- the mark of u agrees with what its cell names: the end, or a unit with a mark less by one
+abbrev pub Closes : (ℕ → ℕ) → ℕ → (ℕ → ℕ) → ℕ → Type 0
+Closes cell limit m u = ((m u ≡ 1) × (cell u ≡ END)) ⊎ ((cell u < limit) × (m u ≡ suc (m (cell u))) × (0 < m (cell u)))
+
+pub record Closed (cell : ℕ → ℕ) (limit : ℕ) (m : ℕ → ℕ) : Type 0 where
+  pub at : (u : ℕ) → u < limit → 0 < m u → Closes cell limit m u
+
+-- the marks after a chain of n from s was marked: still closed, and marked are those that were and the chain's units
+pub record ChainMarked (cell : ℕ → ℕ) (limit n s : ℕ) (before after : ℕ → ℕ) : Type 0 where
+  pub closed : Closed cell limit after
+  pub marked : (u : ℕ) → u < limit → ltb 0 (after u) ≡ (ltb 0 (before u) || member u (units cell n s))
