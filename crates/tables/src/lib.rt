@@ -3,6 +3,7 @@ ghost use mathlib.Core.Path.{_≡_};
 ghost use Prim.Native.Nat.{_+_, _≤_, _<_, _*_};
 ghost use Rattle.format.specs.Layout.Geometry.{sectorCount, cellsIn, difatIn, headerDifat};
 ghost use Rattle.format.specs.Layout.Tables.{difatEntry, fatCell};
+ghost use Rattle.format.specs.Rules.Length.{lengthAllowed, workNeed};
 ghost use Rattle.format.specs.Rules.Header.{headerRules};
 ghost use Rattle.format.specs.Rules.Tables.{difatNeed, tableCounts, difatRest, tableMarks, tableRules};
 ghost use Rattle.kinds.specs.Sizes.{geometryOf};
@@ -16,6 +17,25 @@ use le::u16_at;
 use le::u32_at;
 use le::u64_at;
 use le::zero_first;
+
+// ---- lengths
+
+// Answer 1 stays away: whether an image of n bytes may be looked at.
+pub fn length_allowed(n: usize, g: Geometry) -> bool
+    requires { ⌜ 0 < g .bytes ⌝ }
+    requires { ⌜ g .bytes ≤ 4096 ⌝ }
+    ensures { λ r. ⌜ r ≡ lengthAllowed (geometryOf g) n ⌝ }
+{
+    (n % g.bytes == 0) & (3 * g.bytes <= n) & (n <= 8_388_608)
+}
+
+// How many numbers the work buffer has at least, for an image of n bytes.
+pub fn work_need(n: usize) -> usize
+    requires { ⌜ n < 0x1_0000_0000 ⌝ }
+    ensures { λ r. ⌜ r ≡ workNeed n ⌝ }
+{
+    13 * (n / 512)
+}
 
 // ---- group 10
 
