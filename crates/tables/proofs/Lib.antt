@@ -1,3 +1,10 @@
 -- Laws for the functions on tables.
 pub mod Header
 pub mod Places
+pub mod Lists
+pub mod WorkLaws
+pub mod DifatLaws
+pub mod ListLaws
+pub mod MarkLaws
+pub mod SectorLaws
+pub mod StageLaws
