@@ -56,13 +56,13 @@ module _ {g : Geometry} {img : Bytes} (c : Counted g img) where
 
 -- ---- listing the sectors
 
-is-below : (g : Geometry) (img : Bytes) (j : ℕ) → difatSector g img j < sectorCount g img → difatBelow g img j ≡ true
+pub difat-below : (g : Geometry) (img : Bytes) (j : ℕ) → difatSector g img j < sectorCount g img → difatBelow g img j ≡ true
 unfolding difatBelow
-is-below g img j h = lt-ltb _ _ h
+difat-below g img j h = lt-ltb _ _ h
 
-not-below : (g : Geometry) (img : Bytes) (j : ℕ) → sectorCount g img ≤ difatSector g img j → difatBelow g img j ≡ false
+pub difat-not : (g : Geometry) (img : Bytes) (j : ℕ) → sectorCount g img ≤ difatSector g img j → difatBelow g img j ≡ false
 unfolding difatBelow
-not-below g img j h = le-ltb _ _ h
+difat-not g img j h = le-ltb _ _ h
 
 -- s is DIFAT sector j, and those before it stand in the buffer
 pub record DifatWalk (g : Geometry) (img : Bytes) (w₀ : List ℕ) (at : ℕ) (w : List ℕ) (s j : ℕ) : Type 0 where
@@ -82,7 +82,7 @@ module _ {g : Geometry} {img : Bytes} {w₀ : List ℕ} {at : ℕ} where
     difat-step s′ l h r e =
         record {
           here = rw (add-one, difat-next g img j, ← a .here) e;
-          good = below-more (difatBelow g img) j (a .good) (is-below g img j (rw (← a .here) h));
+          good = below-more (difatBelow g img) j (a .good) (difat-below g img j (rw (← a .here) h));
           wrote = wrote-set (at + j) s (a .wrote) (omega arith) (omega arith);
           holds = holds-more s (a .holds) (omega (arith, a .wrote .long)) (a .here);
           some = omega arith;
@@ -91,7 +91,7 @@ module _ {g : Geometry} {img : Bytes} {w₀ : List ℕ} {at : ℕ} where
     pub difat-out : j < D img → sectorCount g img ≤ s → DifatListed g img w₀ w at false
     difat-out l h =
         record {
-          answer = sym (rw (below-not (difatBelow g img) (D img) j l (not-below g img j (rw (← a .here) h))));
+          answer = sym (rw (below-not (difatBelow g img) (D img) j l (difat-not g img j (rw (← a .here) h))));
           wrote = a .wrote;
           holds = λ e. absurd (clash e refl);
         }

@@ -1,13 +1,13 @@
 -- The marked lists against the test of the table sectors.
 use Prim.Native.Nat.{ℕ, _+_, _*_, _≤_, _<_}
-use mathlib.Core.Path.{_≡_, refl, sym, _∙_, ap}
+use mathlib.Core.Path.{_≡_, refl, _∙_, ap}
 use mathlib.Core.Bool.{Bool, true, false, _&&_, and-false}
 use mathlib.Core.List.{List, _++_}
-use mathlib.Core.Logic.{_⊎_, inl, inr, ⊎-elim}
+use mathlib.Core.Logic.{inl, inr, ⊎-elim}
 use native.Mathlib.Decide.{decLt}
 use native.Mathlib.Omega.{arith}
 use lib.Dec.{ltb}
-use lib.ListN.{length, getD, length-append}
+use lib.ListN.{getD, length-append}
 use borrow.Author.Tests.{lt-ltb, le-ltb, ltb-true}
 use Rattle.format.specs.Basics.Bytes.{Bytes}
 use Rattle.format.specs.Basics.Lists.{allBelow, all, listBelow, count, distinct, bit}
@@ -23,6 +23,7 @@ use Rattle.tables.specs.Work.{Wrote, Holds}
 use Rattle.tables.specs.Stages.{difatBelow, listed, times, ListMarked, ListFails, TableMarked, StageArgs, Built}
 use Rattle.tables.proofs.Lists.{below-not, all-below, count-absent, distinct-of, distinct-not, distinct-once}
 use Rattle.tables.proofs.WorkLaws.{holds-kept}
+use Rattle.tables.proofs.DifatLaws.{difat-below, difat-not}
 
 -- ---- the test, by the numbers of the lists
 
@@ -64,21 +65,13 @@ module _ (g : Geometry) (img : Bytes) where
   unfolding difatSectors difatCount
   difats-count s = refl
 
-  no-fat : (k : ℕ) → sectorCount g img ≤ difatEntry g img k → fatBelow g img k ≡ false
+  fat-not : (k : ℕ) → sectorCount g img ≤ difatEntry g img k → fatBelow g img k ≡ false
   unfolding fatBelow
-  no-fat k h = le-ltb _ _ h
+  fat-not k h = le-ltb _ _ h
 
-  is-fat : (k : ℕ) → difatEntry g img k < sectorCount g img → fatBelow g img k ≡ true
+  fat-below : (k : ℕ) → difatEntry g img k < sectorCount g img → fatBelow g img k ≡ true
   unfolding fatBelow
-  is-fat k h = lt-ltb _ _ h
-
-  no-difat : (k : ℕ) → sectorCount g img ≤ difatSector g img k → difatBelow g img k ≡ false
-  unfolding difatBelow
-  no-difat k h = le-ltb _ _ h
-
-  is-difat : (k : ℕ) → difatSector g img k < sectorCount g img → difatBelow g img k ≡ true
-  unfolding difatBelow
-  is-difat k h = lt-ltb _ _ h
+  fat-below k h = lt-ltb _ _ h
 
   -- where a DIFAT sector is none, the sectors are not right
   pub difats-out : allBelow (D img) (difatBelow g img) ≡ false → tableSectors g img ≡ false
@@ -109,7 +102,7 @@ module _ {g : Geometry} {img : Bytes} {w₁ : List ℕ} {n f d list : ℕ} (a : 
   clear = a .clear .clear
 
   pub fats-fail : ListFails w₁ (sectorCount g img) list (F img) → tableSectors g img ≡ false
-  fats-fail (inl x) = sectors-are g img ∙ rw (below-not (fatBelow g img) (F img) (x .0) (x .1) (no-fat g img (x .0) (omega (arith, x .2, listed-is (b .fats) (x .0) (x .1)))))
+  fats-fail (inl x) = sectors-are g img ∙ rw (below-not (fatBelow g img) (F img) (x .0) (x .1) (fat-not g img (x .0) (omega (arith, x .2, listed-is (b .fats) (x .0) (x .1)))))
   fats-fail (inr x) = twice g img (x .0) (omega (arith, x .2, times-are (b .fats) (x .0), fats-count g img (x .0), ap bit (le-ltb 0 (getD w₁ (x .0) 0) (omega (arith, clear (x .0) (x .1))))))
 
   module _ {w₂ : List ℕ} (wr : Wrote w₁ w₂ 0 (sectorCount g img)) (one : ListMarked w₁ w₂ (sectorCount g img) list (F img) 1) where
@@ -117,7 +110,7 @@ module _ {g : Geometry} {img : Bytes} {w₁ : List ℕ} {n f d list : ℕ} (a : 
     difats = holds-kept (b .difats) wr (inr (omega (arith, apart a)))
 
     pub difats-fail : ListFails w₂ (sectorCount g img) (list + F img) (D img) → tableSectors g img ≡ false
-    difats-fail (inl x) = difats-out g img (below-not (difatBelow g img) (D img) (x .0) (x .1) (no-difat g img (x .0) (omega (arith, x .2, listed-is difats (x .0) (x .1)))))
+    difats-fail (inl x) = difats-out g img (below-not (difatBelow g img) (D img) (x .0) (x .1) (difat-not g img (x .0) (omega (arith, x .2, listed-is difats (x .0) (x .1)))))
     difats-fail (inr x) =
         let s = x .0 in
         let a = times-are (b .fats) s in
@@ -132,11 +125,11 @@ module _ {g : Geometry} {img : Bytes} {w₁ : List ℕ} {n f d list : ℕ} (a : 
         (one .marked s (x .1)))
 
     module _ {w₃ : List ℕ} (two : ListMarked w₂ w₃ (sectorCount g img) (list + F img) (D img) 2) where
-      pub fat-below : (k : ℕ) → k < F img → difatEntry g img k < sectorCount g img
-      fat-below k l = omega (arith, one .below k l, listed-is (b .fats) k l)
+      pub fat-in : (k : ℕ) → k < F img → difatEntry g img k < sectorCount g img
+      fat-in k l = omega (arith, one .below k l, listed-is (b .fats) k l)
 
-      difat-below : (k : ℕ) → k < D img → difatSector g img k < sectorCount g img
-      difat-below k l = omega (arith, two .below k l, listed-is difats k l)
+      difat-in : (k : ℕ) → k < D img → difatSector g img k < sectorCount g img
+      difat-in k l = omega (arith, two .below k l, listed-is difats k l)
 
       -- each sector stands once at most, and the marks say where
       marks-say : (s : ℕ) → s < sectorCount g img
@@ -158,8 +151,8 @@ module _ {g : Geometry} {img : Bytes} {w₁ : List ℕ} {n f d list : ℕ} (a : 
                   arith,
                   fats-count g img s,
                   difats-count g img s,
-                  count-absent s (F img) (difatEntry g img) (λ k q e. omega (arith, fat-below k q)),
-                  count-absent s (D img) (difatSector g img) (λ k q e. omega (arith, difat-below k q)),
+                  count-absent s (F img) (difatEntry g img) (λ k q e. omega (arith, fat-in k q)),
+                  count-absent s (D img) (difatSector g img) (λ k q e. omega (arith, difat-in k q)),
                 )
           ]
 
@@ -167,8 +160,8 @@ module _ {g : Geometry} {img : Bytes} {w₁ : List ℕ} {n f d list : ℕ} (a : 
       sectors-pass =
           sectors-are g img
           ∙ rw (
-            below-of (F img) (fatBelow g img) (λ k l. is-fat g img k (fat-below k l)),
-            below-of (D img) (difatBelow g img) (λ k l. is-difat g img k (difat-below k l)),
+            below-of (F img) (fatBelow g img) (λ k l. fat-below g img k (fat-in k l)),
+            below-of (D img) (difatBelow g img) (λ k l. difat-below g img k (difat-in k l)),
             distinct-of (fatSectors g img ++ difatSectors g img) (λ s. omega (arith, count-append s (fatSectors g img) (difatSectors g img), at-most s)),
           )
 

@@ -21,7 +21,7 @@ use Rattle.tables.specs.Work.{Wrote, Holds, WorkClear}
 use Rattle.tables.specs.Listed.{Listed, listPlace}
 use Rattle.tables.specs.Stages.{Counted, difatBelow, DifatArgs, DifatListed, Difats, ListArgs, ListMarked, ListLeft, StageArgs, Built, ListsLeft, MarksLeft, TablesLeft}
 use Rattle.tables.proofs.WorkLaws.{wrote-two, wrote-wider, holds-kept, listed-kept, cleared, wrote-cleared}
-use Rattle.tables.proofs.SectorLaws.{apart, few-tables, difats-out, fat-below, sectors-pass}
+use Rattle.tables.proofs.SectorLaws.{apart, few-tables, difats-out, fat-in, sectors-pass}
 
 -- ---- the test, stage by stage
 
@@ -144,7 +144,7 @@ module _ {g : Geometry} {img : Bytes} {w₁ w₂ w₃ : List ℕ} {n f d list : 
         covers = a .counted .covers;
         few = omega (arith, a .counted .few);
         fats = h .here;
-        below = fat-below a b wr one two;
+        below = fat-in a b wr one two;
       }
 
   pub marks-left : {w₄ : List ℕ} {r : Bool} → w₄ ≡ workCleared (sectorCount g img) w₃ → r ≡ tableMarks g img → MarksLeft g img w₁ w₄ list r

@@ -209,3 +209,81 @@ pub fn table_marks(img: &[u8], work: &[u32], t: Tables) -> bool
     }
     true
 }
+
+// ---- group 11, whole
+
+// Lists the FAT's and the DIFAT's sectors; says whether the DIFAT's are below n, end, and have no entry past the FAT's.
+pub fn list_tables(
+    img: &[u8],
+    work: &mut [u32],
+    g: Geometry,
+    n: usize,
+    f: usize,
+    d: usize,
+    list: usize,
+) -> bool
+    requires { ⌜ StageArgs (geometryOf g) (now img) (now work) n f d list ⌝ }
+    ensures { λ r. ⌜ ListsLeft (geometryOf g) (now (img .entry)) (now (work .entry)) (now (work .exit)) list r ⌝ }
+{
+    if !list_difats(img, work, g, n, list + f, d) {
+        return false;
+    }
+    list_fats(img, work, g, list, f);
+    difat_rest(img, work, g, list + f, f, d)
+}
+
+// Marks the listed sectors, compares their cells, and takes the marks away.
+pub fn mark_tables(
+    img: &[u8],
+    work: &mut [u32],
+    g: Geometry,
+    n: usize,
+    f: usize,
+    d: usize,
+    list: usize,
+) -> bool
+    requires { ⌜ StageArgs (geometryOf g) (now img) (now work) n f d list ⌝ }
+    requires { ⌜ Built (geometryOf g) (now img) (now work) list ⌝ }
+    ensures { λ r. ⌜ MarksLeft (geometryOf g) (now (img .entry)) (now (work .entry)) (now (work .exit)) list r ⌝ }
+{
+    if !mark_list(work, n, list, f, 1) {
+        return false;
+    }
+    if !mark_list(work, n, list + f, d, 2) {
+        return false;
+    }
+    let right = table_marks(
+        img,
+        work,
+        Tables {
+            geometry: g,
+            sectors: n,
+            list: list,
+        },
+    );
+    zero_first(work, n);
+    right
+}
+
+// Group 11. Where it holds, the FAT's sectors stand listed in the work buffer, and no sector has a mark.
+pub fn table_rules(img: &[u8], work: &mut [u32], g: Geometry) -> bool
+    requires { ⌜ ImageSized (geometryOf g) (now img) ⌝ }
+    requires { ⌜ WorkClear (geometryOf g) (now img) (now work) ⌝ }
+    ensures { λ r. ⌜ r ≡ tableRules (geometryOf g) (now (img .entry)) ⌝ }
+    ensures { λ r. ⌜ TablesLeft (geometryOf g) (now (img .entry)) (now (work .entry)) (now (work .exit)) r ⌝ }
+{
+    let n = sector_count(img, g);
+    let f = u32_at(img, 44) as usize;
+    let d = u32_at(img, 72) as usize;
+    if !table_counts(img, g) {
+        return false;
+    }
+    if n < f + d {
+        return false;
+    }
+    let list = 13 * (img.len() / 512) - (f + d);
+    if !list_tables(img, work, g, n, f, d, list) {
+        return false;
+    }
+    mark_tables(img, work, g, n, f, d, list)
+}
