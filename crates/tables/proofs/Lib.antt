@@ -2,3 +2,10 @@
 pub mod Allowed
 pub mod Header
 pub mod Places
+pub mod Lists
+pub mod WorkLaws
+pub mod DifatLaws
+pub mod ListLaws
+pub mod MarkLaws
+pub mod SectorLaws
+pub mod StageLaws

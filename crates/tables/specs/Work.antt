@@ -6,7 +6,6 @@ use mathlib.Core.Logic.{_⊎_}
 use lib.ListN.{length, getD}
 use Rattle.format.specs.Basics.Bytes.{Bytes}
 use Rattle.format.specs.Layout.Geometry.{Geometry, sectorCount}
-use Rattle.format.specs.Rules.Length.{workNeed}
 
 -- nothing changed but the n numbers from a place on
 pub record Wrote (before after : List ℕ) (at n : ℕ) : Type 0 where

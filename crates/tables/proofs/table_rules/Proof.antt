@@ -1,0 +1,67 @@
+use borrow.Author.Needs.{needs}
+use Prim.Native.Nat.{_+_, _-_, _*_, _/_}
+use mathlib.Core.Path.{refl, sym, _∙_}
+use native.Mathlib.Omega.{arith}
+use lib.ListN.{length}
+use borrow.Author.Tests.{not-false}
+use Rattle.kinds.specs.Sizes.{geometryOf}
+use Rattle.tables.specs.Stages.{Counted, StageArgs}
+use Rattle.tables.proofs.Lists.{said-yes, said-no}
+use Rattle.tables.proofs.StageLaws.{rules-counts, rules-many, rules-lists, rules-marks, counted, not-left, stage-start, stage-kept, lists-refused, tables-left}
+use Rattle.tables.proofs.table_rules.Statement.{statement}
+use Rattle.tables.proofs.table_rules.Tie as tie
+
+-- what both tests of the counts say
+counts : (c : tie.Else2) → let p = c .before .before .before .before .before .before .before .before in Counted (geometryOf (p .args .g)) (p .args .img .now)
+counts c =
+    let p = c .before .before .before .before .before .before .before .before in
+    let n = c .before .before .before .before .before .sector-count .ensures in
+    counted _ _ (p .pre .0) (said-yes (c .before .if1 .left) (c .before .before .table-counts .ensures)) (omega (arith, c .if2 .left, n, c .before .before .before .before .u32-at .ensures, c .before .before .before .u32-at2 .ensures))
+
+-- what the stages after them are called with
+stage : (c : tie.Else2)
+    → let p = c .before .before .before .before .before .before .before .before in
+    let n = c .before .before .before .before .before .sector-count .result in
+    let f = c .before .before .before .before .u32-at .result in
+    let d = c .before .before .before .u32-at2 .result in
+    StageArgs (geometryOf (p .args .g)) (p .args .img .now) (p .args .work .now) n f d (13 * (length (p .args .img .now) / 512) - (f + d))
+stage c =
+    let p = c .before .before .before .before .before .before .before .before in
+    let n = c .before .before .before .before .before .sector-count .ensures in
+    stage-start _ _ _ _ (counts c) (p .pre .1) n (c .before .before .before .before .u32-at .ensures) (c .before .before .before .u32-at2 .ensures) refl
+
+pub table-rules-spec : {M : Type 1} → statement M
+table-rules-spec =
+    tie.close
+    (tie.spec
+    (λ c κs. search needs)  -- sector-count-requires
+    (λ c κs. search needs)  -- u32-at-requires
+    (λ c. search needs)  -- cast-f
+    (λ c κs. search needs)  -- u32-at-requires-2
+    (λ c. search needs)  -- cast-d
+    (λ c κs. search needs)  -- table-counts-requires
+    (λ c. (sym (rules-counts _ _ (said-no (c .if1 .taken) (c .before .table-counts .ensures))), not-left _ _ _ _ (λ i h. refl)))  -- returns
+    (λ c. search needs)  -- add-if2
+    (λ c.
+    let p = c .before .before .before .before .before .before .before .before in
+    let n = c .before .before .before .before .before .sector-count .ensures in
+    (sym (rules-many (geometryOf (p .args .g)) (p .args .img .now) (omega (arith, c .if2 .taken, n, c .before .before .before .before .u32-at .ensures, c .before .before .before .u32-at2 .ensures))), not-left _ _ _ _ (λ i h. refl)))  -- returns-2
+    (λ c. search needs)  -- mul-list
+    (λ c. search needs)  -- add-list
+    (λ c.
+    let p = c .before .before .before .before .before .before .before .before in
+    omega (arith, counts c .few, c .before .before .before .before .u32-at .ensures, c .before .before .before .u32-at2 .ensures, p .pre .0 .many))  -- sub-list
+    (λ c κs. stage (c .before))  -- list-tables-requires
+    (λ c. search needs)  -- same-length
+    (λ c.
+    let e = c .before .before .before .list-tables .ensures in
+    (sym (rules-lists _ _ (said-no (c .if3 .taken) (e .answer))), lists-refused (stage (c .before .before .before .before .before)) (e .wrote)))  -- returns-3
+    (λ c κs.
+    let e = c .before .before .before .before .list-tables .ensures in
+    (stage-kept (stage (c .before .before .before .before .before .before)) (e .wrote), e .built (not-false _ (c .before .if3 .left))))  -- mark-tables-requires
+    (λ c. search needs)  -- same-length-2
+    (λ c.
+    let e = c .before .before .before .before .before .before .before .list-tables .ensures in
+    let m = c .before .before .mark-tables .ensures in
+    let s = c .before .before .before .before .before .before .before .before .before in
+    (m .answer ∙ sym (rules-marks _ _ (said-yes (s .before .if1 .left) (s .before .before .table-counts .ensures)) (said-yes (c .before .before .before .before .if3 .left) (e .answer))), tables-left (stage s) (e .wrote) m)))  -- returns-4
