@@ -1,4 +1,4 @@
 -- Laws for the walks along the FAT.
-pub mod Lists
 pub mod Walks
+pub mod Listing
 pub mod Groups

@@ -19,7 +19,7 @@ use Rattle.theory.proofs.Marks.{closed-none, Marking, marking-start, marking-st
 use Rattle.tables.specs.Work.{Wrote, WorkClear}
 use Rattle.tables.specs.Listed.{Listed}
 use Rattle.chains.specs.Answers.{markAnswer, Remarked}
-use Rattle.chains.proofs.Lists.{wrote-none, wrote-set, listed-kept}
+use Rattle.tables.proofs.WorkLaws.{wrote-none, wrote-set, listed-kept}
 use Rattle.chains.specs.declared.Marked.{Marked}
 use Rattle.chains.specs.declared.Marked.the-variants.{Broken, Fresh, Shared}
 
@@ -43,7 +43,9 @@ clear-closed g img w c = closed-none (λ u l. rw marks-at (c .clear u l))
 
 -- the list of FAT sectors stays
 pub listed-set : {g : Geometry} {img : Bytes} {w : List ℕ} {n list : ℕ} (u v : ℕ) → Listed g img w n list → u < sectorCount g img → Listed g img (set w u v) n list
-listed-set {w = w} u v l h = listed-kept l (wrote-set u v (wrote-none w 0 _) (omega arith) (omega arith))
+listed-set {g} {img} {w} u v l h =
+    let k : Wrote w (set w u v) 0 (sectorCount g img) = wrote-set u v (wrote-none w 0 _) (omega arith) (omega arith) in
+    listed-kept l k (omega (arith, l .apart))
 
 -- ---- the answers
 

@@ -3,6 +3,7 @@ use Prim.Native.Nat.{ℕ}
 use mathlib.Core.Path.{_≡_}
 use mathlib.Core.Bool.{Bool, true, cond}
 use mathlib.Core.List.{List}
+use lib.ListN.{getD}
 use Rattle.format.specs.Basics.Lists.{all}
 use Rattle.format.specs.Basics.Bytes.{Bytes}
 use Rattle.format.specs.Layout.Geometry.{Geometry, sectorCount}
@@ -23,6 +24,10 @@ markAnswer cell limit n s m = cond (chain cell limit n s) (cond (all (unmarked m
 pub record Remarked (g : Geometry) (img : Bytes) (n s : ℕ) (before after : List ℕ) : Type 0 where
   pub chained : chain (fatCell g img) (sectorCount g img) n s ≡ true → ChainMarked (fatCell g img) (sectorCount g img) n s (marks before) (marks after)
   pub wrote : Wrote before after 0 (sectorCount g img)
+
+-- number k of a list
+abbrev pub number : List ℕ → ℕ → ℕ
+number us k = getD us k 0
 
 -- the length, where there is a chain
 unfoldable pub lengthAnswer : Bool → ℕ → Length

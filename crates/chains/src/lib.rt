@@ -1,20 +1,21 @@
 // Walks along the FAT: the walk that marks a chain, group 12, and group 13.
 ghost use mathlib.Core.Path.{_≡_};
-ghost use mathlib.Core.Bool.{_&&_};
-ghost use Prim.Native.Nat.{_<_};
+ghost use mathlib.Core.Bool.{true, _&&_};
+ghost use Prim.Native.Nat.{_+_, _≤_};
 ghost use lib.Dec.{leb, eqb};
 ghost use lib.ListN.{length};
 ghost use Rattle.format.specs.Basics.Lists.{allBelow};
 ghost use Rattle.format.specs.Layout.Geometry.{sectorCount};
-ghost use Rattle.format.specs.Layout.Chain.{END};
+ghost use Rattle.format.specs.Layout.Chain.{END, chain, units};
 ghost use Rattle.format.specs.Layout.Tables.{fatCell, sectorSpace};
 ghost use Rattle.format.specs.Layout.Volume.{directorySectorsOf, volume};
 ghost use Rattle.format.specs.Rules.Cells.{fatCellRight, restFree, cellRules};
 ghost use Rattle.format.specs.Rules.Directory.{directoryRules};
 ghost use Rattle.theory.specs.Marks.{marks, Closed};
 ghost use Rattle.kinds.specs.Sizes.{geometryOf};
+ghost use Rattle.tables.specs.Work.{Wrote, Holds};
 ghost use Rattle.tables.specs.Listed.{Listed};
-ghost use Rattle.chains.specs.Answers.{markAnswer, Remarked, lengthAnswer};
+ghost use Rattle.chains.specs.Answers.{markAnswer, Remarked, number, lengthAnswer};
 use kinds::Sector;
 use le::u32_at;
 use tables::Tables;
@@ -59,6 +60,25 @@ pub fn mark_chain(img: &[u8], work: &mut [u32], t: Tables, start: Sector, n: u32
     Marked::Broken
 }
 
+// ---- listing a chain
+
+// Writes the n sectors of a chain into the work buffer from a place on.
+pub fn list_chain(img: &[u8], work: &mut [u32], t: Tables, start: Sector, n: usize, at: usize)
+    requires { ⌜ Listed (geometryOf (t .geometry)) (now img) (now work) (t .sectors) (t .list) ⌝ }
+    requires { ⌜ chain (fatCell (geometryOf (t .geometry)) (now img)) (sectorCount (geometryOf (t .geometry)) (now img)) n (start .0) ≡ true ⌝ }
+    requires { ⌜ at + n ≤ t .list ⌝ }
+    ensures { λ _. ⌜ Wrote (now (work .entry)) (now (work .exit)) at n ⌝ }
+    ensures { λ _. ⌜ Holds (now (work .exit)) at n (number (units (fatCell (geometryOf (t .geometry)) (now (img .entry))) n (start .0))) ⌝ }
+{
+    let mut s = start;
+    let mut i = 0;
+    while i < n {
+        work[at + i] = s.0;
+        s = cell_at(img, work, t, s);
+        i += 1;
+    }
+}
+
 // ---- group 12
 
 // The cells below the number of sectors.
@@ -82,7 +102,6 @@ pub fn cells_below(img: &[u8], work: &[u32], t: Tables) -> bool
 // The cells from the number of sectors on. Each has a number of 32 bits, since the image is shorter than 4 GiB.
 pub fn cells_rest(img: &[u8], work: &[u32], t: Tables) -> bool
     requires { ⌜ Listed (geometryOf (t .geometry)) (now img) (now work) (t .sectors) (t .list) ⌝ }
-    requires { ⌜ length (now img) < 0x1_0000_0000 ⌝ }
     ensures { λ r. ⌜ r ≡ restFree (sectorSpace (geometryOf (t .geometry)) (now (img .entry))) ⌝ }
 {
     let g = t.geometry;
@@ -103,7 +122,6 @@ pub fn cells_rest(img: &[u8], work: &[u32], t: Tables) -> bool
 // Group 12.
 pub fn cell_rules(img: &[u8], work: &[u32], t: Tables) -> bool
     requires { ⌜ Listed (geometryOf (t .geometry)) (now img) (now work) (t .sectors) (t .list) ⌝ }
-    requires { ⌜ length (now img) < 0x1_0000_0000 ⌝ }
     ensures { λ r. ⌜ r ≡ cellRules (sectorSpace (geometryOf (t .geometry)) (now (img .entry))) ⌝ }
 {
     cells_below(img, work, t) & cells_rest(img, work, t)

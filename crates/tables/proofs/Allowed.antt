@@ -8,7 +8,7 @@ use Rattle.format.specs.Basics.Bytes.{Bytes}
 use Rattle.format.specs.Layout.Geometry.{Geometry}
 use Rattle.format.specs.Rules.Length.{lengthAllowed}
 use Rattle.frame.specs.Kept.{Sized}
-use Rattle.frame.proofs.Lengths.{allowed-least, allowed-long, allowed-few, allowed-many}
+use Rattle.frame.proofs.Lengths.{allowed-least, allowed-short, allowed-long, allowed-few, allowed-many}
 use Rattle.tables.specs.Sized.{ImageSized}
 
 pub allowed-sized : (g : Geometry) (img : Bytes) → Sized g → g .sectorBytes ≤ 4096 → lengthAllowed g (length img) ≡ true → ImageSized g img
@@ -21,4 +21,5 @@ allowed-sized g img z k h =
       head = omega (arith, z .wide, allowed-least g img h);
       many = allowed-many g img h z;
       few = allowed-few g img h z;
+      short = omega (arith, allowed-short g img h);
     }

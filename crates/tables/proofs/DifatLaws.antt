@@ -23,7 +23,7 @@ use Rattle.tables.specs.Sized.{ImageSized, F, D, wordIn}
 use Rattle.tables.specs.Work.{Wrote, Holds}
 use Rattle.tables.specs.Stages.{Counted, difatBelow, DifatListed, Difats}
 use Rattle.tables.proofs.Places.{cells-some, cells-few, difat-is, difat-first, difat-next}
-use Rattle.tables.proofs.Lists.{below-none, below-more, below-not}
+use Rattle.theory.proofs.Loops.{below-none, below-more, below-not}
 use Rattle.tables.proofs.WorkLaws.{wrote-none, wrote-set, holds-none, holds-more, holds-kept}
 
 -- ---- the counts

@@ -2,7 +2,6 @@
 pub mod Allowed
 pub mod Header
 pub mod Places
-pub mod Lists
 pub mod WorkLaws
 pub mod DifatLaws
 pub mod ListLaws

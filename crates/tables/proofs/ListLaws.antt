@@ -14,7 +14,7 @@ use Rattle.format.specs.Basics.Lists.{bit}
 use Rattle.theory.proofs.Counts.{bit-other}
 use Rattle.tables.specs.Work.{Wrote}
 use Rattle.tables.specs.Stages.{listed, times, ListMarked, ListLeft}
-use Rattle.tables.proofs.Lists.{count-none, count-more, count-le}
+use Rattle.theory.proofs.Loops.{count-none, count-more, count-le}
 use Rattle.tables.proofs.WorkLaws.{wrote-none, wrote-set}
 
 times-none : (w : List ℕ) (at s : ℕ) → times w at 0 s ≡ 0

@@ -21,7 +21,7 @@ use Rattle.theory.proofs.Below.{listBelow-ext, length-below}
 use Rattle.tables.specs.Sized.{F, D}
 use Rattle.tables.specs.Work.{Wrote, Holds}
 use Rattle.tables.specs.Stages.{difatBelow, listed, times, ListMarked, ListFails, TableMarked, StageArgs, Built}
-use Rattle.tables.proofs.Lists.{below-not, all-below, count-absent, distinct-of, distinct-not, distinct-once}
+use Rattle.theory.proofs.Loops.{below-not, all-below, count-absent, distinct-of, distinct-not, distinct-once}
 use Rattle.tables.proofs.WorkLaws.{holds-kept}
 use Rattle.tables.proofs.DifatLaws.{difat-below, difat-not}
 

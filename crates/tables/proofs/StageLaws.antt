@@ -153,7 +153,7 @@ module _ {g : Geometry} {img : Bytes} {w₁ w₂ w₃ : List ℕ} {n f d list : 
       record {
         answer = h ∙ sym (rw (sectors-pass a b wr one two));
         wrote = wrote-two (wrote-two wr wr₃) k;
-        listed = λ x. listed-kept (built-listed (sectorCount g img) refl) k;
+        listed = λ x. let b = built-listed (sectorCount g img) refl in listed-kept b k (omega (arith, b .apart));
         clear = λ x. cleared (sectorCount g img) w₃ w₄ e;
       }
 

@@ -56,9 +56,9 @@ holds-kept h r d =
       here = λ j l. r .outside _ (⊎-elim (λ q. inl (omega arith)) (λ q. inr (omega arith)) d) ∙ h .here j l;
     }
 
--- the list stays where only marks change
-pub listed-kept : {g : Geometry} {img : Bytes} {w w′ : List ℕ} {n list : ℕ} → Listed g img w n list → Wrote w w′ 0 (sectorCount g img) → Listed g img w′ n list
-listed-kept l r =
+-- the list stays where only what stands before it changes
+pub listed-kept : {g : Geometry} {img : Bytes} {w w′ : List ℕ} {n list at m : ℕ} → Listed g img w n list → Wrote w w′ at m → at + m ≤ list → Listed g img w′ n list
+listed-kept l r k =
     record {
       sized = l .sized;
       count = l .count;
@@ -66,7 +66,7 @@ listed-kept l r =
       room = omega (arith, l .room, r .long);
       covers = l .covers;
       few = l .few;
-      fats = λ j h. r .outside _ (inr (omega (arith, l .apart))) ∙ l .fats j h;
+      fats = λ j h. r .outside _ (inr (omega (arith, k))) ∙ l .fats j h;
       below = l .below;
     }
 

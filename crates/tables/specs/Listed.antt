@@ -6,7 +6,10 @@ use lib.ListN.{length, getD}
 use Rattle.format.specs.Basics.Bytes.{Bytes}
 use Rattle.format.specs.Layout.Geometry.{Geometry, sectorCount, cellsIn}
 use Rattle.format.specs.Layout.Tables.{difatEntry}
+use Rattle.kinds.specs.declared.Geometry.{Geometry as Sizes}
+use Rattle.kinds.specs.Sizes.{geometryOf}
 use Rattle.tables.specs.Sized.{ImageSized, F, D}
+use Rattle.tables.specs.declared.Tables.{Tables}
 
 -- n is N; the list starts at a place behind the marks of the sectors
 pub record Listed (g : Geometry) (img : Bytes) (work : List ℕ) (n list : ℕ) : Type 0 where
@@ -15,10 +18,13 @@ pub record Listed (g : Geometry) (img : Bytes) (work : List ℕ) (n list : ℕ) 
   pub apart : sectorCount g img ≤ list
   pub room : list + F img ≤ length work
   pub covers : sectorCount g img ≤ cellsIn g * F img
-  pub few : F img ≤ sectorCount g img
+  pub few : F img + D img ≤ sectorCount g img
   pub fats : (k : ℕ) → k < F img → getD work (list + k) 0 ≡ difatEntry g img k
   pub below : (k : ℕ) → k < F img → difatEntry g img k < sectorCount g img
 
 -- where the list of table sectors starts: it ends with the part of the work buffer that is ours
 abbrev pub listPlace : Bytes → ℕ
 listPlace img = 13 * (length img / 512) - (F img + D img)
+
+abbrev pub tablesOf : Sizes → Bytes → Tables
+tablesOf g img = record { geometry = g; sectors = sectorCount (geometryOf g) img; list = listPlace img }

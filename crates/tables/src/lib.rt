@@ -9,7 +9,7 @@ ghost use Rattle.format.specs.Rules.Tables.{difatNeed, tableCounts, difatRest, 
 ghost use Rattle.kinds.specs.Sizes.{geometryOf};
 ghost use Rattle.tables.specs.Sized.{ImageSized, F, D, wordIn};
 ghost use Rattle.tables.specs.Work.{Wrote, Holds, WorkClear};
-ghost use Rattle.tables.specs.Listed.{Listed};
+ghost use Rattle.tables.specs.Listed.{Listed, tablesOf};
 ghost use Rattle.tables.specs.Stages.{DifatArgs, DifatListed, Difats, ListArgs, ListLeft, TableMarked, TablesLeft, StageArgs, Built, ListsLeft, MarksLeft};
 use kinds::Geometry;
 use kinds::Sector;
@@ -306,4 +306,19 @@ pub fn table_rules(img: &[u8], work: &mut [u32], g: Geometry) -> bool
         return false;
     }
     mark_tables(img, work, g, n, f, d, list)
+}
+
+// The tables of an image whose group 11 holds.
+pub fn tables_of(img: &[u8], g: Geometry) -> Tables
+    requires { ⌜ ImageSized (geometryOf g) (now img) ⌝ }
+    requires { ⌜ F (now img) + D (now img) ≤ sectorCount (geometryOf g) (now img) ⌝ }
+    ensures { λ r. ⌜ r ≡ tablesOf g (now (img .entry)) ⌝ }
+{
+    let f = u32_at(img, 44) as usize;
+    let d = u32_at(img, 72) as usize;
+    Tables {
+        geometry: g,
+        sectors: sector_count(img, g),
+        list: 13 * (img.len() / 512) - (f + d),
+    }
 }

@@ -3,7 +3,7 @@ use mathlib.Core.Path.{_≡_, refl, sym, ap, ap₂, _∙_}
 use mathlib.Core.Logic.{_≢_, inl, inr}
 use mathlib.Core.Bool.{Bool, true, false, cond}
 use mathlib.Core.List.{List, [], _∷_}
-use Prim.Native.Nat.{ℕ, zero, suc, _≤_, _<_}
+use Prim.Native.Nat.{ℕ, zero, suc, _-_, _≤_, _<_}
 use native.Mathlib.Omega.{arith}
 use native.Mathlib.Decide.{decLt}
 use lib.Dec.{ltb}
@@ -39,6 +39,26 @@ linked-chain f N n s us l e h = rw (← e, ← h) (go us l)
     go (u ∷ us) l =
         let r = go us (l .2) in
         (and-true-of (ltb u N) (chain f N (length us) (f u)) (lt-ltb u N (l .0)) (rw (l .1) (r .0)), rw (l .1, r .1))
+
+-- ---- one step along a chain
+
+chain-suc : (f : ℕ → ℕ) (N m s : ℕ) → chain f N (suc m) s ≡ true → (s < N) × (chain f N m (f s) ≡ true)
+unfolding chain
+chain-suc f N m s t = let q = both (ltb s N) (chain f N m (f s)) t in (ltb-true s N (q .0), q .1)
+
+units-suc : (f : ℕ → ℕ) (m s : ℕ) → units f (suc m) s ≡ (s ∷ units f m (f s))
+unfolding units
+units-suc f m s = refl
+
+module _ (f : ℕ → ℕ) (n s : ℕ) (h : 0 < n) where
+  one-less : n ≡ suc (n - 1)
+  one-less = omega arith
+
+  pub chain-next : (N : ℕ) → chain f N n s ≡ true → (s < N) × (chain f N (n - 1) (f s) ≡ true)
+  chain-next N t = chain-suc f N (n - 1) s (ap (λ k. chain f N k s) (sym one-less) ∙ t)
+
+  pub units-next : units f n s ≡ (s ∷ units f (n - 1) (f s))
+  units-next = ap (λ k. units f k s) one-less ∙ units-suc f (n - 1) s
 
 -- ---- the units of a chain
 

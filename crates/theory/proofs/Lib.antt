@@ -3,6 +3,7 @@ pub mod Counts
 pub mod Tests
 pub mod Picks
 pub mod Below
+pub mod Loops
 pub mod Sets
 pub mod Bytes
 pub mod ByteTests

@@ -9,7 +9,7 @@ use Rattle.format.specs.Layout.Geometry.{sectorCount}
 use Rattle.format.specs.Layout.Tables.{sectorSpace}
 use Rattle.format.specs.Rules.Cells.{fatCellRight}
 use Rattle.kinds.specs.Sizes.{geometryOf}
-use Rattle.chains.proofs.Lists.{below-none, below-more, below-not}
+use Rattle.theory.proofs.Loops.{below-none, below-more, below-not}
 use Rattle.chains.proofs.Groups.{cell-right}
 use Rattle.chains.proofs.cells_below.Statement.{statement}
 use Rattle.chains.proofs.cells_below.Tie as tie

@@ -6,7 +6,7 @@ use native.Mathlib.Omega.{arith}
 use Rattle.format.specs.Layout.Geometry.{sectorCount}
 use Rattle.format.specs.Layout.Tables.{fatCell}
 use Rattle.kinds.specs.Sizes.{geometryOf}
-use Rattle.chains.proofs.Lists.{said-below, said-beyond}
+use Rattle.theory.proofs.Loops.{said-below, said-beyond}
 use Rattle.chains.proofs.Groups.{Following, following-start, following-step, following-end, directory-is}
 use Rattle.chains.proofs.directory_length.Statement.{statement}
 use Rattle.chains.proofs.directory_length.Tie as tie

@@ -6,7 +6,7 @@ use native.Mathlib.Omega.{arith}
 use lib.ListN.{length}
 use Rattle.format.specs.Layout.Geometry.{sectorCount}
 use Rattle.kinds.specs.Sizes.{geometryOf}
-use Rattle.chains.proofs.Lists.{said-below, said-beyond}
+use Rattle.theory.proofs.Loops.{said-below, said-beyond}
 use Rattle.chains.proofs.Walks.{Walk, listed-set, walk-start, walk-step, walk-out, walk-clash, walk-shared, walk-fresh, walk-off}
 use Rattle.chains.proofs.mark_chain.Statement.{statement}
 use Rattle.chains.proofs.mark_chain.Tie as tie

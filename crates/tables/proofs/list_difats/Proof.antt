@@ -5,7 +5,7 @@ use borrow.Author.Tests.{ltb-true, ltb-false}
 use Rattle.format.specs.Layout.Geometry.{sectorCount}
 use Rattle.kinds.specs.Sizes.{geometryOf}
 use Rattle.tables.proofs.Places.{difat-is}
-use Rattle.tables.proofs.Lists.{said-yes, said-no}
+use Rattle.theory.proofs.Loops.{said-yes, said-no}
 use Rattle.tables.proofs.DifatLaws.{DifatWalk, difat-start, difat-step, difat-out, difat-end}
 use Rattle.tables.proofs.list_difats.Statement.{statement}
 use Rattle.tables.proofs.list_difats.Tie as tie

@@ -4,7 +4,7 @@ use mathlib.Core.Path.{_∙_}
 use native.Mathlib.Omega.{arith}
 use lib.ListN.{getD}
 use borrow.Author.Tests.{ltb-true, ltb-false}
-use Rattle.tables.proofs.Lists.{said-yes, said-no}
+use Rattle.theory.proofs.Loops.{said-yes, said-no}
 use Rattle.tables.proofs.ListLaws.{ListWalk, list-start, list-at, list-step, list-out, list-hit, list-end}
 use Rattle.tables.proofs.mark_list.Statement.{statement}
 use Rattle.tables.proofs.mark_list.Tie as tie

@@ -7,7 +7,7 @@ use Rattle.format.specs.Basics.Lists.{allBelow}
 use Rattle.format.specs.Layout.Geometry.{sectorCount}
 use Rattle.format.specs.Rules.Tables.{markRight}
 use Rattle.kinds.specs.Sizes.{geometryOf}
-use Rattle.tables.proofs.Lists.{below-none, below-more, below-not}
+use Rattle.theory.proofs.Loops.{below-none, below-more, below-not}
 use Rattle.tables.proofs.MarkLaws.{marks-are, mark-right, mark-not-fat, mark-not-difat}
 use Rattle.tables.proofs.table_marks.Statement.{statement}
 use Rattle.tables.proofs.table_marks.Tie as tie

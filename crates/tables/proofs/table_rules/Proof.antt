@@ -6,7 +6,7 @@ use lib.ListN.{length}
 use borrow.Author.Tests.{not-false}
 use Rattle.kinds.specs.Sizes.{geometryOf}
 use Rattle.tables.specs.Stages.{Counted, StageArgs}
-use Rattle.tables.proofs.Lists.{said-yes, said-no}
+use Rattle.theory.proofs.Loops.{said-yes, said-no}
 use Rattle.tables.proofs.StageLaws.{rules-counts, rules-many, rules-lists, rules-marks, counted, not-left, stage-start, stage-kept, lists-refused, tables-left}
 use Rattle.tables.proofs.table_rules.Statement.{statement}
 use Rattle.tables.proofs.table_rules.Tie as tie

@@ -8,10 +8,10 @@ use native.Mathlib.Numerals.{add-one}
 use native.Mathlib.Decide.{ℕ-discrete, decLt}
 use native.Mathlib.Omega.{arith}
 use lib.Dec.{ltb, eqb}
-use borrow.Author.Tests.{lt-ltb, le-ltb, ne-eqb, not-true, not-false}
+use borrow.Author.Tests.{ltb-true, ltb-false, lt-ltb, le-ltb, ne-eqb, not-true, not-false}
 use Rattle.format.specs.Basics.Lists.{allBelow, all, listBelow, count, member, distinct, bit}
 use Rattle.theory.proofs.Counts.{eqb-cases, bit-self, count-append}
 use Rattle.theory.proofs.Tests.{clash, all-append}
 
 -- ---- what a test `if !g(..)` says of the definition that g answers
 
@@ -20,6 +20,13 @@ said-no {r} h e = sym e ∙ not-true r h
 
 pub said-yes : {r t : Bool} → not r ≡ false → r ≡ t → t ≡ true
 said-yes {r} h e = sym e ∙ not-false r h
+
+-- the same of a test against how many there are
+pub said-below : {r : Bool} (s n : ℕ) {limit : ℕ} → not r ≡ false → r ≡ ltb s n → n ≡ limit → s < limit
+said-below s n h e z = omega (arith, ltb-true s n (said-yes h e))
+
+pub said-beyond : {r : Bool} (s n : ℕ) {limit : ℕ} → not r ≡ true → r ≡ ltb s n → n ≡ limit → limit ≤ s
+said-beyond s n h e z = omega (arith, ltb-false s n (said-no h e))
 
 -- ---- every number below a limit
 
