@@ -1,12 +1,12 @@
 -- Group 10 as the code reads it.
-use Prim.Native.Nat.{ℕ, zero, suc, _+_, _-_, _*_, _/_, _%_, _≤_, _<_}
+use Prim.Native.Nat.{ℕ, zero, suc, _≤_, _<_}
 use mathlib.Core.Path.{_≡_, refl, sym, _∙_, ap}
-use mathlib.Core.Bool.{Bool, _&&_}
-use mathlib.Core.List.{List, [], _∷_}
+use mathlib.Core.Bool.{_&&_}
+use mathlib.Core.List.{[], _∷_}
 use native.Mathlib.Omega.{arith}
 use lib.Dec.{eqb}
 use lib.ListN.{length, getD}
-use Rattle.format.specs.Basics.Bytes.{Bytes, u16at, u32at, u64at, part, allZero, number}
+use Rattle.format.specs.Basics.Bytes.{Bytes, u16at, u32at, u64at, part, number}
 use Rattle.format.specs.Layout.Geometry.{Geometry}
 use Rattle.format.specs.Layout.Need.{cutoff}
 use Rattle.format.specs.Basics.Lists.{equal}

@@ -1,11 +1,9 @@
 -- Where numbers stand in sectors: inside the image; and the cells of the FAT by these places.
-use Prim.Native.Nat.{ℕ, zero, suc, _+_, _-_, _*_, _/_, _%_, _≤_, _<_}
+use Prim.Native.Nat.{ℕ, suc, _+_, _-_, _*_, _/_, _%_, _≤_, _<_}
 use mathlib.Core.Path.{_≡_, refl, sym, _∙_, ap}
-use mathlib.Core.Bool.{Bool, true, false, cond}
 use native.Mathlib.Nat.{div-lt-iff-lt-mul, mod-lt, mul-div-mul-left, div-add-mod', mul-comm, mul-le-mul-right, le-div-iff-mul-le}
 use native.Mathlib.Omega.{arith}
-use lib.Dec.{ltb}
-use lib.ListN.{length, getD}
+use lib.ListN.{length}
 use borrow.Author.Tests.{lt-ltb, le-ltb}
 use Rattle.format.specs.Basics.Bytes.{Bytes, u32at}
 use Rattle.format.specs.Layout.Geometry.{Geometry, headerDifat, sectorCount, sectorPlace, placeIn, cellsIn, difatIn}
@@ -13,7 +11,7 @@ use Rattle.format.specs.Layout.Header.{fatCount, difatStart, difatPlace}
 use Rattle.format.specs.Layout.Tables.{difatSector, difatEntry, fatSectors, fatCells, fatCell, cellIn, cellPlaceIn}
 use Rattle.theory.proofs.Below.{getD-below}
 use Rattle.frame.proofs.Kept.{place-in}
-use Rattle.tables.specs.Sized.{ImageSized, F, D, wordIn}
+use Rattle.tables.specs.Sized.{ImageSized, F, wordIn}
 
 module _ {g : Geometry} {img : Bytes} (z : ImageSized g img) where
   -- a sector lies whole in the image

@@ -8,7 +8,7 @@ use native.Mathlib.Omega.{arith}
 use lib.ListN.{length, getD, set, replicate, drop, length-set, length-append, length-replicate, length-drop, List·getD-append, getD-replicate}
 use lib.Seq.{getD-set-same, getD-set-other, getD-append-add, getD-drop}
 use Rattle.format.specs.Basics.Bytes.{Bytes}
-use Rattle.format.specs.Layout.Geometry.{Geometry, sectorCount}
+use Rattle.format.specs.Layout.Geometry.{Geometry}
 use Rattle.format.specs.Calls.Buffers.{workCleared}
 use Rattle.tables.specs.Work.{Wrote, Holds}
 use Rattle.tables.specs.Listed.{Listed}
