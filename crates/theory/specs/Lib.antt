@@ -3,3 +3,4 @@ pub mod Sums
 pub mod Links
 pub mod Owned
 pub mod Blocks
+pub mod TreeViews

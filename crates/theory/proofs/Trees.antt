@@ -1,0 +1,6 @@
+-- The laws of the directory's trees, in the order of reading: drawing, depth, entries, order, colours, the walk, the verdict.
+pub mod Lists
+pub mod Grow
+pub mod Depth
+pub mod Stand
+pub mod Nodes
