@@ -4,3 +4,12 @@ pub mod Grow
 pub mod Depth
 pub mod Stand
 pub mod Nodes
+pub mod Sides
+pub mod Order
+pub mod Spines
+pub mod Rules
+pub mod Marks
+pub mod Walk
+pub mod Stack
+pub mod Slices
+pub mod Walking

@@ -4,3 +4,5 @@ pub mod Links
 pub mod Owned
 pub mod Blocks
 pub mod TreeViews
+pub mod TreeOrder
+pub mod TreeWalk

@@ -28,6 +28,9 @@ step d depth x = node (grow d depth (leftOf d x)) x (grow d depth (childOf d x))
 abbrev pub at : Directory → ℕ → Forest
 at d x = grow d (rows d) x
 
+abbrev pub soundAt : Directory → ℕ → Bool
+soundAt d x = sound (at d x)
+
 -- all that is below the root: `forest d`, written out
 abbrev pub whole : Directory → Forest
 whole d = at d (childOf d 0)

@@ -1,7 +1,7 @@
 -- The depth is no part of the meaning: a tree that is sound at some depth is drawn by the number of entries, and by every greater depth.
 use mathlib.Core.Path.{_≡_, sym, ap, subst}
-use mathlib.Core.Logic.{inl, inr}
-use mathlib.Core.Bool.{true}
+use mathlib.Core.Logic.{_≢_, inl, inr}
+use mathlib.Core.Bool.{true, _&&_}
 use mathlib.Core.List.{List, [], _∷_, _++_}
 use Prim.Native.Nat.{ℕ, zero, suc, _+_, _-_, _≤_, _<_}
 use native.Mathlib.Omega.{arith}
@@ -14,7 +14,7 @@ use Rattle.format.specs.Layout.Entry.{NOSTREAM}
 use Rattle.format.specs.Layout.Directory.{Directory}
 use Rattle.format.specs.Layout.Tree.{Forest, node, grow, forest, entries, named}
 use Rattle.format.specs.Rules.Trees.{sound}
-use Rattle.theory.specs.TreeViews.{rows, leftOf, rightOf, childOf, at}
+use Rattle.theory.specs.TreeViews.{rows, leftOf, rightOf, childOf, at, soundAt}
 use Rattle.theory.proofs.Counts.{eqb-cases, pigeonhole}
 use Rattle.theory.proofs.Tests.{both}
 use Rattle.theory.proofs.Trees.Lists.{same-test}
@@ -108,3 +108,15 @@ module _ (d : Directory) where
   pub forest-depth : (f : ℕ) → sound (grow d f (childOf d 0)) ≡ true → forest d ≡ grow d f (childOf d 0)
   unfolding forest
   forest-depth f s = sym (depth-same f (childOf d 0) s)
+
+  -- a tree is sound exactly if its three parts are, all to the same depth
+  pub sound-node : (x : ℕ) → x ≢ NOSTREAM → named d x ≡ true → soundAt d x ≡ (soundAt d (leftOf d x) && (soundAt d (childOf d x) && soundAt d (rightOf d x)))
+  sound-node x h n =
+      same-test (soundAt d x) (soundAt d (leftOf d x) && (soundAt d (childOf d x) && soundAt d (rightOf d x)))
+      (λ s.
+      let u = unroll d (rows d) x s h in
+      rw (u .left-sound, u .below-sound, u .right-sound))
+      (λ s.
+      let u = both (soundAt d (leftOf d x)) (soundAt d (childOf d x) && soundAt d (rightOf d x)) s in
+      let v = both (soundAt d (childOf d x)) (soundAt d (rightOf d x)) (u .1) in
+      depth-enough (suc (rows d)) x (roll d (rows d) x h n (u .0) (v .0) (v .1)))
