@@ -13,3 +13,4 @@ pub mod Walk
 pub mod Stack
 pub mod Slices
 pub mod Walking
+pub mod Find

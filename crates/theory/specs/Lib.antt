@@ -6,3 +6,4 @@ pub mod Blocks
 pub mod TreeViews
 pub mod TreeOrder
 pub mod TreeWalk
+pub mod TreeFind
