@@ -13,4 +13,5 @@ pub mod Walk
 pub mod Stack
 pub mod Slices
 pub mod Walking
+pub mod Verdict
 pub mod Find

@@ -6,7 +6,7 @@ use Rattle.format.specs.Layout.Name.{Name}
 use Rattle.format.specs.Layout.Directory.{Directory}
 use Rattle.format.specs.Rules.Trees.{everyNode, sidesOrdered}
 use Rattle.format.specs.Calls.Find.{childNamed}
-use Rattle.theory.specs.TreeViews.{childOf, at, soundAt}
+use Rattle.theory.specs.TreeViews.{at, soundAt}
 
 -- what is asked of an order of names: equal names have the same place in it
 pub record NameOrder (less equal : Name → Name → Bool) : Type 0 where

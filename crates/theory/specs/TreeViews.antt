@@ -45,6 +45,10 @@ pub record Standing (d : Directory) (x : ℕ) : Type 0 where
   pub tree-sound : sound (at d x) ≡ true
   pub inside : x < rows d
 
--- a test of nodes, at the node that x names
-abbrev pub testAt : Directory → (Forest → ℕ → Forest → Forest → Bool) → ℕ → Bool
+-- a test of a node: of its left side, its entry, the tree below it and its right side
+abbrev pub NodeTest : Type 0
+NodeTest = Forest → ℕ → Forest → Forest → Bool
+
+-- the test of the node that x names
+abbrev pub testAt : Directory → NodeTest → ℕ → Bool
 testAt d q x = q (at d (leftOf d x)) x (at d (childOf d x)) (at d (rightOf d x))

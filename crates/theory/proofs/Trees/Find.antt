@@ -1,7 +1,7 @@
 -- The child of a name, found by a descent: at each entry the order of names says which side cannot have it.
 use mathlib.Core.Path.{_≡_, refl, sym, ap, _∙_, subst}
 use mathlib.Core.Logic.{_≢_}
-use mathlib.Core.Bool.{Bool, true, false, cond}
+use mathlib.Core.Bool.{Bool, true, false, cond, not-eq-not}
 use Prim.Native.Nat.{ℕ, _<_}
 use Rattle.format.specs.Basics.Lists.{all}
 use Rattle.format.specs.Layout.Name.{Name, nameLess, nameEqual}
@@ -14,7 +14,6 @@ use Rattle.theory.specs.TreeViews.{rows, leftOf, rightOf, childOf, at, S
 use Rattle.theory.specs.TreeOrder.{Ordered, Rules}
 use Rattle.theory.specs.TreeFind.{NameOrder, Searchable, Seeking}
 use Rattle.theory.proofs.Tests.{clash}
-use Rattle.theory.proofs.Trees.Lists.{not-true-false}
 use Rattle.theory.proofs.Trees.Grow.{grow-none}
 use Rattle.theory.proofs.Trees.Stand.{stand, standing}
 use Rattle.theory.proofs.Trees.Nodes.{shape-sound, object-counts, object-stands, everyNode-inside}
@@ -32,10 +31,10 @@ entries-ordered d o = record {
 module _ (o : NameOrder nameLess nameEqual) (a b : Name) where
   -- names in order, either way round, are not equal
   pub less-differs : nameLess a b ≡ true → nameEqual a b ≡ false
-  less-differs l = not-true-false (nameEqual a b) (λ e. clash (sym (o .equal-right a b a e) ∙ l) (o .strict a))
+  less-differs l = not-eq-not {b = false} .0 (λ e. clash (sym (o .equal-right a b a e) ∙ l) (o .strict a))
 
   pub more-differs : nameLess b a ≡ true → nameEqual a b ≡ false
-  more-differs l = not-true-false (nameEqual a b) (λ e. clash (sym (o .equal-left a b a e) ∙ l) (o .strict a))
+  more-differs l = not-eq-not {b = false} .0 (λ e. clash (sym (o .equal-left a b a e) ∙ l) (o .strict a))
 
 -- ---- where a search may start
 

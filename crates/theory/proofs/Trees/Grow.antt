@@ -3,7 +3,7 @@ use mathlib.Core.Path.{_≡_, refl, sym, ap, _∙_}
 use mathlib.Core.Logic.{_≢_, inl, inr}
 use mathlib.Core.Bool.{Bool, true, false, _&&_}
 use mathlib.Core.List.{_∷_, _++_}
-use Prim.Native.Nat.{ℕ, zero, suc, _+_, _≤_, _<_}
+use Prim.Native.Nat.{ℕ, zero, suc, _+_, _≤_}
 use native.Mathlib.Omega.{arith}
 use native.Mathlib.Decide.{le-ind}
 use borrow.Author.Tests.{eq-eqb, ne-eqb}
@@ -11,11 +11,11 @@ use lib.Dec.{eqb}
 use Rattle.format.specs.Basics.Lists.{bit, count}
 use Rattle.format.specs.Layout.Entry.{NOSTREAM}
 use Rattle.format.specs.Layout.Directory.{Directory}
-use Rattle.format.specs.Layout.Tree.{Forest, empty, broken, node, named, treeOf, grow, entries}
+use Rattle.format.specs.Layout.Tree.{Forest, empty, node, named, treeOf, grow, entries}
 use Rattle.format.specs.Rules.Trees.{sound}
 use Rattle.theory.specs.TreeViews.{leftOf, rightOf, childOf, step}
 use Rattle.theory.proofs.Counts.{eqb-cases, count-append}
-use Rattle.theory.proofs.Tests.{clash, both, and-true-of}
+use Rattle.theory.proofs.Tests.{clash, both}
 
 -- a sound tree of the number x, drawn to the depth f, is a node with sound parts, drawn to the depth g
 pub record Unrolled (d : Directory) (f g x : ℕ) : Type 0 where

@@ -1,17 +1,14 @@
 -- Laws of tests and lists that the trees need, beside those of Tests and Counts.
-use mathlib.Core.Path.{_≡_, refl, ap}
+use mathlib.Core.Path.{_≡_, refl}
 use mathlib.Core.Logic.{_⊎_, inl, inr}
-use mathlib.Core.Bool.{Bool, true, false, _&&_}
+use mathlib.Core.Bool.{Bool, true, false, not-eq-not}
 use mathlib.Core.List.{List, [], _∷_}
-use Prim.Native.Nat.{ℕ, zero, suc, _+_, _≤_, _<_}
+use Prim.Native.Nat.{ℕ, zero, suc, _+_, _<_}
+use native.Mathlib.Numerals.{add-one}
 use native.Mathlib.Omega.{arith}
-use Rattle.format.specs.Basics.Lists.{bit, count, all, allBelow}
+use Rattle.format.specs.Basics.Lists.{count, all, allBelow}
 use Rattle.theory.proofs.Counts.{bit-self}
 use Rattle.theory.proofs.Tests.{clash, both, and-true-of, below-at}
-
-pub not-true-false : (b : Bool) → (b ≡ true → ⊥) → b ≡ false
-not-true-false true h = absurd (h refl)
-not-true-false false h = refl
 
 -- two tests that imply each other are equal
 pub same-test : (a b : Bool) → (a ≡ true → b ≡ true) → (b ≡ true → a ≡ true) → a ≡ b
@@ -20,18 +17,22 @@ same-test true false f g = absurd (clash (f refl) refl)
 same-test false true f g = absurd (clash (g refl) refl)
 same-test false false f g = refl
 
-pub bit-le : (b : Bool) → bit b ≤ 1
-bit-le true = omega arith
-bit-le false = omega arith
-
 pub one-of-three : (a b c : ℕ) → 0 < a + (b + c) → (0 < a) ⊎ ((0 < b) ⊎ (0 < c))
 one-of-three (suc a) b c h = inl (omega arith)
 one-of-three zero (suc b) c h = inr (inl (omega arith))
 one-of-three zero zero c h = inr (inr (omega arith))
 
+-- ---- every number below a limit, as a loop tests them
+
+pub below-more : (n : ℕ) (p : ℕ → Bool) → allBelow n p ≡ true → p n ≡ true → allBelow (n + 1) p ≡ true
+unfolding allBelow
+below-more n p t h = rw (add-one, t, h)
+
 -- one number below the limit fails the test
 pub below-fails : (n : ℕ) (p : ℕ → Bool) (x : ℕ) → x < n → p x ≡ false → allBelow n p ≡ false
-below-fails n p x l e = not-true-false (allBelow n p) (λ t. clash (below-at n p t x l) e)
+below-fails n p x l e = not-eq-not {b = false} .0 (λ t. clash (below-at n p t x l) e)
+
+-- ---- every element
 
 -- every number that stands in the list passes the test
 pub all-of : (p : ℕ → Bool) (xs : List ℕ) → ((x : ℕ) → 0 < count x xs → p x ≡ true) → all p xs ≡ true

@@ -3,22 +3,21 @@ use mathlib.Core.Path.{_≡_, refl, sym, ap, _∙_}
 use mathlib.Core.Logic.{inl, inr, ⊎-elim}
 use mathlib.Core.Bool.{Bool, true, false, _&&_}
 use mathlib.Core.List.{_∷_, _++_}
-use Prim.Native.Nat.{ℕ, _<_}
+use Prim.Native.Nat.{ℕ, _≤_, _<_}
 use native.Mathlib.Omega.{arith}
+use native.Mathlib.Decide.{decLt}
 use borrow.Author.Tests.{eqb-true}
+use lib.ListN.{length}
 use Rattle.format.specs.Basics.Lists.{bit, count, all}
 use Rattle.format.specs.Layout.Directory.{Directory}
 use Rattle.format.specs.Layout.Tree.{Forest, node, forest, entries}
 use Rattle.format.specs.Rules.Trees.{sound, isObject, reachedRight, reachedOnce, everyNode}
-use Rattle.theory.specs.TreeViews.{rows, leftOf, rightOf, childOf, at, whole, shapeOk, Standing, testAt}
-use Rattle.theory.proofs.Counts.{eqb-cases}
+use Rattle.theory.specs.TreeViews.{rows, leftOf, rightOf, childOf, at, whole, shapeOk, Standing, NodeTest, testAt}
+use Rattle.theory.proofs.Counts.{eqb-cases, pigeonhole}
 use Rattle.theory.proofs.Tests.{both, below-at, all-at, all-append}
 use Rattle.theory.proofs.Trees.Lists.{all-of, one-of-three}
 use Rattle.theory.proofs.Trees.Grow.{count-node}
 use Rattle.theory.proofs.Trees.Stand.{standing, tree-ind, entry-stands}
-
-abbrev pub NodeTest : Type 0
-NodeTest = Forest → ℕ → Forest → Forest → Bool
 
 pub everyNode-apart : (q : NodeTest) (l : Forest) (e : ℕ) (b r : Forest) → everyNode q (node l e b r) ≡ true
     → (q l e b r ≡ true) × (everyNode q l ≡ true) × (everyNode q b ≡ true) × (everyNode q r ≡ true)
@@ -95,6 +94,17 @@ module _ (d : Directory) where
         go : (b : Bool) → count x (entries (whole d)) ≡ bit b → b ≡ true
         go true e = refl
         go false e = absurd (omega arith)
+
+    -- no entry stands in the whole twice, so there are no more than the directory has
+    pub entries-once : (x : ℕ) → count x (entries (whole d)) ≤ 1
+    entries-once x =
+        elim (decLt 0 (count x (entries (whole d)))) [
+          | yes c ↦ omega (arith, shape-count x (entry-stands d (childOf d 0) shape-sound x c .inside), ap bit (entry-object x c))
+          | no c ↦ omega arith
+        ]
+
+    pub entries-few : length (entries (whole d)) ≤ rows d
+    entries-few = pigeonhole (entries (whole d)) (rows d) (λ x c. entry-stands d (childOf d 0) shape-sound x c .inside) entries-once
 
     module _ (q : NodeTest) where
       pub nodes-objects : everyNode q (whole d) ≡ true → (x : ℕ) → x < rows d → isObject d x ≡ true → testAt d q x ≡ true

@@ -1,6 +1,6 @@
 -- The order of a tree by neighbours: whole sides are in order exactly if each entry comes after the last of its left side and before the first of its right side.
 use mathlib.Core.Path.{_≡_, refl}
-use mathlib.Core.Bool.{Bool, true, _&&_}
+use mathlib.Core.Bool.{true}
 use Prim.Native.Nat.{ℕ}
 use Rattle.format.specs.Basics.Lists.{all}
 use Rattle.format.specs.Layout.Directory.{Directory}

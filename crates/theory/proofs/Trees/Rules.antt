@@ -1,10 +1,10 @@
 -- Group 15 is the right shape, a black top, and the right place of every object by tests of its neighbours.
-use mathlib.Core.Path.{_≡_, refl, sym, ap, _∙_}
+use mathlib.Core.Path.{_≡_, refl, sym, _∙_}
 use mathlib.Core.Bool.{Bool, true, false, not, _&&_, _||_}
 use Prim.Native.Nat.{ℕ, _<_}
 use Rattle.format.specs.Layout.Directory.{Directory}
 use Rattle.format.specs.Layout.Tree.{forest}
-use Rattle.format.specs.Rules.Trees.{sound, isObject, reachedOnce, everyNode, less, sidesOrdered, topBlack, coloured, treeRules}
+use Rattle.format.specs.Rules.Trees.{isObject, everyNode, less, sidesOrdered, topBlack, coloured, treeRules}
 use Rattle.theory.specs.TreeViews.{rows, whole, shapeOk, testAt}
 use Rattle.theory.specs.TreeOrder.{Ordered, neighboursOrdered, placeOk, placeRight, placesOk, Rules}
 use Rattle.theory.proofs.Tests.{both, and-true-of, below-at, below-of}

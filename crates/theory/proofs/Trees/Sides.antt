@@ -1,5 +1,5 @@
 -- The sides of a node: a test of all siblings taken apart and put together, and what whole sides in order say.
-use mathlib.Core.Path.{_≡_, refl}
+use mathlib.Core.Path.{_≡_}
 use mathlib.Core.Bool.{Bool, true, _&&_}
 use Prim.Native.Nat.{ℕ}
 use Rattle.format.specs.Basics.Lists.{all}
@@ -7,7 +7,7 @@ use Rattle.format.specs.Layout.Directory.{Directory}
 use Rattle.format.specs.Layout.Tree.{Forest, empty, broken, node, siblings}
 use Rattle.format.specs.Rules.Trees.{less, greater, sidesOrdered, everyNode}
 use Rattle.theory.specs.TreeOrder.{lastOr, firstOr}
-use Rattle.theory.proofs.Tests.{both, and-true-of, all-append}
+use Rattle.theory.proofs.Tests.{both, all-append}
 use Rattle.theory.proofs.Trees.Nodes.{everyNode-apart}
 
 pub siblings-apart : (p : ℕ → Bool) (l : Forest) (e : ℕ) (b r : Forest) → all p (siblings (node l e b r)) ≡ true

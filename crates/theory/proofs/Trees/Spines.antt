@@ -1,7 +1,7 @@
 -- The last and the first of the tree at an entry by a walk down a spine, and the tests of one entry by its fields.
 use mathlib.Core.Path.{_≡_, refl, sym, _∙_}
 use mathlib.Core.Logic.{_≢_}
-use mathlib.Core.Bool.{Bool, true, not}
+use mathlib.Core.Bool.{true, not}
 use Prim.Native.Nat.{ℕ, _<_}
 use native.Mathlib.Omega.{arith}
 use lib.ListN.{length, length-append}
@@ -27,49 +27,49 @@ module _ (d : Directory) where
     unfolding siblings
     left-shorter = rw (standing d x s .tree, length-append) (omega arith)
 
-    pub last-on : (z : ℕ) → lastOr z (at d x) ≡ lastOr x (at d (rightOf d x))
+    pub last-at : (z : ℕ) → lastOr z (at d x) ≡ lastOr x (at d (rightOf d x))
     unfolding lastOr
-    last-on z = rw (standing d x s .tree)
+    last-at z = rw (standing d x s .tree)
 
-    pub first-on : (z : ℕ) → firstOr z (at d x) ≡ firstOr x (at d (leftOf d x))
+    pub first-at : (z : ℕ) → firstOr z (at d x) ≡ firstOr x (at d (leftOf d x))
     unfolding firstOr
-    first-on z = rw (standing d x s .tree)
+    first-at z = rw (standing d x s .tree)
 
     -- the tests of a side, by what the spine's walk answers
-    pub lastLess-on : (e r : ℕ) → LastIs d x r → lastLess d (at d x) e ≡ less d r e
+    pub lastLess-at : (e r : ℕ) → LastIs d x r → lastLess d (at d x) e ≡ less d r e
     unfolding lastLess
-    lastLess-on e r a = rw (standing d x s .tree, a .last)
+    lastLess-at e r a = rw (standing d x s .tree, a .last)
 
-    pub firstMore-on : (e r : ℕ) → FirstIs d x r → firstMore d e (at d x) ≡ less d e r
+    pub firstMore-at : (e r : ℕ) → FirstIs d x r → firstMore d e (at d x) ≡ less d e r
     unfolding firstMore
-    firstMore-on e r a = rw (standing d x s .tree, a .first)
+    firstMore-at e r a = rw (standing d x s .tree, a .first)
 
-    pub topBlack-on : topBlack d (at d x) ≡ not (red d x)
+    pub topBlack-at : topBlack d (at d x) ≡ not (red d x)
     unfolding topBlack
-    topBlack-on = rw (standing d x s .tree)
+    topBlack-at = rw (standing d x s .tree)
 
   -- ---- where there is none
 
   module _ (x : ℕ) (e : x ≡ NOSTREAM) where
-    pub last-off : (z : ℕ) → lastOr z (at d x) ≡ z
+    pub last-none : (z : ℕ) → lastOr z (at d x) ≡ z
     unfolding lastOr
-    last-off z = rw (grow-none d (rows d) x e)
+    last-none z = rw (grow-none d (rows d) x e)
 
-    pub first-off : (z : ℕ) → firstOr z (at d x) ≡ z
+    pub first-none : (z : ℕ) → firstOr z (at d x) ≡ z
     unfolding firstOr
-    first-off z = rw (grow-none d (rows d) x e)
+    first-none z = rw (grow-none d (rows d) x e)
 
-    pub lastLess-off : (y : ℕ) → lastLess d (at d x) y ≡ true
+    pub lastLess-none : (y : ℕ) → lastLess d (at d x) y ≡ true
     unfolding lastLess
-    lastLess-off y = rw (grow-none d (rows d) x e)
+    lastLess-none y = rw (grow-none d (rows d) x e)
 
-    pub firstMore-off : (y : ℕ) → firstMore d y (at d x) ≡ true
+    pub firstMore-none : (y : ℕ) → firstMore d y (at d x) ≡ true
     unfolding firstMore
-    firstMore-off y = rw (grow-none d (rows d) x e)
+    firstMore-none y = rw (grow-none d (rows d) x e)
 
-    pub topBlack-off : topBlack d (at d x) ≡ true
+    pub topBlack-none : topBlack d (at d x) ≡ true
     unfolding topBlack
-    topBlack-off = rw (grow-none d (rows d) x e)
+    topBlack-none = rw (grow-none d (rows d) x e)
 
   -- ---- the walk down a spine from x
 
@@ -80,10 +80,10 @@ module _ (d : Directory) where
     pub last-step : (y : ℕ) → LastWalk d x y → rightOf d y ≢ NOSTREAM → LastWalk d x (rightOf d y)
     last-step y w h =
         let s = right-stands d y (w .stands) h in
-        record { stands = s; same = sym (last-on (rightOf d y) s y) ∙ w .same }
+        record { stands = s; same = sym (last-at (rightOf d y) s y) ∙ w .same }
 
     pub last-end : (y : ℕ) → LastWalk d x y → rightOf d y ≡ NOSTREAM → LastIs d x y
-    last-end y w e = record { last = sym (last-off (rightOf d y) e y) ∙ w .same; stands = w .stands }
+    last-end y w e = record { last = sym (last-none (rightOf d y) e y) ∙ w .same; stands = w .stands }
 
     pub first-start : Standing d x → FirstWalk d x x
     first-start s = record { stands = s; same = refl }
@@ -91,7 +91,7 @@ module _ (d : Directory) where
     pub first-step : (y : ℕ) → FirstWalk d x y → leftOf d y ≢ NOSTREAM → FirstWalk d x (leftOf d y)
     first-step y w h =
         let s = left-stands d y (w .stands) h in
-        record { stands = s; same = sym (first-on (leftOf d y) s y) ∙ w .same }
+        record { stands = s; same = sym (first-at (leftOf d y) s y) ∙ w .same }
 
     pub first-end : (y : ℕ) → FirstWalk d x y → leftOf d y ≡ NOSTREAM → FirstIs d x y
-    first-end y w e = record { first = sym (first-off (leftOf d y) e y) ∙ w .same; stands = w .stands }
+    first-end y w e = record { first = sym (first-none (leftOf d y) e y) ∙ w .same; stands = w .stands }

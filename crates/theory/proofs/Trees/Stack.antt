@@ -1,8 +1,8 @@
 -- The stack of the walk: what is still to follow before and after a number is taken off or put on, and what holds before each turn.
-use mathlib.Core.Path.{_≡_, refl, sym, ap, _∙_, subst}
+use mathlib.Core.Path.{_≡_, refl, ap, _∙_, subst}
 use mathlib.Core.Logic.{_≢_}
 use mathlib.Core.Bool.{true, false}
-use mathlib.Core.List.{List, [], _∷_}
+use mathlib.Core.List.{List, _∷_}
 use Prim.Native.Nat.{ℕ, zero, suc, _+_, _-_, _*_, _≤_, _<_}
 use native.Mathlib.Numerals.{add-one}
 use native.Mathlib.Omega.{arith}
@@ -14,7 +14,7 @@ use Rattle.theory.specs.TreeViews.{rows, leftOf, rightOf, childOf, shape
 use Rattle.theory.specs.TreeWalk.{zeros, fresh, Walk, Followed, pending, Following}
 use Rattle.theory.proofs.Trees.Depth.{named-inside}
 use Rattle.theory.proofs.Trees.Marks.{zeros-set, fresh-apart}
-use Rattle.theory.proofs.Trees.Walk.{walk-start, walk-skip, walk-bad, walk-mark}
+use Rattle.theory.proofs.Trees.Walk.{walk-start, walk-skip, walk-wrong, walk-mark}
 
 -- ---- the numbers still to follow
 
@@ -70,8 +70,8 @@ module _ (d : Directory) where
       room = f .room;
     }
 
-    pub following-bad : i ≢ NOSTREAM → fresh d m i ≡ false → shapeOk d ≡ false
-    following-bad n e = walk-bad d (f .met) i (pending s (top - 1)) m taken n e
+    pub following-wrong : i ≢ NOSTREAM → fresh d m i ≡ false → shapeOk d ≡ false
+    following-wrong n e = walk-wrong d (f .met) i (pending s (top - 1)) m taken n e
 
     module _ (n : i ≢ NOSTREAM) (e : fresh d m i ≡ true) where
       pub following-inside : i < rows d

@@ -1,12 +1,12 @@
 -- The walk over the trees: its start, a turn that marks an entry or skips, a turn that finds the shape wrong, and its end.
-use mathlib.Core.Path.{_≡_, refl, sym, ap, _∙_, subst}
+use mathlib.Core.Path.{_≡_, refl, sym, ap, _∙_}
 use mathlib.Core.Logic.{_≢_, inl, inr}
-use mathlib.Core.Bool.{Bool, true, false, not, _&&_, _||_, and-true}
+use mathlib.Core.Bool.{Bool, true, false, not, _&&_, _||_, and-true, not-eq-not}
 use mathlib.Core.List.{List, [], _∷_}
 use Prim.Native.Nat.{ℕ, _+_, _≤_, _<_}
 use native.Mathlib.Omega.{arith}
 use native.Mathlib.Decide.{ℕ-discrete}
-use borrow.Author.Tests.{eq-eqb, ne-eqb}
+use borrow.Author.Tests.{eq-eqb}
 use lib.Dec.{eqb}
 use lib.ListN.{length, getD, set, length-set}
 use lib.Seq.{getD-set-same, getD-set-other}
@@ -16,10 +16,10 @@ use Rattle.format.specs.Layout.Directory.{Directory}
 use Rattle.format.specs.Layout.Tree.{Forest, named, forest, entries}
 use Rattle.format.specs.Rules.Trees.{sound, isObject, reachedRight, reachedOnce}
 use Rattle.theory.specs.TreeViews.{rows, leftOf, rightOf, childOf, at, soundAt, whole, shapeOk}
-use Rattle.theory.specs.TreeWalk.{zeros, mark, fresh, marked, covered, total, Walk, Followed}
+use Rattle.theory.specs.TreeWalk.{mark, fresh, marked, covered, total, Walk}
 use Rattle.theory.proofs.Counts.{eqb-cases, bit-self}
 use Rattle.theory.proofs.Tests.{clash, both, and-true-of, below-at, below-of}
-use Rattle.theory.proofs.Trees.Lists.{not-true-false, same-test}
+use Rattle.theory.proofs.Trees.Lists.{same-test}
 use Rattle.theory.proofs.Trees.Grow.{grow-none, Unrolled, unroll, count-node}
 use Rattle.theory.proofs.Trees.Depth.{named-inside, sound-node}
 use Rattle.theory.proofs.Trees.Nodes.{shape-sound, shape-count}
@@ -64,10 +64,10 @@ module _ (d : Directory) (k : ℕ) (i : ℕ) (is m : List ℕ) (w : Walk d k (i 
         ∙ ap (λ (n : ℕ). mark m x + (n + total d x is)) (count-node x (at d (leftOf d i)) i (at d (childOf d i)) (at d (rightOf d i)))
 
     -- a number that is not fresh stands in no tree of the right shape
-    pub walk-bad : fresh d m i ≡ false → shapeOk d ≡ false
+    pub walk-wrong : fresh d m i ≡ false → shapeOk d ≡ false
     unfolding fresh
-    walk-bad e =
-        not-true-false (shapeOk d) (λ ok.
+    walk-wrong e =
+        not-eq-not {b = false} .0 (λ ok.
         let s = shape-sound d ok in
         let n = top-unrolled s .name in
         let c = top-counts s i in
@@ -171,12 +171,3 @@ module _ (d : Directory) (k : ℕ) (m : List ℕ) (w : Walk d k [] m) where
       of true true e = absurd (omega arith)
       of true false e = refl
       of false z e = refl
-
--- the shape by what the walk answers, and by the marks
-pub followed-right : (d : Directory) (m : List ℕ) (r : Bool) → Followed d r m → r ≡ true → covered d m ≡ shapeOk d
-followed-right d m true f e = walk-end d (f .0) m (f .1)
-followed-right d m false f e = absurd (clash e refl)
-
-pub followed-wrong : (d : Directory) (m : List ℕ) (r : Bool) → Followed d r m → r ≡ false → shapeOk d ≡ false
-followed-wrong d m true f e = absurd (clash refl e)
-followed-wrong d m false f e = f

@@ -1,5 +1,5 @@
 -- The walk with list, marks and stack in one slice: its start, its turns and its end, as a loop over that slice makes them.
-use mathlib.Core.Path.{_≡_, refl, sym, ap, _∙_, subst}
+use mathlib.Core.Path.{_≡_, sym, ap, _∙_}
 use mathlib.Core.Logic.{_≢_}
 use mathlib.Core.Bool.{true, false}
 use mathlib.Core.List.{List}
@@ -11,8 +11,8 @@ use lib.Seq.{getD-drop, length-take-le}
 use Rattle.format.specs.Layout.Entry.{NOSTREAM}
 use Rattle.format.specs.Layout.Directory.{Directory}
 use Rattle.theory.specs.TreeViews.{rows, leftOf, rightOf, childOf, shapeOk}
-use Rattle.theory.specs.TreeWalk.{zeros, fresh, Followed, Following, marksIn, stackIn, WalkRoom, Walking}
-use Rattle.theory.proofs.Trees.Stack.{following-start, following-end, following-skip, following-bad, following-inside, following-zeros, following-room, following-mark}
+use Rattle.theory.specs.TreeWalk.{zeros, fresh, Followed, marksIn, stackIn, WalkRoom, Walking}
+use Rattle.theory.proofs.Trees.Stack.{following-start, following-end, following-skip, following-wrong, following-inside, following-zeros, following-room, following-mark}
 use Rattle.theory.proofs.Trees.Slices.{marks-push, stack-push, list-push, marks-mark, stack-mark, list-mark, mark-at}
 
 module _ (d : Directory) (n : ℕ) where
@@ -41,6 +41,11 @@ module _ (d : Directory) (n : ℕ) where
           (following-start d (stackIn d n w₀) (marksIn d n w₀) (rw length-drop (omega (arith, lent .room))) marks-long marks-clean);
     }
 
+  -- ---- how long the slice is, before each turn
+
+  pub walking-long : (w₀ w : List ℕ) (top : ℕ) → Walking d n w₀ w top → n + 3 * rows d + 1 ≤ length w
+  walking-long w₀ w top j = omega (arith, j .following .room, length-drop (n + rows d) w)
+
   -- ---- a turn, which takes off the number at place p
 
   module _ (w₀ w : List ℕ) (top p : ℕ) (ep : p ≡ n + rows d + (top - 1)) (j : Walking d n w₀ w top) (h : 0 < top) where
@@ -50,11 +55,14 @@ module _ (d : Directory) (n : ℕ) where
     there : getD (stackIn d n w) (top - 1) 0 ≡ taken
     there = getD-drop (n + rows d) w (top - 1) 0 ∙ ap (λ (i : ℕ). getD w i 0) (sym ep)
 
+    pub walking-pop : p < length w
+    walking-pop = omega (arith, ep, walking-long w₀ w top j, j .following .height, j .following .walk .free)
+
     pub walking-skip : taken ≡ NOSTREAM → Walking d n w₀ w (top - 1)
     walking-skip e = record { long = j .long; list = j .list; following = following-skip d (stackIn d n w) (marksIn d n w) top taken (j .following) h there e }
 
-    pub walking-bad : taken ≢ NOSTREAM → fresh d (marksIn d n w) taken ≡ false → shapeOk d ≡ false
-    walking-bad k e = following-bad d (stackIn d n w) (marksIn d n w) top taken (j .following) h there k e
+    pub walking-wrong : taken ≢ NOSTREAM → fresh d (marksIn d n w) taken ≡ false → shapeOk d ≡ false
+    walking-wrong k e = following-wrong d (stackIn d n w) (marksIn d n w) top taken (j .following) h there k e
 
     module _ (k : taken ≢ NOSTREAM) (e : fresh d (marksIn d n w) taken ≡ true) where
       pub walking-inside : taken < rows d
