@@ -1,4 +1,4 @@
--- The laws of the directory's trees, in the order of reading: drawing, depth, entries, order, colours, the walk, the verdict.
+-- The laws of the directory's trees, in the order of reading: how they are drawn; their entries; order and colours; the walk; the verdict; names and paths.
 pub mod Lists
 pub mod Grow
 pub mod Depth
@@ -15,3 +15,5 @@ pub mod Slices
 pub mod Walking
 pub mod Verdict
 pub mod Find
+pub mod Siblings
+pub mod Paths

@@ -5,8 +5,8 @@ use mathlib.Core.Bool.{Bool, true, false}
 use Rattle.format.specs.Layout.Name.{Name}
 use Rattle.format.specs.Layout.Directory.{Directory}
 use Rattle.format.specs.Rules.Trees.{everyNode, sidesOrdered}
-use Rattle.format.specs.Calls.Find.{childNamed}
-use Rattle.theory.specs.TreeViews.{at, soundAt}
+use Rattle.format.specs.Calls.Find.{childNamed, Found, at as foundAt}
+use Rattle.theory.specs.TreeViews.{childOf, at, soundAt}
 
 -- what is asked of an order of names: equal names have the same place in it
 pub record NameOrder (less equal : Name → Name → Bool) : Type 0 where
@@ -24,3 +24,7 @@ pub record Searchable (d : Directory) (y : ℕ) : Type 0 where
 pub record Seeking (d : Directory) (want : Name) (top x : ℕ) : Type 0 where
   pub here : Searchable d x
   pub same : childNamed d want (at d x) ≡ childNamed d want (at d top)
+
+-- a path has led to the entry x
+abbrev pub reached : Directory → ℕ → Found
+reached d x = foundAt x (at d (childOf d x))

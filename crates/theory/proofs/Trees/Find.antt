@@ -77,8 +77,22 @@ or-missing missing = refl
 or-missing (present e b) = refl
 
 module _ (d : Directory) (want : Name) (o : NameOrder nameLess nameEqual) where
+  -- what comes before an entry of that name has another
+  pub before-differs : (x y : ℕ) → nameEqual want (name (d .entry x)) ≡ true → less d y x ≡ true → nameEqual want (name (d .entry y)) ≡ false
+  unfolding less
+  before-differs x y e l = more-differs o want (name (d .entry y)) (sym (o .equal-right want (name (d .entry x)) (name (d .entry y)) e) ∙ l)
+
+  -- where x comes after the name, so does all after x; where x comes before it, so does all before x
+  right-differs : (x y : ℕ) → nameLess want (name (d .entry x)) ≡ true → less d x y ≡ true → nameEqual want (name (d .entry y)) ≡ false
+  unfolding less
+  right-differs x y l m = less-differs o want (name (d .entry y)) (o .trans want (name (d .entry x)) (name (d .entry y)) l m)
+
+  left-differs : (x y : ℕ) → nameLess (name (d .entry x)) want ≡ true → less d y x ≡ true → nameEqual want (name (d .entry y)) ≡ false
+  unfolding less
+  left-differs x y l m = more-differs o want (name (d .entry y)) (o .trans (name (d .entry y)) (name (d .entry x)) want m l)
+
   -- a tree whose siblings all have other names
-  none-in : (p : ℕ → Bool) → ((x : ℕ) → p x ≡ true → nameEqual want (name (d .entry x)) ≡ false)
+  pub none-in : (p : ℕ → Bool) → ((x : ℕ) → p x ≡ true → nameEqual want (name (d .entry x)) ≡ false)
       → (t : Forest) → all p (siblings t) ≡ true → childNamed d want t ≡ missing
   unfolding childNamed orElse
   none-in p h empty a = refl
@@ -106,31 +120,21 @@ module _ (d : Directory) (want : Name) (o : NameOrder nameLess nameEqual) where
       unrolled = sym (k .same) ∙ ap (childNamed d want) (standing d x (searchable-stands d x h (k .here)) .tree)
 
       pub seek-hit : nameEqual want (name (d .entry x)) ≡ true → childNamed d want (at d top) ≡ present x (at d (childOf d x))
-      unfolding orElse less greater
+      unfolding orElse greater
       seek-hit e =
-          let n =
-          none-in (greater d x)
-          (λ y l. more-differs o want (name (d .entry y)) (sym (o .equal-right want (name (d .entry x)) (name (d .entry y)) e) ∙ l))
-          (at d (leftOf d x)) (parts .lefts)
-          in
+          let n = none-in (greater d x) (λ y m. before-differs x y e m) (at d (leftOf d x)) (parts .lefts) in
           unrolled ∙ rw (n, e)
 
       pub seek-left : nameLess want (name (d .entry x)) ≡ true → Seeking d want top (leftOf d x)
-      unfolding orElse less
+      unfolding orElse
       seek-left l =
           let e = less-differs o want (name (d .entry x)) l in
-          let n =
-          none-in (less d x) (λ y m. less-differs o want (name (d .entry y)) (o .trans want (name (d .entry x)) (name (d .entry y)) l m))
-          (at d (rightOf d x)) (parts .rights)
-          in
+          let n = none-in (less d x) (λ y m. right-differs x y l m) (at d (rightOf d x)) (parts .rights) in
           record { here = searchable-left d x h (k .here); same = sym (unrolled ∙ rw (n, e) (or-missing (childNamed d want (at d (leftOf d x))))) }
 
       pub seek-right : nameLess (name (d .entry x)) want ≡ true → Seeking d want top (rightOf d x)
-      unfolding orElse less greater
+      unfolding orElse greater
       seek-right l =
           let e = more-differs o want (name (d .entry x)) l in
-          let n =
-          none-in (greater d x) (λ y m. more-differs o want (name (d .entry y)) (o .trans (name (d .entry y)) (name (d .entry x)) want m l))
-          (at d (leftOf d x)) (parts .lefts)
-          in
+          let n = none-in (greater d x) (λ y m. left-differs x y l m) (at d (leftOf d x)) (parts .lefts) in
           record { here = searchable-right d x h (k .here); same = sym (unrolled ∙ rw (n, e)) }
