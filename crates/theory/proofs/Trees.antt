@@ -13,6 +13,7 @@ pub mod Walk
 pub mod Stack
 pub mod Slices
 pub mod Walking
+pub mod Passes
 pub mod Verdict
 pub mod Find
 pub mod Siblings

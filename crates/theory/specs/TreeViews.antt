@@ -43,6 +43,7 @@ shapeOk d = sound (whole d) && reachedOnce d
 pub record Standing (d : Directory) (x : ℕ) : Type 0 where
   pub real : x ≢ NOSTREAM
   pub tree-sound : sound (at d x) ≡ true
+  pub above : 0 < x
   pub inside : x < rows d
 
 -- a test of a node: of its left side, its entry, the tree below it and its right side

@@ -64,6 +64,7 @@ pending s (suc n) = getD s n 0 ∷ pending s n
 
 -- what holds before each turn
 pub record Following (d : Directory) (stack m : List ℕ) (top : ℕ) : Type 0 where
+  -- how many entries are marked
   pub met : ℕ
   pub walk : Walk d met (pending stack top) m
   pub height : top ≤ 2 * met + 1
@@ -82,7 +83,7 @@ pub record WalkRoom (d : Directory) (n : ℕ) (w : List ℕ) : Type 0 where
   pub room : n + 3 * rows d + 1 ≤ length w
   pub clean : (x : ℕ) → x < rows d → getD w (n + x) 0 ≡ 0
 
--- what holds before each turn, where w₀ was lent and w is there now
+-- what holds before each turn, where the slice was w₀ at the start and is w now
 pub record Walking (d : Directory) (n : ℕ) (w₀ w : List ℕ) (top : ℕ) : Type 0 where
   pub long : length w ≡ length w₀
   pub list : take n w ≡ take n w₀

@@ -25,6 +25,9 @@ pub length-node : (l : Forest) (e : ℕ) (b r : Forest)
 unfolding entries
 length-node l e b r = omega (arith, length-append (entries l) (e ∷ (entries b ++ entries r)), length-append (entries b) (entries r))
 
+pub named-above : (d : Directory) (x : ℕ) → named d x ≡ true → 0 < x
+named-above d x n = ltb-true 0 x (both (ltb 0 x) (ltb x (rows d)) n .0)
+
 pub named-inside : (d : Directory) (x : ℕ) → named d x ≡ true → x < rows d
 named-inside d x n = ltb-true x (rows d) (both (ltb 0 x) (ltb x (rows d)) n .1)
 

@@ -5,7 +5,7 @@ use mathlib.Core.Bool.{true, false, _&&_, and-false}
 use mathlib.Core.List.{List, [], _∷_}
 use Prim.Native.Nat.{ℕ, zero, suc, _≤_, _<_}
 use native.Mathlib.Omega.{arith}
-use borrow.Author.Tests.{lt-ltb, le-ltb, eqb-true, ne-eqb}
+use borrow.Author.Tests.{lt-ltb, le-ltb, eqb-true}
 use lib.Dec.{eqb}
 use lib.ListN.{length, getD, set}
 use Rattle.format.specs.Basics.Lists.{bit}
@@ -13,7 +13,7 @@ use Rattle.format.specs.Layout.Directory.{Directory}
 use Rattle.format.specs.Layout.Tree.{named}
 use Rattle.format.specs.Rules.Trees.{isObject}
 use Rattle.theory.specs.TreeViews.{rows}
-use Rattle.theory.specs.TreeWalk.{zeros, fresh, marked}
+use Rattle.theory.specs.TreeWalk.{zeros, fresh}
 use Rattle.theory.proofs.Tests.{both}
 
 pub zeros-set : (m : List ℕ) (i : ℕ) → i < length m → getD m i 0 ≡ 0 → zeros m ≡ suc (zeros (set m i 1))
@@ -52,16 +52,3 @@ module _ (d : Directory) (m : List ℕ) (x : ℕ) where
   pub fresh-inside : x ≢ 0 → x < rows d → fresh d m x ≡ (isObject d x && eqb (getD m x 0) 0)
   unfolding fresh
   fresh-inside a b = rw (lt-ltb 0 x (omega arith), lt-ltb x (rows d) b)
-
-  -- an object with no mark is not covered, and all else is
-  pub unmarked : isObject d x ≡ true → getD m x 0 ≡ 0 → marked d m x ≡ false
-  unfolding marked
-  unmarked o z = rw (o, z)
-
-  pub marked-other : isObject d x ≡ false → marked d m x ≡ true
-  unfolding marked
-  marked-other o = rw o
-
-  pub marked-object : isObject d x ≡ true → getD m x 0 ≢ 0 → marked d m x ≡ true
-  unfolding marked
-  marked-object o z = rw (o, ne-eqb (getD m x 0) 0 z)

@@ -13,11 +13,13 @@ use Rattle.theory.specs.TreeViews.{rows, leftOf, rightOf, childOf, step,
 use Rattle.theory.proofs.Counts.{eqb-cases}
 use Rattle.theory.proofs.Trees.Lists.{one-of-three}
 use Rattle.theory.proofs.Trees.Grow.{grow-none, sound-zero, sound-le, Unrolled, down, unroll, count-node}
-use Rattle.theory.proofs.Trees.Depth.{named-inside}
+use Rattle.theory.proofs.Trees.Depth.{named-above, named-inside}
 
 module _ (d : Directory) where
   pub stand : (x : ℕ) → x ≢ NOSTREAM → sound (at d x) ≡ true → Standing d x
-  stand x h s = record { real = h; tree-sound = s; inside = named-inside d x (unroll d (rows d) x s h .name) }
+  stand x h s =
+      let n = unroll d (rows d) x s h .name in
+      record { real = h; tree-sound = s; above = named-above d x n; inside = named-inside d x n }
 
   pub standing : (x : ℕ) → Standing d x → Unrolled d (rows d) (rows d) x
   standing x s = unroll d (rows d) x (s .tree-sound) (s .real)

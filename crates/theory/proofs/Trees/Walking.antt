@@ -1,5 +1,5 @@
 -- The walk with list, marks and stack in one slice: its start, its turns and its end, as a loop over that slice makes them.
-use mathlib.Core.Path.{_≡_, sym, ap, _∙_}
+use mathlib.Core.Path.{_≡_, refl, sym, ap, _∙_}
 use mathlib.Core.Logic.{_≢_}
 use mathlib.Core.Bool.{true, false}
 use mathlib.Core.List.{List}
@@ -32,19 +32,25 @@ module _ (d : Directory) (n : ℕ) where
     pushed : w ≡ set w₀ (n + rows d + 0) (childOf d 0)
     pushed = let q : base ≡ n + rows d + 0 = omega (arith, eb) in ew ∙ rw (q, ef)
 
-    pub walking-start : Walking d n w₀ w 1
+    pub start-list : take n w ≡ take n w₀
+    start-list = rw pushed (list-push d n w₀ 0 (childOf d 0))
+
+    pub walking-start : Walking d n w w 1
     walking-start = record {
-      long = rw ew (simp length-set);
-      list = rw pushed (list-push d n w₀ 0 (childOf d 0));
+      long = refl;
+      list = refl;
       following =
           rw (pushed, marks-push d n w₀ 0 (childOf d 0), stack-push d n w₀ 0 (childOf d 0))
           (following-start d (stackIn d n w₀) (marksIn d n w₀) (rw length-drop (omega (arith, lent .room))) marks-long marks-clean);
     }
 
-  -- ---- how long the slice is, before each turn
+  -- ---- how long the slice is and how high the stack, before each turn
 
   pub walking-long : (w₀ w : List ℕ) (top : ℕ) → Walking d n w₀ w top → n + 3 * rows d + 1 ≤ length w
   walking-long w₀ w top j = omega (arith, j .following .room, length-drop (n + rows d) w)
+
+  pub walking-height : (w₀ w : List ℕ) (top : ℕ) → Walking d n w₀ w top → top ≤ 2 * rows d + 1
+  walking-height w₀ w top j = omega (arith, j .following .height, j .following .walk .free)
 
   -- ---- a turn, which takes off the number at place p
 
@@ -56,7 +62,7 @@ module _ (d : Directory) (n : ℕ) where
     there = getD-drop (n + rows d) w (top - 1) 0 ∙ ap (λ (i : ℕ). getD w i 0) (sym ep)
 
     pub walking-pop : p < length w
-    walking-pop = omega (arith, ep, walking-long w₀ w top j, j .following .height, j .following .walk .free)
+    walking-pop = omega (arith, ep, walking-long w₀ w top j, walking-height w₀ w top j)
 
     pub walking-skip : taken ≡ NOSTREAM → Walking d n w₀ w (top - 1)
     walking-skip e = record { long = j .long; list = j .list; following = following-skip d (stackIn d n w) (marksIn d n w) top taken (j .following) h there e }
