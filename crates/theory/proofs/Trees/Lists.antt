@@ -24,13 +24,13 @@ one-of-three zero zero c h = inr (inr (omega arith))
 
 -- ---- every number below a limit, as a loop tests them
 
-pub below-more : (n : ℕ) (p : ℕ → Bool) → allBelow n p ≡ true → p n ≡ true → allBelow (n + 1) p ≡ true
-unfolding allBelow
-below-more n p t h = rw (add-one, t, h)
+module _ (p : ℕ → Bool) where
+  pub below-more : (n : ℕ) → allBelow n p ≡ true → p n ≡ true → allBelow (n + 1) p ≡ true
+  unfolding allBelow
+  below-more n t h = rw (add-one, t, h)
 
--- one number below the limit fails the test
-pub below-fails : (n : ℕ) (p : ℕ → Bool) (x : ℕ) → x < n → p x ≡ false → allBelow n p ≡ false
-below-fails n p x l e = not-eq-not {b = false} .0 (λ t. clash (below-at n p t x l) e)
+  pub below-not : (n i : ℕ) → i < n → p i ≡ false → allBelow n p ≡ false
+  below-not n i l e = not-eq-not {b = false} .0 (λ t. clash (below-at n p t i l) e)
 
 -- ---- every element
 

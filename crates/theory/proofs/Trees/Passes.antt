@@ -14,7 +14,7 @@ use Rattle.theory.specs.TreeViews.{rows}
 use Rattle.theory.specs.TreeOrder.{placeOk, placeRight, placesOk}
 use Rattle.theory.specs.TreeWalk.{marked, covered, marksIn}
 use Rattle.theory.proofs.Tests.{clash}
-use Rattle.theory.proofs.Trees.Lists.{below-more, below-fails}
+use Rattle.theory.proofs.Trees.Lists.{below-more, below-not}
 use Rattle.theory.proofs.Trees.Rules.{place-object, place-other}
 use Rattle.theory.proofs.Trees.Slices.{marked-in}
 
@@ -39,11 +39,11 @@ module _ (d : Directory) where
         go false false = refl
 
     pub covered-more : (x : ℕ) → x < rows d → missed x ≡ false → allBelow x (marked d (marksIn d n w)) ≡ true → allBelow (x + 1) (marked d (marksIn d n w)) ≡ true
-    covered-more x h m t = below-more x (marked d (marksIn d n w)) t (marked-not x h ∙ ap not m)
+    covered-more x h m t = below-more (marked d (marksIn d n w)) x t (marked-not x h ∙ ap not m)
 
     pub covered-fails : (x : ℕ) → x < rows d → missed x ≡ true → covered d (marksIn d n w) ≡ false
     unfolding covered
-    covered-fails x h m = below-fails (rows d) (marked d (marksIn d n w)) x h (marked-not x h ∙ ap not m)
+    covered-fails x h m = below-not (marked d (marksIn d n w)) (rows d) x h (marked-not x h ∙ ap not m)
 
     pub covered-end : (i : ℕ) → i ≤ rows d → rows d ≤ i → allBelow i (marked d (marksIn d n w)) ≡ true → covered d (marksIn d n w) ≡ true
     unfolding covered
@@ -52,7 +52,7 @@ module _ (d : Directory) where
   -- ---- places
 
   pub places-more : (x : ℕ) → (isObject d x ≡ false) ⊎ (placeOk d x ≡ true) → allBelow x (placeRight d) ≡ true → allBelow (x + 1) (placeRight d) ≡ true
-  places-more x h t = below-more x (placeRight d) t (go (isObject d x) refl h)
+  places-more x h t = below-more (placeRight d) x t (go (isObject d x) refl h)
     where
       go : (b : Bool) → isObject d x ≡ b → (isObject d x ≡ false) ⊎ (placeOk d x ≡ true) → placeRight d x ≡ true
       go false e k = place-other d x e
@@ -61,7 +61,7 @@ module _ (d : Directory) where
 
   pub places-fail : (x : ℕ) → x < rows d → isObject d x ≡ true → placeOk d x ≡ false → placesOk d ≡ false
   unfolding placesOk
-  places-fail x h o e = below-fails (rows d) (placeRight d) x h (place-object d x o ∙ e)
+  places-fail x h o e = below-not (placeRight d) (rows d) x h (place-object d x o ∙ e)
 
   pub places-end : (i : ℕ) → i ≤ rows d → rows d ≤ i → allBelow i (placeRight d) ≡ true → placesOk d ≡ true
   unfolding placesOk
