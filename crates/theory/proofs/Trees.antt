@@ -16,5 +16,4 @@ pub mod Walking
 pub mod Passes
 pub mod Verdict
 pub mod Find
-pub mod Siblings
 pub mod Paths

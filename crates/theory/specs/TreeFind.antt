@@ -9,11 +9,11 @@ use Rattle.format.specs.Calls.Find.{childNamed, Found, at as foundAt}
 use Rattle.theory.specs.TreeViews.{childOf, at, soundAt}
 
 -- what is asked of an order of names: equal names have the same place in it
-pub record NameOrder (less equal : Name → Name → Bool) : Type 0 where
+pub record NamesOrdered (less equal : Name → Name → Bool) : Type 0 where
   pub strict : (a : Name) → less a a ≡ false
   pub trans : (a b c : Name) → less a b ≡ true → less b c ≡ true → less a c ≡ true
-  pub equal-left : (a b c : Name) → equal a b ≡ true → less b c ≡ less a c
-  pub equal-right : (a b c : Name) → equal a b ≡ true → less c b ≡ less c a
+  pub equal-left : (a b c : Name) → equal a b ≡ true → less a c ≡ less b c
+  pub equal-right : (a b c : Name) → equal a b ≡ true → less c a ≡ less c b
 
 -- the number y names a sound and sorted tree
 pub record Searchable (d : Directory) (y : ℕ) : Type 0 where

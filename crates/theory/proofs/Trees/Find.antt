@@ -12,7 +12,7 @@ use Rattle.format.specs.Rules.Trees.{isObject, less, greater, sidesOrdered, eve
 use Rattle.format.specs.Calls.Find.{Child, missing, present, orElse, childNamed}
 use Rattle.theory.specs.TreeViews.{rows, leftOf, rightOf, childOf, at, Standing}
 use Rattle.theory.specs.TreeOrder.{Ordered, Rules}
-use Rattle.theory.specs.TreeFind.{NameOrder, Searchable, Seeking}
+use Rattle.theory.specs.TreeFind.{NamesOrdered, Searchable, Seeking}
 use Rattle.theory.proofs.Tests.{clash}
 use Rattle.theory.proofs.Trees.Grow.{grow-none}
 use Rattle.theory.proofs.Trees.Stand.{stand, standing}
@@ -21,20 +21,20 @@ use Rattle.theory.proofs.Trees.Sides.{Parts, sorted-apart, siblings-apa
 
 -- ---- the order of entries is the order of their names
 
-pub entries-ordered : (d : Directory) → NameOrder nameLess nameEqual → Ordered (less d)
+pub entries-ordered : (d : Directory) → NamesOrdered nameLess nameEqual → Ordered (less d)
 unfolding less
 entries-ordered d o = record {
   strict = λ x. o .strict (name (d .entry x));
   trans = λ x y z. o .trans (name (d .entry x)) (name (d .entry y)) (name (d .entry z));
 }
 
-module _ (o : NameOrder nameLess nameEqual) (a b : Name) where
+module _ (o : NamesOrdered nameLess nameEqual) (a b : Name) where
   -- names in order, either way round, are not equal
   pub less-differs : nameLess a b ≡ true → nameEqual a b ≡ false
-  less-differs l = not-eq-not {b = false} .0 (λ e. clash (sym (o .equal-right a b a e) ∙ l) (o .strict a))
+  less-differs l = not-eq-not {b = false} .0 (λ e. clash (o .equal-right a b a e ∙ l) (o .strict a))
 
   pub more-differs : nameLess b a ≡ true → nameEqual a b ≡ false
-  more-differs l = not-eq-not {b = false} .0 (λ e. clash (sym (o .equal-left a b a e) ∙ l) (o .strict a))
+  more-differs l = not-eq-not {b = false} .0 (λ e. clash (o .equal-left a b a e ∙ l) (o .strict a))
 
 -- ---- where a search may start
 
@@ -76,11 +76,11 @@ unfolding orElse
 or-missing missing = refl
 or-missing (present e b) = refl
 
-module _ (d : Directory) (want : Name) (o : NameOrder nameLess nameEqual) where
+module _ (d : Directory) (want : Name) (o : NamesOrdered nameLess nameEqual) where
   -- what comes before an entry of that name has another
-  pub before-differs : (x y : ℕ) → nameEqual want (name (d .entry x)) ≡ true → less d y x ≡ true → nameEqual want (name (d .entry y)) ≡ false
+  before-differs : (x y : ℕ) → nameEqual want (name (d .entry x)) ≡ true → less d y x ≡ true → nameEqual want (name (d .entry y)) ≡ false
   unfolding less
-  before-differs x y e l = more-differs o want (name (d .entry y)) (sym (o .equal-right want (name (d .entry x)) (name (d .entry y)) e) ∙ l)
+  before-differs x y e l = more-differs o want (name (d .entry y)) (o .equal-right want (name (d .entry x)) (name (d .entry y)) e ∙ l)
 
   -- where x comes after the name, so does all after x; where x comes before it, so does all before x
   right-differs : (x y : ℕ) → nameLess want (name (d .entry x)) ≡ true → less d x y ≡ true → nameEqual want (name (d .entry y)) ≡ false
@@ -92,7 +92,7 @@ module _ (d : Directory) (want : Name) (o : NameOrder nameLess nameEqual) where
   left-differs x y l m = more-differs o want (name (d .entry y)) (o .trans (name (d .entry y)) (name (d .entry x)) want m l)
 
   -- a tree whose siblings all have other names
-  pub none-in : (p : ℕ → Bool) → ((x : ℕ) → p x ≡ true → nameEqual want (name (d .entry x)) ≡ false)
+  none-in : (p : ℕ → Bool) → ((x : ℕ) → p x ≡ true → nameEqual want (name (d .entry x)) ≡ false)
       → (t : Forest) → all p (siblings t) ≡ true → childNamed d want t ≡ missing
   unfolding childNamed orElse
   none-in p h empty a = refl
