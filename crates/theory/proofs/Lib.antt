@@ -20,3 +20,4 @@ pub mod Owned
 pub mod Contents
 pub mod Fits
 pub mod Edits
+pub mod Trees

@@ -4,3 +4,7 @@ pub mod Links
 pub mod Owned
 pub mod Blocks
 pub mod Marks
+pub mod TreeViews
+pub mod TreeOrder
+pub mod TreeWalk
+pub mod TreeFind

@@ -1,0 +1,19 @@
+-- The laws of the directory's trees, in the order of reading: how they are drawn; their entries; order and colours; the walk; the verdict; names and paths.
+pub mod Lists
+pub mod Grow
+pub mod Depth
+pub mod Stand
+pub mod Nodes
+pub mod Sides
+pub mod Order
+pub mod Spines
+pub mod Rules
+pub mod Marks
+pub mod Walk
+pub mod Stack
+pub mod Slices
+pub mod Walking
+pub mod Passes
+pub mod Verdict
+pub mod Find
+pub mod Paths

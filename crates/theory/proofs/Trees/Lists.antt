@@ -1,0 +1,48 @@
+-- Laws of tests and lists that the trees need, beside those of Tests and Counts.
+use mathlib.Core.Path.{_≡_, refl}
+use mathlib.Core.Logic.{_⊎_, inl, inr}
+use mathlib.Core.Bool.{Bool, true, false, not-eq-not}
+use mathlib.Core.List.{List, [], _∷_}
+use Prim.Native.Nat.{ℕ, zero, suc, _+_, _<_}
+use native.Mathlib.Numerals.{add-one}
+use native.Mathlib.Omega.{arith}
+use Rattle.format.specs.Basics.Lists.{count, all, allBelow}
+use Rattle.theory.proofs.Counts.{bit-self}
+use Rattle.theory.proofs.Tests.{clash, both, and-true-of, below-at}
+
+-- two tests that imply each other are equal
+pub same-test : (a b : Bool) → (a ≡ true → b ≡ true) → (b ≡ true → a ≡ true) → a ≡ b
+same-test true true f g = refl
+same-test true false f g = absurd (clash (f refl) refl)
+same-test false true f g = absurd (clash (g refl) refl)
+same-test false false f g = refl
+
+pub one-of-three : (a b c : ℕ) → 0 < a + (b + c) → (0 < a) ⊎ ((0 < b) ⊎ (0 < c))
+one-of-three (suc a) b c h = inl (omega arith)
+one-of-three zero (suc b) c h = inr (inl (omega arith))
+one-of-three zero zero c h = inr (inr (omega arith))
+
+-- ---- every number below a limit, as a loop tests them
+
+module _ (p : ℕ → Bool) where
+  pub below-more : (n : ℕ) → allBelow n p ≡ true → p n ≡ true → allBelow (n + 1) p ≡ true
+  unfolding allBelow
+  below-more n t h = rw (add-one, t, h)
+
+  pub below-not : (n i : ℕ) → i < n → p i ≡ false → allBelow n p ≡ false
+  below-not n i l e = not-eq-not {b = false} .0 (λ t. clash (below-at n p t i l) e)
+
+-- ---- every element
+
+-- every number that stands in the list passes the test
+pub all-of : (p : ℕ → Bool) (xs : List ℕ) → ((x : ℕ) → 0 < count x xs → p x ≡ true) → all p xs ≡ true
+unfolding all
+all-of p [] h = refl
+all-of p (x ∷ xs) h = and-true-of (p x) (all p xs) (h x (omega (arith, bit-self x))) (all-of p xs (λ y q. h y (omega arith)))
+
+pub all-weaker : (p q : ℕ → Bool) → ((x : ℕ) → p x ≡ true → q x ≡ true) → (xs : List ℕ) → all p xs ≡ true → all q xs ≡ true
+unfolding all
+all-weaker p q h [] t = refl
+all-weaker p q h (x ∷ xs) t =
+    let u = both (p x) (all p xs) t in
+    and-true-of (q x) (all q xs) (h x (u .0)) (all-weaker p q h xs (u .1))

@@ -1,0 +1,44 @@
+-- A path followed name by name, where the entry that was reached stands for its tree.
+use mathlib.Core.Path.{_≡_, refl}
+use mathlib.Core.Bool.{true, false}
+use mathlib.Core.List.{List, [], _∷_}
+use Prim.Native.Nat.{ℕ}
+use Rattle.format.specs.Layout.Name.{Name}
+use Rattle.format.specs.Layout.Entry.{isStream}
+use Rattle.format.specs.Layout.Directory.{Directory}
+use Rattle.format.specs.Layout.Tree.{forest}
+use Rattle.format.specs.Calls.Paths.{Path, names, wellFormed}
+use Rattle.format.specs.Calls.Find.{missing, present, childNamed, refused, foundChild, enter, descend, resolve}
+use Rattle.theory.specs.TreeViews.{childOf, at}
+use Rattle.theory.specs.TreeFind.{reached}
+
+module _ (d : Directory) where
+  pub resolve-formed : (p : Path) → wellFormed p ≡ true → resolve d p ≡ descend d (reached d 0) (names p)
+  unfolding resolve forest
+  resolve-formed p w = rw w
+
+  pub resolve-malformed : (p : Path) → wellFormed p ≡ false → resolve d p ≡ refused 20
+  unfolding resolve
+  resolve-malformed p w = rw w
+
+  -- an answer stands, whatever names are left
+  pub descend-refused : (a : ℕ) (ns : List Name) → descend d (refused a) ns ≡ refused a
+  unfolding descend enter
+  descend-refused a [] = refl
+  descend-refused a (n ∷ ns) = descend-refused a ns
+
+  -- ---- one name
+
+  module _ (x : ℕ) (n : Name) (ns : List Name) where
+    pub descend-stream : isStream (d .entry x) ≡ true → descend d (reached d x) (n ∷ ns) ≡ refused 22
+    unfolding descend enter
+    descend-stream s = rw s (descend-refused 22 ns)
+
+    module _ (s : isStream (d .entry x) ≡ false) where
+      pub descend-missing : childNamed d n (at d (childOf d x)) ≡ missing → descend d (reached d x) (n ∷ ns) ≡ refused 21
+      unfolding descend enter foundChild
+      descend-missing e = rw (s, e) (descend-refused 21 ns)
+
+      pub descend-present : (y : ℕ) → childNamed d n (at d (childOf d x)) ≡ present y (at d (childOf d y)) → descend d (reached d x) (n ∷ ns) ≡ descend d (reached d y) ns
+      unfolding descend enter foundChild
+      descend-present y e = rw (s, e)
