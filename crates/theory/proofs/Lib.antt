@@ -18,3 +18,5 @@ pub mod Owned
 pub mod Contents
 pub mod Fits
 pub mod Edits
+pub mod NameOrder
+pub mod NameCompare
