@@ -1,10 +1,9 @@
 -- The name of an entry unit by unit, the rule of its fields, and what group 14 says of its length.
-use Prim.Native.Nat.{ℕ, zero, suc, _+_, _-_, _*_, _/_, _%_, _≤_, _<_}
+use Prim.Native.Nat.{ℕ, zero, suc, _-_, _*_, _/_, _%_, _≤_, _<_}
 use mathlib.Core.Path.{_≡_, refl, ap, sym, _∙_}
 use mathlib.Core.List.{[], _∷_}
 use mathlib.Core.Bool.{Bool, true, false, _&&_, and-true, and-false}
 use native.Mathlib.Omega.{arith}
-use native.Mathlib.Numerals.{add-one}
 use native.Mathlib.Decide.{ℕ-discrete, decLt}
 use borrow.Author.Tests.{lt-leb, le-leb, ne-eqb}
 use lib.Dec.{eqb}
@@ -21,14 +20,6 @@ use Rattle.entries.specs.Entry.{entryAt, Field, Named, NamedAt, unitLega
 use Rattle.entries.proofs.EntryLaws.{fields-other}
 
 -- ---- tests over the numbers below a limit
-
-pub below-none : (p : ℕ → Bool) → allBelow 0 p ≡ true
-unfolding allBelow
-below-none p = refl
-
-pub below-more : (p : ℕ → Bool) (i : ℕ) → allBelow i p ≡ true → p i ≡ true → allBelow (i + 1) p ≡ true
-unfolding allBelow
-below-more p i e h = rw (add-one, e, h)
 
 pub below-not : (p : ℕ → Bool) (n i : ℕ) → i < n → p i ≡ false → allBelow n p ≡ false
 unfolding allBelow

@@ -1,7 +1,7 @@
 use borrow.Author.Needs.{needs}
 use Rattle.format.specs.Rules.Entries.{blankFields}
-use Rattle.entries.proofs.blank_fields.Statement.{statement}
-use Rattle.entries.proofs.blank_fields.Tie as tie
+use Rattle.entries.proofs.rules.blank_fields.Statement.{statement}
+use Rattle.entries.proofs.rules.blank_fields.Tie as tie
 
 pub blank-fields-spec : {M : Type 1} → statement M
 unfolding blankFields

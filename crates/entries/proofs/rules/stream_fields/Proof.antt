@@ -1,8 +1,8 @@
 use borrow.Author.Needs.{needs}
 use Rattle.format.specs.Layout.Entry.{clsid, created, modified}
 use Rattle.format.specs.Rules.Entries.{streamFields}
-use Rattle.entries.proofs.stream_fields.Statement.{statement}
-use Rattle.entries.proofs.stream_fields.Tie as tie
+use Rattle.entries.proofs.rules.stream_fields.Statement.{statement}
+use Rattle.entries.proofs.rules.stream_fields.Tie as tie
 
 pub stream-fields-spec : {M : Type 1} → statement M
 unfolding streamFields clsid created modified

@@ -1,8 +1,8 @@
 use borrow.Author.Needs.{needs}
 use native.Mathlib.Omega.{arith}
 use Rattle.entries.proofs.NameLaws.{name-length}
-use Rattle.entries.proofs.units.Statement.{statement}
-use Rattle.entries.proofs.units.Tie as tie
+use Rattle.entries.proofs.names.units.Statement.{statement}
+use Rattle.entries.proofs.names.units.Tie as tie
 
 pub units-spec : {M : Type 1} → statement M
 units-spec =

@@ -1,7 +1,7 @@
 use borrow.Author.Needs.{needs}
 use Rattle.format.specs.Rules.Entries.{commonFields}
-use Rattle.entries.proofs.common_fields.Statement.{statement}
-use Rattle.entries.proofs.common_fields.Tie as tie
+use Rattle.entries.proofs.rules.common_fields.Statement.{statement}
+use Rattle.entries.proofs.rules.common_fields.Tie as tie
 
 pub common-fields-spec : {M : Type 1} → statement M
 unfolding commonFields

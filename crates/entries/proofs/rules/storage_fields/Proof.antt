@@ -1,7 +1,7 @@
 use borrow.Author.Needs.{needs}
 use Rattle.format.specs.Rules.Entries.{storageFields}
-use Rattle.entries.proofs.storage_fields.Statement.{statement}
-use Rattle.entries.proofs.storage_fields.Tie as tie
+use Rattle.entries.proofs.rules.storage_fields.Statement.{statement}
+use Rattle.entries.proofs.rules.storage_fields.Tie as tie
 
 pub storage-fields-spec : {M : Type 1} → statement M
 unfolding storageFields

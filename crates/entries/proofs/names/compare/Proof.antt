@@ -8,8 +8,8 @@ use Rattle.theory.proofs.NameCompare.{Comparing, Turn, shorter-less, comparing-
 use Rattle.entries.specs.Entry.{entryAt}
 use Rattle.entries.proofs.NameLaws.{unit-inside, unit-folded}
 use Rattle.entries.proofs.Orderings.{is-less, is-same, is-more}
-use Rattle.entries.proofs.compare.Statement.{statement}
-use Rattle.entries.proofs.compare.Tie as tie
+use Rattle.entries.proofs.names.compare.Statement.{statement}
+use Rattle.entries.proofs.names.compare.Tie as tie
 
 abbrev Inv-loop : tie.InvT-loop
 Inv-loop img p q n m i₀ i = Comparing fold (name (entryAt img p)) (name (entryAt img q)) i

@@ -8,8 +8,8 @@ use Rattle.theory.proofs.NameCompare.{Comparing, Turn, shorter-less, comparing-
 use Rattle.entries.specs.Entry.{entryAt}
 use Rattle.entries.proofs.NameLaws.{unit-inside, unit-folded}
 use Rattle.entries.proofs.Orderings.{is-less, is-same, is-more}
-use Rattle.entries.proofs.compare_name.Statement.{statement}
-use Rattle.entries.proofs.compare_name.Tie as tie
+use Rattle.entries.proofs.names.compare_name.Statement.{statement}
+use Rattle.entries.proofs.names.compare_name.Tie as tie
 
 abbrev Inv-loop : tie.InvT-loop
 Inv-loop want img q n k i₀ i = Comparing fold want (name (entryAt img q)) i

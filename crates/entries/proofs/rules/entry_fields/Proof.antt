@@ -1,7 +1,7 @@
 use borrow.Author.Needs.{needs}
 use Rattle.entries.proofs.EntryLaws.{fields-first, fields-other}
-use Rattle.entries.proofs.entry_fields.Statement.{statement}
-use Rattle.entries.proofs.entry_fields.Tie as tie
+use Rattle.entries.proofs.rules.entry_fields.Statement.{statement}
+use Rattle.entries.proofs.rules.entry_fields.Tie as tie
 
 pub entry-fields-spec : {M : Type 1} → statement M
 entry-fields-spec =

@@ -1,8 +1,8 @@
 use borrow.Author.Needs.{needs}
 use Rattle.format.specs.Layout.Entry.{created}
 use Rattle.format.specs.Rules.Entries.{rootFields}
-use Rattle.entries.proofs.root_fields.Statement.{statement}
-use Rattle.entries.proofs.root_fields.Tie as tie
+use Rattle.entries.proofs.rules.root_fields.Statement.{statement}
+use Rattle.entries.proofs.rules.root_fields.Tie as tie
 
 pub root-fields-spec : {M : Type 1} → statement M
 unfolding rootFields created

@@ -1,7 +1,7 @@
 use borrow.Author.Needs.{needs}
 use Rattle.format.specs.Layout.Entry.{nameUnit}
-use Rattle.entries.proofs.unit.Statement.{statement}
-use Rattle.entries.proofs.unit.Tie as tie
+use Rattle.entries.proofs.names.unit.Statement.{statement}
+use Rattle.entries.proofs.names.unit.Tie as tie
 
 pub unit-spec : {M : Type 1} → statement M
 unfolding nameUnit
