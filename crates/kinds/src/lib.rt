@@ -1,4 +1,4 @@
-// Kinds of number, each its own type with its special values: sectors, mini sectors, entries; the geometry; answers.
+// Kinds of number, each its own type with its special values: sectors, mini sectors, entries; the geometry; the order of names; answers.
 ghost use mathlib.Core.Path.{_≡_};
 ghost use Prim.Native.Nat.{_+_, _≤_, _<_, _*_};
 ghost use lib.Dec.{eqb, ltb};
@@ -168,6 +168,15 @@ impl EntryId {
     {
         (self.0 as usize) < n
     }
+}
+
+// ---- names
+
+// How one name lies to another.
+pub enum Order {
+    Less,
+    Same,
+    More,
 }
 
 // ---- answers

@@ -2,7 +2,7 @@
 ghost use mathlib.Core.Path.{_≡_};
 ghost use Prim.Native.Nat.{_+_, _≤_, _<_};
 ghost use lib.ListN.{length, replicate};
-ghost use Rattle.format.specs.Basics.Bytes.{u16at, u32at, u64at, put16, put32, put64};
+ghost use Rattle.format.specs.Basics.Bytes.{part, u16at, u32at, u64at, allZero, put16, put32, put64};
 ghost use Rattle.format.specs.Calls.Buffers.{workCleared};
 
 fn wide(x: u8) -> u32
@@ -34,6 +34,23 @@ pub fn u64_at(b: &[u8], at: usize) -> u64
     let low = u32_at(b, at);
     let high = u32_at(b, at + 4);
     (low as u64) + 4294967296 * (high as u64)
+}
+
+// Whether the n bytes from a place on are zero.
+pub fn all_zero(b: &[u8], at: usize, n: usize) -> bool
+    requires { ⌜ at + n ≤ length (now b) ⌝ }
+    ensures { λ r. ⌜ r ≡ allZero (part (now (b .entry)) at n) ⌝ }
+{
+    let mut i = at;
+    let mut k = n;
+    while 0 < k {
+        if b[i] != 0 {
+            return false;
+        }
+        i += 1;
+        k -= 1;
+    }
+    true
 }
 
 // ---- writes

@@ -20,4 +20,6 @@ pub mod Owned
 pub mod Contents
 pub mod Fits
 pub mod Edits
+pub mod NameOrder
+pub mod NameCompare
 pub mod Trees

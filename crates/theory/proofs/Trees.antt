@@ -15,5 +15,6 @@ pub mod Slices
 pub mod Walking
 pub mod Passes
 pub mod Verdict
+pub mod Names
 pub mod Find
 pub mod Paths

@@ -1,14 +1,13 @@
 -- Laws of tests and lists that the trees need, beside those of Tests and Counts.
 use mathlib.Core.Path.{_≡_, refl}
 use mathlib.Core.Logic.{_⊎_, inl, inr}
-use mathlib.Core.Bool.{Bool, true, false, not-eq-not}
+use mathlib.Core.Bool.{Bool, true, false}
 use mathlib.Core.List.{List, [], _∷_}
 use Prim.Native.Nat.{ℕ, zero, suc, _+_, _<_}
-use native.Mathlib.Numerals.{add-one}
 use native.Mathlib.Omega.{arith}
-use Rattle.format.specs.Basics.Lists.{count, all, allBelow}
+use Rattle.format.specs.Basics.Lists.{count, all}
 use Rattle.theory.proofs.Counts.{bit-self}
-use Rattle.theory.proofs.Tests.{clash, both, and-true-of, below-at}
+use Rattle.theory.proofs.Tests.{clash, both, and-true-of}
 
 -- two tests that imply each other are equal
 pub same-test : (a b : Bool) → (a ≡ true → b ≡ true) → (b ≡ true → a ≡ true) → a ≡ b
@@ -21,16 +20,6 @@ pub one-of-three : (a b c : ℕ) → 0 < a + (b + c) → (0 < a) ⊎ ((0 < b) �
 one-of-three (suc a) b c h = inl (omega arith)
 one-of-three zero (suc b) c h = inr (inl (omega arith))
 one-of-three zero zero c h = inr (inr (omega arith))
-
--- ---- every number below a limit, as a loop tests them
-
-module _ (p : ℕ → Bool) where
-  pub below-more : (n : ℕ) → allBelow n p ≡ true → p n ≡ true → allBelow (n + 1) p ≡ true
-  unfolding allBelow
-  below-more n t h = rw (add-one, t, h)
-
-  pub below-not : (n i : ℕ) → i < n → p i ≡ false → allBelow n p ≡ false
-  below-not n i l e = not-eq-not {b = false} .0 (λ t. clash (below-at n p t i l) e)
 
 -- ---- every element
 

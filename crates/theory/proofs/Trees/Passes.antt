@@ -14,7 +14,7 @@ use Rattle.theory.specs.TreeViews.{rows}
 use Rattle.theory.specs.TreeOrder.{placeOk, placeRight, placesOk}
 use Rattle.theory.specs.TreeWalk.{marked, covered, marksIn}
 use Rattle.theory.proofs.Tests.{clash}
-use Rattle.theory.proofs.Trees.Lists.{below-more, below-not}
+use Rattle.theory.proofs.Loops.{below-more, below-not}
 use Rattle.theory.proofs.Trees.Rules.{place-object, place-other}
 use Rattle.theory.proofs.Trees.Slices.{marked-in}
 

@@ -1,0 +1,48 @@
+-- The fields of an entry are the image's bytes at its place, and group 14 of entry 0 and of the others.
+use Prim.Native.Nat.{ℕ, zero, suc, _+_, _≤_}
+use mathlib.Core.Path.{_≡_, refl, ap, _∙_}
+use mathlib.Core.Bool.{_&&_, _||_}
+use native.Mathlib.Omega.{arith}
+use lib.ListN.{getD, take, drop}
+use lib.Seq.{drop-drop, getD-take, getD-drop}
+use Rattle.format.specs.Basics.Bytes.{Bytes, byteAt, part, number, u16at, u32at, u64at, allZero}
+use Rattle.format.specs.Layout.Entry.{isRoot, isBlank, isStorage, isStream}
+use Rattle.format.specs.Rules.Entries.{entryFields, rootFields, commonFields, blankFields, storageFields, streamFields}
+use Rattle.theory.proofs.Sets.{sub-take}
+use Rattle.entries.specs.Entry.{entryAt}
+
+pub part-part : (b : Bytes) (p m o n : ℕ) → o + n ≤ m → part (part b p m) o n ≡ part b (p + o) n
+unfolding part
+part-part b p m o n h = sub-take n o m (drop p b) h ∙ ap (take n) (drop-drop o p b)
+
+module _ (img : Bytes) (p o : ℕ) where
+  pub byte-in : o + 1 ≤ 128 → byteAt (entryAt img p) o ≡ getD img (p + o) 0
+  unfolding byteAt part
+  byte-in h = getD-take 128 (drop p img) o 0 (omega arith) ∙ getD-drop p img o 0
+
+  pub u16-in : o + 2 ≤ 128 → u16at (entryAt img p) o ≡ u16at img (p + o)
+  unfolding u16at
+  u16-in h = ap number (part-part img p 128 o 2 h)
+
+  pub u32-in : o + 4 ≤ 128 → u32at (entryAt img p) o ≡ u32at img (p + o)
+  unfolding u32at
+  u32-in h = ap number (part-part img p 128 o 4 h)
+
+  pub u64-in : o + 8 ≤ 128 → u64at (entryAt img p) o ≡ u64at img (p + o)
+  unfolding u64at
+  u64-in h = ap number (part-part img p 128 o 8 h)
+
+  pub zeros-in : (n : ℕ) → o + n ≤ 128 → allZero (part (entryAt img p) o n) ≡ allZero (part img (p + o) n)
+  zeros-in n h = ap allZero (part-part img p 128 o n h)
+
+-- ---- entry 0, and the others
+
+pub fields-first : (i : ℕ) (e : Bytes) → i ≡ 0 → entryFields i e ≡ (isRoot e && rootFields e && commonFields e)
+unfolding entryFields
+fields-first zero e h = refl
+fields-first (suc i) e h = absurd (omega arith)
+
+pub fields-other : (i : ℕ) (e : Bytes) → (i ≡ 0 → ⊥) → entryFields i e ≡ (((isBlank e && blankFields e) || (isStorage e && storageFields e) || (isStream e && streamFields e)) && commonFields e)
+unfolding entryFields
+fields-other zero e h = absurd (h refl)
+fields-other (suc i) e h = refl

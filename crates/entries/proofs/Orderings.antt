@@ -1,0 +1,50 @@
+-- The order of two names as an answer: when each answer is right, and what it says.
+use mathlib.Core.Path.{_≡_, refl, sym, _∙_, subst}
+use mathlib.Core.Bool.{Bool, true, false}
+use mathlib.Core.Logic.{inl, inr}
+use Rattle.format.specs.Layout.Name.{Name, nameLess, nameEqual, fold}
+use Rattle.kinds.specs.declared.Order.{Order}
+use Rattle.kinds.specs.declared.Order.the-variants.{Less, Same, More}
+use Rattle.kinds.specs.Ordering.{ordering}
+use Rattle.theory.proofs.Tests.{clash}
+use Rattle.theory.proofs.NameOrder.{lessBy, equalBy, by-three, by-apart, by-once, less-is, equal-is}
+
+false-of : (b : Bool) → (b ≡ true → ⊥) → b ≡ false
+false-of true f = absurd (f refl)
+false-of false f = refl
+
+module _ (a b : Name) where
+  -- ---- by the order of `fold`
+
+  pub is-less : lessBy fold a b ≡ true → Less ≡ ordering a b
+  unfolding ordering
+  is-less t = rw (less-is a b, t)
+
+  pub is-same : equalBy fold a b ≡ true → Same ≡ ordering a b
+  unfolding ordering
+  is-same t = rw (less-is a b, by-apart fold a b t .0, equal-is a b, t)
+
+  pub is-more : lessBy fold b a ≡ true → More ≡ ordering a b
+  unfolding ordering
+  is-more t =
+      let u = false-of (lessBy fold a b) (λ s. by-once fold a b s t) in
+      let v = false-of (equalBy fold a b) (λ s. clash t (by-apart fold a b s .1)) in
+      rw (less-is a b, u, equal-is a b, v)
+
+  -- ---- what an answer says
+
+  abbrev pub Told : Order → Type 0
+  Told Less = nameLess a b ≡ true
+  Told Same = (nameEqual a b ≡ true) × (nameLess a b ≡ false)
+  Told More = (nameLess b a ≡ true) × (nameLess a b ≡ false)
+
+  told-right : Told (ordering a b)
+  told-right =
+      elim (by-three fold a b) [
+        | inl t ↦ subst Told (is-less t) (less-is a b ∙ t)
+        | inr (inl t) ↦ subst Told (is-same t) (equal-is a b ∙ t, less-is a b ∙ by-apart fold a b t .0)
+        | inr (inr t) ↦ subst Told (is-more t) (less-is b a ∙ t, less-is a b ∙ false-of (lessBy fold a b) (λ s. by-once fold a b s t))
+      ]
+
+  pub told : (o : Order) → o ≡ ordering a b → Told o
+  told o e = subst Told (sym e) told-right

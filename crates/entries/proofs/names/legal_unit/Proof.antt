@@ -1,0 +1,10 @@
+use Rattle.format.specs.Layout.Name.{legalUnit, illegal}
+use Rattle.entries.proofs.names.legal_unit.Statement.{statement}
+use Rattle.entries.proofs.names.legal_unit.Tie as tie
+
+pub legal-unit-spec : {M : Type 1} → statement M
+unfolding legalUnit illegal
+legal-unit-spec =
+    tie.close
+    (tie.spec
+    (λ c. cc))  -- returns

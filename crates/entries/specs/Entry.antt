@@ -1,0 +1,28 @@
+-- An entry of 128 bytes that stands at a byte place of an image.
+use Prim.Native.Nat.{ℕ, _+_, _≤_}
+use mathlib.Core.Bool.{Bool}
+use lib.ListN.{length}
+use Rattle.format.specs.Basics.Bytes.{Bytes, part}
+use Rattle.format.specs.Layout.Name.{legalUnit}
+use Rattle.format.specs.Layout.Entry.{nameBytes, nameUnit}
+
+abbrev pub entryAt : Bytes → ℕ → Bytes
+entryAt img p = part img p 128
+
+-- n bytes at offset o of the entry at p
+pub record Field (img : Bytes) (p o n : ℕ) : Type 0 where
+  pub whole : p + 128 ≤ length img
+  pub inside : o + n ≤ 128
+
+-- a name that lies in the entry's place for it
+pub record Named (e : Bytes) : Type 0 where
+  pub most : nameBytes e ≤ 64
+
+-- an entry with such a name
+pub record NamedAt (img : Bytes) (p : ℕ) : Type 0 where
+  pub whole : p + 128 ≤ length img
+  pub named : Named (entryAt img p)
+
+-- the test of one unit of the name
+abbrev pub unitLegal : Bytes → ℕ → Bool
+unitLegal e i = legalUnit (nameUnit e i)

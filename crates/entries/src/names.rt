@@ -1,0 +1,110 @@
+// The names of entries: their units, and their order.
+ghost use mathlib.Core.Path.{_≡_};
+ghost use Prim.Native.Nat.{_+_, _*_, _≤_};
+ghost use lib.ListN.{length};
+ghost use Rattle.format.specs.Layout.Name.{fold as folded, legalUnit};
+ghost use Rattle.format.specs.Layout.Entry.{nameUnit, name};
+ghost use Rattle.kinds.specs.Ordering.{ordering};
+ghost use Rattle.entries.specs.Entry.{entryAt, Field, NamedAt};
+use super::half;
+use super::name_bytes;
+use kinds::Order;
+
+// ---- units
+
+// How many units the name has, without the zero unit that ends it.
+pub fn units(img: &[u8], p: usize) -> usize
+    requires { ⌜ p + 128 ≤ length (now img) ⌝ }
+    ensures { λ r. ⌜ r ≡ length (name (entryAt (now (img .entry)) p)) ⌝ }
+{
+    let n = name_bytes(img, p);
+    if n < 2 {
+        return 0;
+    }
+    n / 2 - 1
+}
+
+pub fn unit(img: &[u8], p: usize, i: usize) -> u16
+    requires { ⌜ Field (now img) p (2 * i) 2 ⌝ }
+    ensures { λ r. ⌜ r ≡ nameUnit (entryAt (now (img .entry)) p) i ⌝ }
+{
+    half(img, p, 2 * i)
+}
+
+// The unit that a unit counts as.
+pub fn fold(u: u16) -> u16
+    ensures { λ r. ⌜ r ≡ folded u ⌝ }
+{
+    if u < 0x61 {
+        return u;
+    }
+    if 0x7A < u {
+        return u;
+    }
+    u - 0x20
+}
+
+pub fn legal_unit(u: u16) -> bool
+    ensures { λ r. ⌜ r ≡ legalUnit u ⌝ }
+{
+    (u != 0) & !((u == 0x2F) | (u == 0x5C) | (u == 0x3A))
+}
+
+// ---- order
+
+// The name of the entry at p to that of the entry at q.
+pub fn compare(img: &[u8], p: usize, q: usize) -> Order
+    requires { ⌜ NamedAt (now img) p ⌝ }
+    requires { ⌜ NamedAt (now img) q ⌝ }
+    ensures { λ r. ⌜ r ≡ ordering (name (entryAt (now (img .entry)) p)) (name (entryAt (now (img .entry)) q)) ⌝ }
+{
+    let n = units(img, p);
+    let m = units(img, q);
+    if n < m {
+        return Order::Less;
+    }
+    if m < n {
+        return Order::More;
+    }
+    let mut i: usize = 0;
+    while i < n {
+        let x = fold(unit(img, p, i));
+        let y = fold(unit(img, q, i));
+        if x < y {
+            return Order::Less;
+        }
+        if y < x {
+            return Order::More;
+        }
+        i += 1;
+    }
+    Order::Same
+}
+
+// A name by itself to that of the entry at q.
+pub fn compare_name(want: &[u16], img: &[u8], q: usize) -> Order
+    requires { ⌜ NamedAt (now img) q ⌝ }
+    ensures { λ r. ⌜ r ≡ ordering (now (want .entry)) (name (entryAt (now (img .entry)) q)) ⌝ }
+{
+    let n = want.len();
+    let k = units(img, q);
+    if n < k {
+        return Order::Less;
+    }
+    if k < n {
+        return Order::More;
+    }
+    let mut i: usize = 0;
+    while i < n {
+        let x = fold(want[i]);
+        let y = fold(unit(img, q, i));
+        if x < y {
+            return Order::Less;
+        }
+        if y < x {
+            return Order::More;
+        }
+        i += 1;
+    }
+    Order::Same
+}

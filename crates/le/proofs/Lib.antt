@@ -1,0 +1,2 @@
+-- Laws for the functions on bytes.
+pub mod Zeros
