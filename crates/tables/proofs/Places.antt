@@ -1,7 +1,7 @@
 -- Where numbers stand in sectors: inside the image; and the cells of the FAT by these places.
 use Prim.Native.Nat.{ℕ, suc, _+_, _-_, _*_, _/_, _%_, _≤_, _<_}
-use mathlib.Core.Path.{_≡_, refl, sym, _∙_, ap}
-use native.Mathlib.Nat.{div-lt-iff-lt-mul, mod-lt, mul-div-mul-left, div-add-mod', mul-comm, mul-le-mul-right, le-div-iff-mul-le}
+use mathlib.Core.Path.{_≡_, refl}
+use native.Mathlib.Nat.{mod-lt, mul-le-mul-right, le-div-iff-mul-le}
 use native.Mathlib.Omega.{arith}
 use lib.ListN.{length}
 use borrow.Author.Tests.{lt-ltb, le-ltb}
@@ -10,6 +10,7 @@ use Rattle.format.specs.Layout.Geometry.{Geometry, headerDifat, sectorCount, se
 use Rattle.format.specs.Layout.Header.{fatCount, difatStart, difatPlace}
 use Rattle.format.specs.Layout.Tables.{difatSector, difatEntry, fatSectors, fatCells, fatCell, cellIn, cellPlaceIn}
 use Rattle.theory.proofs.Below.{getD-below}
+use Rattle.theory.proofs.Scale.{scale-div, scale-mod, scale-below}
 use Rattle.frame.proofs.Kept.{place-in}
 use Rattle.tables.specs.Sized.{ImageSized, F, wordIn}
 
@@ -44,26 +45,16 @@ module _ {g : Geometry} {img : Bytes} (z : ImageSized g img) where
   pub word-inside : (s i : ℕ) → s < sectorCount g img → i < cellsIn g → sectorPlace g s + 4 * i + 4 ≤ length img
   word-inside s i h l = omega (arith, sector-inside s h, cells-bytes)
 
-  quarter-div : (s : ℕ) → 4 * s / g .sectorBytes ≡ s / cellsIn g
-  quarter-div s = ap (λ n. 4 * s / n) (sym cells-bytes) ∙ mul-div-mul-left s (cellsIn g) (omega arith)
-
-  quarter-mod : (s : ℕ) → 4 * s % g .sectorBytes ≡ 4 * (s % cellsIn g)
-  quarter-mod s =
-      let a = div-add-mod' (4 * s) (g .sectorBytes) in
-      let b = div-add-mod' s (cellsIn g) in
-      let c : 4 * s / g .sectorBytes * g .sectorBytes ≡ s / cellsIn g * (4 * cellsIn g) = ap (λ q. q * g .sectorBytes) (quarter-div s) ∙ ap (λ n. s / cellsIn g * n) (sym cells-bytes) in
-      omega (arith, a, b, c)
-
   -- the cell of s is a number of the FAT sector that holds it
   pub cell-is : (s : ℕ) → s < cellsIn g * F img → fatCell g img s ≡ wordIn g img (difatEntry g img (s / cellsIn g)) (s % cellsIn g)
   unfolding fatCell cellIn cellPlaceIn placeIn fatCells fatSectors fatCount wordIn
   cell-is s h =
       let c = cells-some in
-      let k : s / cellsIn g < u32at img 44 = div-lt-iff-lt-mul {k = cellsIn g} {x = s} {y = u32at img 44} (omega arith) .1 (omega (arith, mul-comm (cellsIn g) (F img))) in
-      rw (lt-ltb s (cellsIn g * u32at img 44) h, quarter-div s, quarter-mod s, getD-below (u32at img 44) (difatEntry g img) (s / cellsIn g) 0 k)
+      let k = scale-below (cellsIn g) (u32at img 44) s (omega arith) h in
+      rw (lt-ltb s (cellsIn g * u32at img 44) h, scale-div 4 (cellsIn g) cells-bytes (omega arith) s, scale-mod 4 (cellsIn g) cells-bytes (omega arith) s, getD-below (u32at img 44) (difatEntry g img) (s / cellsIn g) 0 k)
 
   pub cell-sector : (s : ℕ) → s < cellsIn g * F img → s / cellsIn g < F img
-  cell-sector s h = let c = cells-some in div-lt-iff-lt-mul {k = cellsIn g} {x = s} {y = F img} (omega arith) .1 (omega (arith, mul-comm (cellsIn g) (F img)))
+  cell-sector s h = let c = cells-some in scale-below (cellsIn g) (F img) s (omega arith) h
 
   pub cell-index : (s : ℕ) → s % cellsIn g < cellsIn g
   cell-index s = let c = cells-some in mod-lt s (omega arith)

@@ -8,6 +8,7 @@ pub mod Sets
 pub mod Bytes
 pub mod ByteTests
 pub mod RoundUp
+pub mod Scale
 pub mod Digits
 pub mod OwnerCounts
 pub mod ListSums

@@ -1,0 +1,3 @@
+-- Laws for the functions on the directory.
+pub mod Places
+pub mod Orders

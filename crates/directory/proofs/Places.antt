@@ -1,0 +1,95 @@
+-- Where entries stand: inside the image, at the place that the list gives.
+use Prim.Native.Nat.{ℕ, _+_, _*_, _/_, _%_, _≤_, _<_}
+use mathlib.Core.Path.{_≡_, sym, _∙_, ap}
+use mathlib.Core.Bool.{Bool, true}
+use mathlib.Core.List.{List}
+use native.Mathlib.Nat.{mod-lt, mul-le-mul-right}
+use native.Mathlib.Omega.{arith}
+use lib.ListN.{length}
+use borrow.Author.Tests.{lt-ltb}
+use Rattle.format.specs.Basics.Bytes.{Bytes, part}
+use Rattle.format.specs.Basics.Lists.{allBelow}
+use Rattle.format.specs.Layout.Geometry.{Geometry, placeIn, entriesIn, entryBytes}
+use Rattle.format.specs.Layout.Directory.{Directory, entryPlace, entryCount, entryIn, directoryOf}
+use Rattle.format.specs.Layout.Volume.{directorySectorsOf, directory}
+use Rattle.format.specs.Rules.Entries.{entryRight, entryRules, entryFields}
+use Rattle.kinds.specs.Sizes.{geometryOf}
+use Rattle.theory.proofs.Tests.{below-at}
+use Rattle.theory.proofs.Scale.{scale-div, scale-mod, scale-below}
+use Rattle.tables.specs.Sized.{ImageSized}
+use Rattle.tables.proofs.Places.{sector-inside}
+use Rattle.entries.specs.Entry.{entryAt, NamedAt}
+use Rattle.entries.proofs.NameLaws.{name-fits}
+use Rattle.directory.specs.Listed.{entriesOf, countOf, placeOf, Placed, Listed, NamedIn, Ruled}
+use Rattle.directory.specs.declared.Directory.{Directory as Where}
+
+module _ {g : Geometry} {img : Bytes} (z : ImageSized g img) where
+  pub per-bytes : 128 * entriesIn g ≡ g .sectorBytes
+  unfolding entriesIn entryBytes
+  per-bytes = let e = z .even in omega arith
+
+  pub per-some : 4 ≤ entriesIn g
+  per-some = omega (arith, per-bytes, z .wide)
+
+  pub per-few : entriesIn g ≤ 32
+  per-few = omega (arith, per-bytes, z .narrow)
+
+-- how many entries a sector holds, where only the list is known
+module _ {d : Where} {work : List ℕ} {x : ℕ} (p : Placed d work x) where
+  pub placed-some : 4 ≤ entriesIn (geometryOf (d .geometry))
+  unfolding entriesIn entryBytes
+  placed-some = let w = p .wide in omega arith
+
+  pub placed-few : entriesIn (geometryOf (d .geometry)) ≤ 32
+  unfolding entriesIn entryBytes
+  placed-few = let w = p .narrow in omega arith
+
+module _ {d : Where} {img : Bytes} {work : List ℕ} (l : Listed d img work) where
+  abbrev g : Geometry
+  g = geometryOf (d .geometry)
+
+  pub count-is : entriesOf d img .count ≡ countOf d
+  unfolding directory directoryOf entryCount
+  count-is = ap (λ n. entriesIn g * n) (sym (l .count))
+
+  pub count-few : countOf d < 0x2000_0000
+  count-few = omega (arith, mul-le-mul-right (d .sectors) (per-few (l .sized)), l .few, l .sized .few)
+
+  module _ (x : ℕ) (h : x < entriesOf d img .count) where
+    inside : x / entriesIn g < d .sectors
+    inside = let s = per-some (l .sized) in scale-below (entriesIn g) (d .sectors) x (omega arith) (omega (arith, count-is))
+
+    pub placed : Placed d work x
+    placed = record { wide = l .sized .wide; narrow = l .sized .narrow; room = l .room; inside = inside }
+
+    pub place-inside : placeOf d work x + 128 ≤ length img
+    place-inside =
+        let s = per-some (l .sized) in
+        let m : x % entriesIn g < entriesIn g = mod-lt x (omega arith) in
+        rw (l .here _ inside) (omega (arith, sector-inside (l .sized) _ (l .below _ inside), per-bytes (l .sized), m))
+
+    place-is : entryPlace g (directorySectorsOf g img) x ≡ placeOf d work x
+    unfolding entryPlace placeIn entryBytes
+    place-is = rw (scale-div 128 (entriesIn g) (per-bytes (l .sized)) (omega arith) x, scale-mod 128 (entriesIn g) (per-bytes (l .sized)) (omega arith) x, l .here _ inside)
+
+    pub entry-is : entriesOf d img .entry x ≡ entryAt img (placeOf d work x)
+    unfolding directory directoryOf entryIn entryCount entryBytes
+    entry-is = rw (lt-ltb x (entriesIn g * length (directorySectorsOf g img)) h) (ap (λ p. part img p 128) place-is)
+
+    -- a name that can be read
+    pub named-at : NamedIn (entriesOf d img) x → (p : ℕ) → p ≡ placeOf d work x → NamedAt img p
+    named-at n p e = rw e (record { whole = place-inside; named = rw (← entry-is) (n .named) })
+
+  pub rules-are : entryRules (entriesOf d img) ≡ allBelow (countOf d) (entryRight (entriesOf d img))
+  unfolding entryRules
+  rules-are = ap (λ n. allBelow n (entryRight (entriesOf d img))) count-is
+
+  -- the test of one entry, by what stands at its place
+  pub entry-tested : (x : ℕ) (h : x < entriesOf d img .count) {r : Bool} → r ≡ entryFields x (entryAt img (placeOf d work x)) → entryRight (entriesOf d img) x ≡ r
+  unfolding entryRight
+  entry-tested x h e = ap (entryFields x) (entry-is x h) ∙ sym e
+
+-- group 14 holds: every name but the root's lies in its place
+pub ruled : (e : Directory) → entryRules e ≡ true → Ruled e
+unfolding entryRules entryRight
+ruled e h = record { names = λ x p l. record { inside = l; named = name-fits x (e .entry x) (omega arith) (below-at (e .count) (entryRight e) h x l) } }

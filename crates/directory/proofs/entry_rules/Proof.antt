@@ -1,0 +1,55 @@
+use borrow.Author.Needs.{needs}
+use Prim.Native.Nat.{_-_, _≤_, _<_}
+use mathlib.Core.Path.{_≡_, sym, _∙_}
+use mathlib.Core.Bool.{true}
+use native.Mathlib.Omega.{arith}
+use borrow.Author.Tests.{not-true, not-false}
+use Rattle.format.specs.Basics.Lists.{allBelow}
+use Rattle.format.specs.Rules.Entries.{entryFields, entryRight}
+use Rattle.theory.proofs.Loops.{below-none, below-more, below-not}
+use Rattle.entries.specs.Entry.{entryAt}
+use Rattle.directory.specs.Listed.{countOf, entriesOf, placeOf}
+use Rattle.directory.proofs.Places.{count-is, count-few, placed, place-inside, rules-are, entry-tested}
+use Rattle.directory.proofs.entry_rules.Statement.{statement}
+use Rattle.directory.proofs.entry_rules.Tie as tie
+
+abbrev Inv-loop : tie.InvT-loop
+Inv-loop img work d n i₀ i = (i ≤ n) × (allBelow i (entryRight (entriesOf d img)) ≡ true)
+
+abbrev μ-loop : tie.MeasureT-loop
+μ-loop img work d n i₀ i = n - i
+
+-- the entry of a turn
+inside : (c : tie.In-loop Inv-loop μ-loop) → let p = c .before .before .before .before .before .args in c .before .loop .i < entriesOf (p .d) (p .img .now) .count
+inside c = omega (arith, count-is (c .before .before .before .before .before .pre), c .before .before .count .ensures)
+
+few : (c : tie.In-loop Inv-loop μ-loop) → c .before .loop .i < 0x2000_0000
+few c = omega (arith, c .before .before .count .ensures, count-few (c .before .before .before .before .before .pre))
+
+tested : (c : tie.After-entry-fields Inv-loop μ-loop) → let p = c .before .before .before .before .before .before .before .args in let i = c .before .before .before .loop .i in
+    c .entry-fields .result ≡ entryFields i (entryAt (p .img .now) (placeOf (p .d) (p .work .now) i))
+tested c = rw (← c .before .place .ensures) (c .entry-fields .ensures)
+
+pub entry-rules-spec : {M : Type 1} → statement M
+entry-rules-spec =
+    tie.close
+    (tie.spec Inv-loop μ-loop
+    (λ c κs. let l = c .before .before .pre in (l .sized .narrow, omega (arith, l .few, l .sized .few)))  -- count-requires
+    (λ c. (omega arith, below-none _))  -- loop-holds
+    (λ c. omega (arith, few c))  -- cast-t8
+    (λ c κs. placed (c .before .before .before .before .before .pre) _ (inside c))  -- place-requires
+    (λ c κs. omega (arith, c .place .ensures, place-inside (c .before .before .before .before .before .before .pre) _ (inside (c .before))))  -- entry-fields-requires
+    (λ c.
+    let l = c .before .before .before .before .before .before .before .before .pre in
+    let at = c .before .before .before in
+    rw (rules-are l) (sym (below-not (entryRight _) _ _ (rw (count-is l) at (inside at)) (entry-tested l _ (inside at) (tested (c .before)) ∙ not-true _ (c .if1 .taken)))))  -- returns
+    (λ c. omega (arith, few (c .before .before .before)))  -- add-i
+    (λ c. search needs)  -- loop-less
+    (λ c.
+    let l = c .before .before .before .before .before .before .before .before .pre in
+    let at = c .before .before .before in
+    (omega arith, below-more (entryRight _) _ (at .before .loop .inv .1) (entry-tested l _ (inside at) (tested (c .before)) ∙ not-false _ (c .if1 .left))))  -- loop-again
+    (λ c.
+    let l = c .before .before .before .before .before .pre in
+    let e : c .before .loop .i ≡ countOf (c .before .before .before .before .before .args .d) = omega (arith, c .before .before .count .ensures) in
+    rw (rules-are l) (sym (rw e at (c .before .loop .inv .1)))))  -- returns-2

@@ -1,0 +1,2 @@
+-- What the functions on the directory require and ensure, beside `format`.
+pub mod Listed

@@ -1,0 +1,143 @@
+// The directory: its entries by number, and group 14. Its sectors stand listed in the work buffer.
+ghost use mathlib.Core.Path.{_≡_};
+ghost use Prim.Native.Nat.{_≤_, _<_};
+ghost use Rattle.format.specs.Layout.Entry.{kind as kindOf, colour as colourOf, left as leftOf, right as rightOf, child as childOf, name};
+ghost use Rattle.format.specs.Rules.Entries.{entryRules};
+ghost use Rattle.format.specs.Rules.Trees.{isObject, less as lessOf};
+ghost use Rattle.kinds.specs.Ordering.{ordering};
+ghost use Rattle.directory.specs.Listed.{countOf, entriesOf, placeOf, Listed, Placed, NamedIn};
+use entries::child;
+use entries::colour;
+use entries::kind;
+use entries::left;
+use entries::names::compare;
+use entries::names::compare_name;
+use entries::right;
+use entries::rules::entry_fields;
+use kinds::EntryId;
+use kinds::Geometry;
+use kinds::Order;
+use kinds::Sector;
+
+// The sizes, how many sectors the directory has, and where in the work buffer they are listed.
+pub struct Directory {
+    pub geometry: Geometry,
+    pub sectors: usize,
+    pub list: usize,
+}
+
+impl Directory {
+    // How many entries there are.
+    pub fn count(self) -> usize
+        requires { ⌜ (self .geometry .bytes ≤ 4096) × (self .sectors < 0x1_0000_0000) ⌝ }
+        ensures { λ r. ⌜ r ≡ countOf self ⌝ }
+    {
+        self.geometry.entries() * self.sectors
+    }
+}
+
+// ---- entries by number
+
+// The byte where entry x starts.
+pub fn place(work: &[u32], d: Directory, x: EntryId) -> usize
+    requires { ⌜ Placed d (now work) (x .0) ⌝ }
+    ensures { λ r. ⌜ r ≡ placeOf d (now (work .entry)) (x .0) ⌝ }
+{
+    let g = d.geometry;
+    let list = d.list;
+    let per = g.entries();
+    let i = x.index();
+    Sector(work[list + i / per]).place(g) + 128 * (i % per)
+}
+
+pub fn kind_of(img: &[u8], work: &[u32], d: Directory, x: EntryId) -> u8
+    requires { ⌜ Listed d (now img) (now work) ⌝ }
+    requires { ⌜ x .0 < entriesOf d (now img) .count ⌝ }
+    ensures { λ r. ⌜ r ≡ kindOf (entriesOf d (now (img .entry)) .entry (x .0)) ⌝ }
+{
+    kind(img, place(work, d, x))
+}
+
+pub fn colour_of(img: &[u8], work: &[u32], d: Directory, x: EntryId) -> u8
+    requires { ⌜ Listed d (now img) (now work) ⌝ }
+    requires { ⌜ x .0 < entriesOf d (now img) .count ⌝ }
+    ensures { λ r. ⌜ r ≡ colourOf (entriesOf d (now (img .entry)) .entry (x .0)) ⌝ }
+{
+    colour(img, place(work, d, x))
+}
+
+pub fn left_of(img: &[u8], work: &[u32], d: Directory, x: EntryId) -> EntryId
+    requires { ⌜ Listed d (now img) (now work) ⌝ }
+    requires { ⌜ x .0 < entriesOf d (now img) .count ⌝ }
+    ensures { λ r. ⌜ r .0 ≡ leftOf (entriesOf d (now (img .entry)) .entry (x .0)) ⌝ }
+{
+    left(img, place(work, d, x))
+}
+
+pub fn right_of(img: &[u8], work: &[u32], d: Directory, x: EntryId) -> EntryId
+    requires { ⌜ Listed d (now img) (now work) ⌝ }
+    requires { ⌜ x .0 < entriesOf d (now img) .count ⌝ }
+    ensures { λ r. ⌜ r .0 ≡ rightOf (entriesOf d (now (img .entry)) .entry (x .0)) ⌝ }
+{
+    right(img, place(work, d, x))
+}
+
+pub fn child_of(img: &[u8], work: &[u32], d: Directory, x: EntryId) -> EntryId
+    requires { ⌜ Listed d (now img) (now work) ⌝ }
+    requires { ⌜ x .0 < entriesOf d (now img) .count ⌝ }
+    ensures { λ r. ⌜ r .0 ≡ childOf (entriesOf d (now (img .entry)) .entry (x .0)) ⌝ }
+{
+    child(img, place(work, d, x))
+}
+
+// Whether entry x is a storage or a stream.
+pub fn object(img: &[u8], work: &[u32], d: Directory, x: EntryId) -> bool
+    requires { ⌜ Listed d (now img) (now work) ⌝ }
+    requires { ⌜ x .0 < entriesOf d (now img) .count ⌝ }
+    ensures { λ r. ⌜ r ≡ isObject (entriesOf d (now (img .entry))) (x .0) ⌝ }
+{
+    let k = kind_of(img, work, d, x);
+    (k == 1) | (k == 2)
+}
+
+// ---- names
+
+// Whether the name of x comes before that of y.
+pub fn less(img: &[u8], work: &[u32], d: Directory, x: EntryId, y: EntryId) -> bool
+    requires { ⌜ Listed d (now img) (now work) ⌝ }
+    requires { ⌜ NamedIn (entriesOf d (now img)) (x .0) ⌝ }
+    requires { ⌜ NamedIn (entriesOf d (now img)) (y .0) ⌝ }
+    ensures { λ r. ⌜ r ≡ lessOf (entriesOf d (now (img .entry))) (x .0) (y .0) ⌝ }
+{
+    match compare(img, place(work, d, x), place(work, d, y)) {
+        Order::Less => true,
+        Order::Same => false,
+        Order::More => false,
+    }
+}
+
+// How a name lies to that of entry x.
+pub fn order_to(want: &[u16], img: &[u8], work: &[u32], d: Directory, x: EntryId) -> Order
+    requires { ⌜ Listed d (now img) (now work) ⌝ }
+    requires { ⌜ NamedIn (entriesOf d (now img)) (x .0) ⌝ }
+    ensures { λ r. ⌜ r ≡ ordering (now (want .entry)) (name (entriesOf d (now (img .entry)) .entry (x .0))) ⌝ }
+{
+    compare_name(want, img, place(work, d, x))
+}
+
+// ---- group 14
+
+pub fn entry_rules(img: &[u8], work: &[u32], d: Directory) -> bool
+    requires { ⌜ Listed d (now img) (now work) ⌝ }
+    ensures { λ r. ⌜ r ≡ entryRules (entriesOf d (now (img .entry))) ⌝ }
+{
+    let n = d.count();
+    let mut i = 0;
+    while i < n {
+        if !entry_fields(img, place(work, d, EntryId(i as u32)), i) {
+            return false;
+        }
+        i += 1;
+    }
+    true
+}
