@@ -1,56 +1,8 @@
 #!/usr/bin/env python3
 """Writes the images that the program `tables_run` reads, and the numbers that it must print.
 
-Each image stands behind its length, four bytes. The numbers are those that 01 gives, rule by rule: 0 where groups 10 to 13 hold."""
-import os
-import struct
-
-FREE, END, FATSECT, DIFSECT = 0xFFFFFFFF, 0xFFFFFFFE, 0xFFFFFFFD, 0xFFFFFFFC
-here = os.path.dirname(os.path.abspath(__file__))
-out = os.path.join(here, "..", "crates", "tables_run")
-
-
-def words(values):
-    return b"".join(struct.pack("<I", v) for v in values)
-
-
-def header(fats, difats, directory):
-    first = bytes.fromhex("D0CF11E0A1B11AE1") + bytes(16)
-    first += struct.pack("<HHHHH", 0x3E, 3, 0xFFFE, 9, 6) + bytes(6)
-    start = difats[0] if difats else END
-    first += words([0, len(fats), directory, 0, 4096, END, 0, start, len(difats)])
-    return first + words(fats[:109] + [FREE] * (109 - len(fats[:109])))
-
-
-def image(sectors, fats, difats, directory):
-    """An image of so many sectors with these table sectors and this chain for the directory."""
-    cells = [FREE] * (128 * len(fats))
-    for s in fats:
-        cells[s] = FATSECT
-    for s in difats:
-        cells[s] = DIFSECT
-    for s, t in zip(directory, directory[1:] + [END]):
-        cells[s] = t
-    body = [bytes(512) for _ in range(sectors)]
-    for k, s in enumerate(fats):
-        body[s] = words(cells[128 * k:128 * (k + 1)])
-    for k, s in enumerate(difats):
-        entries = fats[109 + 127 * k:109 + 127 * (k + 1)]
-        link = difats[k + 1] if k + 1 < len(difats) else END
-        body[s] = words(entries + [FREE] * (127 - len(entries)) + [link])
-    return header(fats, difats, directory[0]) + b"".join(body)
-
-
-def put(img, *patches):
-    img = bytearray(img)
-    for at, value in patches:
-        img[at:at + 4] = struct.pack("<I", value)
-    return bytes(img)
-
-
-def byte(img, at, value):
-    return img[:at] + bytes([value]) + img[at + 1:]
-
+The numbers are those that 01 gives, rule by rule: 0 where groups 10 to 13 hold."""
+from images import DIFSECT, END, FATSECT, FREE, byte, image, put, write
 
 small = image(2, [0], [], [1])
 three = image(4, [2], [], [3, 0])
@@ -86,10 +38,4 @@ cases = [
     # the lowest number is given
     (byte(put(small, (44, 0)), 0, 0), 10), (put(small, (508, 1), (520, END)), 11), (put(small, (520, END), (48, END)), 12),
 ]
-with open(os.path.join(out, "stdin"), "wb") as f:
-    for img, _ in cases:
-        f.write(struct.pack("<I", len(img)) + img)
-with open(os.path.join(out, "stdout"), "w") as f:
-    for _, number in cases:
-        f.write("%d\n" % number)
-print(len(cases), "images,", os.path.getsize(os.path.join(out, "stdin")), "bytes")
+write("tables_run", cases)

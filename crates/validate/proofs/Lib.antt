@@ -1,0 +1,2 @@
+-- Laws for validation.
+pub mod Verdicts

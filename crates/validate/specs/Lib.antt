@@ -1,0 +1,3 @@
+-- What validation answers and leaves, group by group.
+pub mod Groups
+pub mod Passed

@@ -1,0 +1,76 @@
+"""Images for the programs of the gate, built field by field from the papers."""
+import os
+import struct
+
+FREE, END, FATSECT, DIFSECT = 0xFFFFFFFF, 0xFFFFFFFE, 0xFFFFFFFD, 0xFFFFFFFC
+NONE = 0xFFFFFFFF
+
+
+def words(values):
+    return b"".join(struct.pack("<I", v) for v in values)
+
+
+def header(fats, difats, directory):
+    first = bytes.fromhex("D0CF11E0A1B11AE1") + bytes(16)
+    first += struct.pack("<HHHHH", 0x3E, 3, 0xFFFE, 9, 6) + bytes(6)
+    start = difats[0] if difats else END
+    first += words([0, len(fats), directory, 0, 4096, END, 0, start, len(difats)])
+    return first + words(fats[:109] + [FREE] * (109 - len(fats[:109])))
+
+
+def image(sectors, fats, difats, directory):
+    """An image of so many sectors with these table sectors and this chain for the directory."""
+    cells = [FREE] * (128 * len(fats))
+    for s in fats:
+        cells[s] = FATSECT
+    for s in difats:
+        cells[s] = DIFSECT
+    for s, t in zip(directory, directory[1:] + [END]):
+        cells[s] = t
+    body = [bytes(512) for _ in range(sectors)]
+    for k, s in enumerate(fats):
+        body[s] = words(cells[128 * k:128 * (k + 1)])
+    for k, s in enumerate(difats):
+        entries = fats[109 + 127 * k:109 + 127 * (k + 1)]
+        link = difats[k + 1] if k + 1 < len(difats) else END
+        body[s] = words(entries + [FREE] * (127 - len(entries)) + [link])
+    return header(fats, difats, directory[0]) + b"".join(body)
+
+
+def put(img, *patches):
+    img = bytearray(img)
+    for at, value in patches:
+        img[at:at + 4] = struct.pack("<I", value)
+    return bytes(img)
+
+
+def byte(img, at, value):
+    return img[:at] + bytes([value]) + img[at + 1:]
+
+
+def entry(name=None, kind=0, colour=1, left=NONE, right=NONE, child=NONE):
+    """One entry's 128 bytes; without a name it is blank."""
+    if name is None:
+        return bytes(68) + words([NONE] * 3) + bytes(48)
+    text = name.encode("utf-16-le") + bytes(2)
+    return text + bytes(64 - len(text)) + struct.pack("<HBB", len(text), kind, colour) + words([left, right, child]) + bytes(48)
+
+
+def with_entries(entries):
+    """An image of one FAT sector and a directory of these entries; blank entries fill the last sector."""
+    entries = entries + [entry()] * (-len(entries) % 4)
+    n = len(entries) // 4
+    whole = image(1 + n, [0], [], list(range(1, 1 + n)))
+    return whole[:1024] + b"".join(entries)
+
+
+def write(program, cases):
+    """Writes what the program reads, each image behind its length, and the numbers that it must print."""
+    out = os.path.join(os.path.dirname(os.path.abspath(__file__)), "..", "crates", program)
+    with open(os.path.join(out, "stdin"), "wb") as f:
+        for img, _ in cases:
+            f.write(struct.pack("<I", len(img)) + img)
+    with open(os.path.join(out, "stdout"), "w") as f:
+        for _, number in cases:
+            f.write("%d\n" % number)
+    print(len(cases), "images,", os.path.getsize(os.path.join(out, "stdin")), "bytes")
