@@ -1,3 +1,5 @@
 -- Laws for the functions on the directory.
 pub mod Places
 pub mod Orders
+pub mod Sectors
+pub mod Room

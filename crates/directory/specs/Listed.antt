@@ -9,6 +9,7 @@ use Rattle.format.specs.Layout.Directory.{Directory}
 use Rattle.format.specs.Layout.Volume.{directorySectorsOf, directory}
 use Rattle.kinds.specs.Sizes.{geometryOf}
 use Rattle.tables.specs.Sized.{ImageSized}
+use Rattle.tables.specs.declared.Tables.{Tables}
 use Rattle.entries.specs.Entry.{Named}
 use Rattle.directory.specs.declared.Directory.{Directory as Where}
 
@@ -24,6 +25,10 @@ abbrev pub placeOf : Where → List ℕ → ℕ → ℕ
 placeOf d work x =
     let g = geometryOf (d .geometry) in
     sectorPlace g (getD work (d .list + x / entriesIn g) 0) + 128 * (x % entriesIn g)
+
+-- the list at the start of the work buffer
+abbrev pub directoryAt : Tables → ℕ → Where
+directoryAt t n = record { geometry = t .geometry; sectors = n; list = 0 }
 
 -- an entry whose sector stands in the list
 pub record Placed (d : Where) (work : List ℕ) (x : ℕ) : Type 0 where

@@ -19,6 +19,8 @@ use kinds::Geometry;
 use kinds::Order;
 use kinds::Sector;
 
+pub mod listed;
+
 // The sizes, how many sectors the directory has, and where in the work buffer they are listed.
 pub struct Directory {
     pub geometry: Geometry,

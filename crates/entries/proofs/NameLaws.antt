@@ -1,39 +1,23 @@
 -- The name of an entry unit by unit, the rule of its fields, and what group 14 says of its length.
-use Prim.Native.Nat.{ℕ, zero, suc, _-_, _*_, _/_, _%_, _≤_, _<_}
-use mathlib.Core.Path.{_≡_, refl, ap, sym, _∙_}
-use mathlib.Core.List.{[], _∷_}
-use mathlib.Core.Bool.{Bool, true, false, _&&_, and-true, and-false}
+use Prim.Native.Nat.{ℕ, _-_, _*_, _/_, _%_, _≤_, _<_}
+use mathlib.Core.Path.{_≡_, ap, sym, _∙_}
+use mathlib.Core.Bool.{true, false, _&&_, and-true, and-false}
 use native.Mathlib.Omega.{arith}
-use native.Mathlib.Decide.{ℕ-discrete, decLt}
+use native.Mathlib.Decide.{decLt}
 use borrow.Author.Tests.{lt-leb, le-leb, ne-eqb}
 use lib.Dec.{eqb}
 use lib.ListN.{length, getD}
-use Rattle.format.specs.Basics.Lists.{all, allBelow, listBelow}
+use Rattle.format.specs.Basics.Lists.{allBelow}
 use Rattle.format.specs.Basics.Bytes.{Bytes, part, number, u16at}
 use Rattle.format.specs.Layout.Name.{fold, legalUnit, legalName}
 use Rattle.format.specs.Layout.Entry.{nameBytes, nameUnit, name}
 use Rattle.format.specs.Rules.Entries.{nameFields, entryFields, blankFields, storageFields, streamFields}
-use Rattle.theory.proofs.Tests.{clash, all-append}
+use Rattle.theory.proofs.Tests.{clash}
 use Rattle.theory.proofs.Below.{length-below, getD-below}
+use Rattle.theory.proofs.Loops.{all-below}
 use Rattle.theory.proofs.ByteTests.{zero-number, zero-split}
 use Rattle.entries.specs.Entry.{entryAt, Field, Named, NamedAt, unitLegal}
 use Rattle.entries.proofs.EntryLaws.{fields-other}
-
--- ---- tests over the numbers below a limit
-
-pub below-not : (p : ℕ → Bool) (n i : ℕ) → i < n → p i ≡ false → allBelow n p ≡ false
-unfolding allBelow
-below-not p zero i h e = absurd (omega arith)
-below-not p (suc n) i h e =
-    elim (ℕ-discrete i n) [
-      | yes q ↦ ap (λ b. allBelow n p && b) (ap p (sym q) ∙ e) ∙ and-false (allBelow n p)
-      | no q ↦ rw (below-not p n i (omega arith) e)
-    ]
-
-all-below : (p : ℕ → Bool) (f : ℕ → ℕ) (n : ℕ) → all p (listBelow n f) ≡ allBelow n (λ i. p (f i))
-unfolding listBelow allBelow all
-all-below p f zero = refl
-all-below p f (suc n) = all-append p (listBelow n f) (f n ∷ []) ∙ rw (all-below p f n, and-true (p (f n)))
 
 -- ---- the name
 
@@ -54,7 +38,7 @@ module _ (e : Bytes) where
   unfolding legalName name
   legal-is l h =
       rw (length-below (nameBytes e / 2 - 1) (nameUnit e), le-leb 1 (nameBytes e / 2 - 1) (omega arith), le-leb (nameBytes e / 2 - 1) 31 (omega arith))
-      (all-below legalUnit (nameUnit e) (nameBytes e / 2 - 1))
+      (all-below legalUnit (nameBytes e / 2 - 1) (nameUnit e))
 
   -- ---- the rule of its fields
 

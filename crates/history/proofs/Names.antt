@@ -1,74 +1,26 @@
 -- Equal names have the same place in the order and are legal together, and a name is equal to at most one of ordered siblings.
 use Prim.Native.Nat.{ℕ, _-_, _≤_, _<_}
-use mathlib.Core.Path.{_≡_, refl, sym, ap, ap₂, _∙_}
+use mathlib.Core.Path.{_≡_, refl, sym, ap, _∙_}
 use mathlib.Core.Logic.{_≢_, _⊎_, inl, inr}
 use mathlib.Core.Bool.{Bool, true, false, not, _&&_, _||_}
 use mathlib.Core.List.{List, [], _∷_, map}
 use native.Mathlib.Omega.{arith}
 use native.Mathlib.Decide.{decLt}
-use lib.Dec.{eqb, ltb, leb}
+use lib.Dec.{eqb, leb}
 use lib.ListN.{length, length-map}
-use borrow.Author.Tests.{eqb-true, eqb-false, ne-eqb, le-ltb, le-leb, lt-leb}
-use Rattle.format.specs.Basics.Lists.{all, equal}
-use Rattle.format.specs.Layout.Name.{Name, slash, illegal, legalUnit, legalName, fold, unitsLess, nameLess, nameEqual}
+use borrow.Author.Tests.{eqb-false, ne-eqb, le-leb, lt-leb, not-true}
+use Rattle.format.specs.Basics.Lists.{all}
+use Rattle.format.specs.Layout.Name.{Name, slash, illegal, legalUnit, legalName, fold, nameLess, nameEqual}
 use Rattle.theory.proofs.Tests.{both, and-true-of, clash, neither}
-
-equal-is : (a b : List ℕ) → equal a b ≡ true → a ≡ b
-unfolding equal
-equal-is [] [] h = refl
-equal-is [] (y ∷ b) h = absurd (clash h refl)
-equal-is (x ∷ a) [] h = absurd (clash h refl)
-equal-is (x ∷ a) (y ∷ b) h = ap₂ _∷_ (eqb-true x y (both (eqb x y) (equal a b) h .0)) (equal-is a b (both (eqb x y) (equal a b) h .1))
+use Rattle.theory.proofs.NameOrder.{equal-same}
+use Rattle.theory.proofs.Trees.Names.{names-ordered}
 
 pub equal-folded : (a b : Name) → nameEqual a b ≡ true → map fold a ≡ map fold b
 unfolding nameEqual
-equal-folded a b h = equal-is (map fold a) (map fold b) h
+equal-folded a b h = equal-same (map fold a) (map fold b) h
 
 folded-length : (a b : Name) → map fold a ≡ map fold b → length a ≡ length b
 folded-length a b e = sym (length-map a fold) ∙ ap length e ∙ length-map b fold
-
-or-second : (a b : Bool) → (a || b) ≡ true → (a ≡ false → b ≡ true)
-or-second true b h z = absurd (clash refl z)
-or-second false b h z = h
-
-units-asym : (a b : List ℕ) → unitsLess a b ≡ true → unitsLess b a ≡ true → ⊥
-unfolding unitsLess
-units-asym [] [] h k = clash h refl
-units-asym [] (y ∷ b) h k = clash k refl
-units-asym (x ∷ a) [] h k = clash h refl
-units-asym (x ∷ a) (y ∷ b) h k =
-    elim (decLt x y) [
-      | yes p ↦
-          let q = or-second (ltb y x) (eqb y x && unitsLess b a) k (le-ltb y x (omega arith)) in
-          omega (arith, eqb-true y x (both (eqb y x) (unitsLess b a) q .0))
-      | no n ↦
-          let q = or-second (ltb x y) (eqb x y && unitsLess a b) h (le-ltb x y (omega arith)) in
-          let e = eqb-true x y (both (eqb x y) (unitsLess a b) q .0) in
-          let r = or-second (ltb y x) (eqb y x && unitsLess b a) k (le-ltb y x (omega arith)) in
-          units-asym a b (both (eqb x y) (unitsLess a b) q .1) (both (eqb y x) (unitsLess b a) r .1)
-    ]
-
-less-asym : (a b : Name) → nameLess a b ≡ true → nameLess b a ≡ true → ⊥
-unfolding nameLess
-less-asym a b h k =
-    elim (decLt (length a) (length b)) [
-      | yes p ↦
-          let q = or-second (ltb (length b) (length a)) (eqb (length b) (length a) && unitsLess (map fold b) (map fold a)) k
-          (le-ltb (length b) (length a) (omega arith)) in
-          omega (arith, eqb-true (length b) (length a) (both (eqb (length b) (length a)) (unitsLess (map fold b) (map fold a)) q .0))
-      | no n ↦
-          let q = or-second (ltb (length a) (length b)) (eqb (length a) (length b) && unitsLess (map fold a) (map fold b)) h
-          (le-ltb (length a) (length b) (omega arith)) in
-          let e = eqb-true (length a) (length b) (both (eqb (length a) (length b)) (unitsLess (map fold a) (map fold b)) q .0) in
-          let r = or-second (ltb (length b) (length a)) (eqb (length b) (length a) && unitsLess (map fold b) (map fold a)) k
-          (le-ltb (length b) (length a) (omega arith)) in
-          units-asym (map fold a) (map fold b) (both (eqb (length a) (length b)) (unitsLess (map fold a) (map fold b)) q .1)
-          (both (eqb (length b) (length a)) (unitsLess (map fold b) (map fold a)) r .1)
-    ]
-
-less-folded : (a b c : Name) → map fold b ≡ map fold c → nameLess a b ≡ nameLess a c
-unfolding nameLess
-less-folded a b c e = rw (folded-length b c e, e)
 
 -- what equals n stands at one place of the order
 pub equal-lower-not-upper : (n a b : Name) → nameEqual n a ≡ true → nameLess a b ≡ true → nameEqual n b ≡ false
@@ -77,9 +29,8 @@ equal-lower-not-upper n a b p l = go (nameEqual n b) refl
     go : (t : Bool) → nameEqual n b ≡ t → t ≡ false
     go false e = refl
     go true e =
-        let k = sym (equal-folded n a p) ∙ equal-folded n b e in
-        let self : nameLess a a ≡ true = less-folded a a b k ∙ l in
-        absurd (less-asym a a self self)
+        let below = names-ordered .equal-left n a b p ∙ l in
+        absurd (clash below (names-ordered .equal-left n b b e ∙ names-ordered .strict b))
 
 pub equal-upper-not-lower : (n a b : Name) → nameEqual n b ≡ true → nameLess a b ≡ true → nameEqual n a ≡ false
 equal-upper-not-lower n a b p l = go (nameEqual n a) refl
@@ -89,11 +40,7 @@ equal-upper-not-lower n a b p l = go (nameEqual n a) refl
     go true e = absurd (clash p (equal-lower-not-upper n a b e l))
 
 pub equal-not-two-above : (n a b c : Name) → nameEqual n a ≡ true → nameLess a b ≡ true → nameLess b c ≡ true → nameEqual n c ≡ false
-equal-not-two-above n a b c p l k = go (nameEqual n c) refl
-  where
-    go : (t : Bool) → nameEqual n c ≡ t → t ≡ false
-    go false e = refl
-    go true e = absurd (less-asym a b l (less-folded b a c (sym (equal-folded n a p) ∙ equal-folded n c e) ∙ k))
+equal-not-two-above n a b c p l k = equal-lower-not-upper n a c p (names-ordered .trans a b c l k)
 
 -- ---- legal names
 
@@ -130,10 +77,6 @@ fold-keeps-other u w k e h p z =
     not-capital (inl p) a b e = omega arith
     not-capital (inr (inl p)) a b e = omega arith
     not-capital (inr (inr p)) a b e = omega (arith, p .0, p .1)
-
-not-true : (b : Bool) → not b ≡ true → b ≡ false
-not-true true h = sym h
-not-true false h = refl
 
 legal-unit : (u w : ℕ) → fold u ≡ fold w → legalUnit w ≡ true → legalUnit u ≡ true
 unfolding legalUnit illegal

@@ -15,6 +15,7 @@ use Rattle.format.specs.Calls.Paths.{Path, names, wellFormed}
 use Rattle.format.specs.Calls.Find.{Child, missing, present, childNamed, Found, at, refused, descend, resolve, needStream, resolveStream, enter, foundChild}
 use Rattle.theory.proofs.Counts.{count-append, bit-self}
 use Rattle.theory.proofs.Tests.{clash}
+use Rattle.theory.proofs.Trees.Paths.{descend-refused}
 use Rattle.history.proofs.Names.{legal-name}
 use Rattle.history.proofs.Hits.{advance, hits, hits-end, hits-off, isNone, own-hit-off, ownHit, rest}
 use Rattle.history.proofs.Siblings.{advance-fails, advance-fits, child-found, childHits, hits-child, own-hit-fits}
@@ -56,11 +57,6 @@ child-hits-present : (d : Directory) (ns : List Name) (y : ℕ) (b : Forest) →
     childHits d ns (present y b) ≡ cond (isStream (d .entry y) && isNone ns) (y ∷ []) [] ++ hits d (rest ns) b
 unfolding childHits
 child-hits-present d ns y b = refl
-
-pub descend-refused : (d : Directory) (a : ℕ) (ns : List Name) → descend d (refused a) ns ≡ refused a
-unfolding descend enter
-descend-refused d a [] = refl
-descend-refused d a (n ∷ ns) = descend-refused d a ns
 
 descend-hits : (d : Directory) (ns : List Name) (e : ℕ) (t : Forest) → everyNode (sidesOrdered d) t ≡ true → everyNode (streamIsLeaf d) t ≡ true →
     (isStream (d .entry e) ≡ true → t ≡ empty) →

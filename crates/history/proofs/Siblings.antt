@@ -14,6 +14,7 @@ use Rattle.format.specs.Rules.Trees.{everyNode, less, sidesOrdered, greater}
 use Rattle.format.specs.Calls.Find.{Child, missing, present, orElse, childNamed, at}
 use Rattle.theory.proofs.Counts.{count-append, bit-self}
 use Rattle.theory.proofs.Tests.{both, all-at}
+use Rattle.theory.proofs.Trees.Nodes.{everyNode-apart}
 use Rattle.history.proofs.Names.{equal-lower-not-upper, equal-upper-not-lower, equal-not-two-above}
 use Rattle.history.proofs.Hits.{advance, hits, hits-off, isDone, isNone, off, own-hit-off, ownHit, rest}
 
@@ -60,18 +61,6 @@ pub record Sibling (d : Directory) (n : Name) (t : Forest) (y : ℕ) (b : Forest
   pub fits : nameEqual n (name (d .entry y)) ≡ true
   pub node : (q : Forest → ℕ → Forest → Forest → Bool) → everyNode q t ≡ true → (l : Forest) × (r : Forest) × (q l y b r ≡ true) × (everyNode q b ≡ true)
 
-pub every-parts : (q : Forest → ℕ → Forest → Forest → Bool) (l : Forest) (y : ℕ) (b r : Forest) → everyNode q (node l y b r) ≡ true →
-    (q l y b r ≡ true) × (everyNode q l ≡ true) × (everyNode q b ≡ true) × (everyNode q r ≡ true)
-unfolding everyNode
-every-parts q l y b r h =
-    let a = both (q l y b r) (everyNode q l && (everyNode q b && everyNode q r)) h .1 in
-    let c = both (everyNode q l) (everyNode q b && everyNode q r) a .1 in (
-      both (q l y b r) (everyNode q l && (everyNode q b && everyNode q r)) h .0,
-      both (everyNode q l) (everyNode q b && everyNode q r) a .0,
-      both (everyNode q b) (everyNode q r) c .0,
-      both (everyNode q b) (everyNode q r) c .1,
-    )
-
 missing-not-present : (z : ℕ) (c : Forest) → missing ≡ present z c → ⊥
 missing-not-present z c h = let k : _≡_ {A = ℕ} 0 1 = cc in omega arith
 
@@ -90,7 +79,7 @@ child-found d n (node l y b r) z c h =
         (childNamed d n l ≡ present z c → Sibling d n l z c) → (childNamed d n r ≡ present z c → Sibling d n r z c) → Sibling d n (node l y b r) z c
     go (present a f) t e u h p q =
         let s = p (e ∙ h) in
-        record { here = omega (arith, count-siblings z, s .here); fits = s .fits; node = λ Q w. s .node Q (every-parts Q l y b r w .1) }
+        record { here = omega (arith, count-siblings z, s .here); fits = s .fits; node = λ Q w. s .node Q (everyNode-apart Q l y b r w .1) }
     go missing true e u h p q =
         let ye : y ≡ z = cc in
         let bc : b ≡ c = cc in
@@ -98,11 +87,11 @@ child-found d n (node l y b r) z c h =
           here = omega (arith, count-siblings z, bit-self z, ap (λ k. bit (eqb z k)) ye);
           fits = rw ye at u;
           node = λ Q w. subst (λ k. (l : Forest) × (r : Forest) × (Q l k c r ≡ true) × (everyNode Q c ≡ true)) ye
-              (subst (λ k. (l : Forest) × (r : Forest) × (Q l y k r ≡ true) × (everyNode Q k ≡ true)) bc (l, r, every-parts Q l y b r w .0, every-parts Q l y b r w .2));
+              (subst (λ k. (l : Forest) × (r : Forest) × (Q l y k r ≡ true) × (everyNode Q k ≡ true)) bc (l, r, everyNode-apart Q l y b r w .0, everyNode-apart Q l y b r w .2));
         }
     go missing false e u h p q =
         let s = q h in
-        record { here = omega (arith, count-siblings z, s .here); fits = s .fits; node = λ Q w. s .node Q (every-parts Q l y b r w .3) }
+        record { here = omega (arith, count-siblings z, s .here); fits = s .fits; node = λ Q w. s .node Q (everyNode-apart Q l y b r w .3) }
 
 -- ---- the streams that a child leads to
 
@@ -135,7 +124,7 @@ unfolding hits childNamed childHits orElse
 hits-child d n ns empty h = refl
 hits-child d n ns broken h = refl
 hits-child d n ns (node l y b r) h =
-    let p = every-parts (sidesOrdered d) l y b r h in
+    let p = everyNode-apart (sidesOrdered d) l y b r h in
     go (nameEqual n (name (d .entry y))) refl (childNamed d n l) refl (p .0) (hits-child d n ns l (p .1)) (hits-child d n ns r (p .3))
   where
     go : (t : Bool) → nameEqual n (name (d .entry y)) ≡ t → (k : Child) → childNamed d n l ≡ k → sidesOrdered d l y b r ≡ true →

@@ -7,8 +7,8 @@ use mathlib.Core.Bool.{true}
 use mathlib.Core.Path.{_≡_, sym, _∙_, ap}
 use Rattle.format.specs.Layout.Name.{legalUnit}
 use Rattle.theory.proofs.Tests.{below-of}
+use Rattle.theory.proofs.Loops.{below-not}
 use Rattle.entries.specs.Entry.{entryAt, unitLegal}
-use Rattle.entries.proofs.NameLaws.{below-not}
 use Rattle.entries.proofs.rules.legal_units.Statement.{statement}
 use Rattle.entries.proofs.rules.legal_units.Tie as tie
 

@@ -1,0 +1,82 @@
+-- The directory's sectors are those of a chain, and the list of them that the chain's walk leaves.
+use Prim.Native.Nat.{ℕ, _+_, _≤_, _<_}
+use mathlib.Core.Path.{_≡_, _∙_, ap, ap₂}
+use mathlib.Core.Bool.{true}
+use mathlib.Core.List.{List}
+use native.Mathlib.Omega.{arith}
+use lib.Dec.{leb}
+use lib.ListN.{length, getD}
+use borrow.Author.Tests.{leb-true}
+use Rattle.format.specs.Basics.Bytes.{Bytes, u32at}
+use Rattle.format.specs.Layout.Geometry.{Geometry, sectorCount}
+use Rattle.format.specs.Layout.Chain.{END, chain, units}
+use Rattle.format.specs.Layout.Header.{directoryStart}
+use Rattle.format.specs.Layout.Tables.{fatCell, sectorSpace}
+use Rattle.format.specs.Layout.Directory.{directorySectors}
+use Rattle.format.specs.Layout.Volume.{directorySectorsOf, volume}
+use Rattle.format.specs.Rules.Directory.{someChain, directoryRules}
+use Rattle.kinds.specs.Sizes.{geometryOf}
+use Rattle.theory.specs.Links.{Linked}
+use Rattle.theory.proofs.Tests.{both}
+use Rattle.theory.proofs.Counts.{count-at}
+use Rattle.theory.proofs.Chains.{chain-linked, follow-units, linked-below, linked-short}
+use Rattle.tables.specs.Work.{Holds}
+use Rattle.tables.specs.Listed.{Listed as FatListed}
+use Rattle.tables.specs.declared.Tables.{Tables}
+use Rattle.chains.specs.Answers.{number}
+use Rattle.directory.specs.Listed.{directoryAt, Listed}
+
+module _ (g : Geometry) (img : Bytes) (h : directoryRules (volume g img) ≡ true) where
+  -- the two parts of group 13
+  rules : (leb 1 (length (directorySectorsOf g img)) ≡ true) × (chain (fatCell g img) (sectorCount g img) (length (directorySectorsOf g img)) (u32at img 48) ≡ true)
+  unfolding directoryRules someChain volume sectorSpace directoryStart
+  rules = both (leb 1 (length (directorySectorsOf g img))) (chain (fatCell g img) (sectorCount g img) (length (directorySectorsOf g img)) (u32at img 48)) h
+
+  pub directory-some : 1 ≤ length (directorySectorsOf g img)
+  directory-some = leb-true 1 (length (directorySectorsOf g img)) (rules .0)
+
+  pub directory-chain : chain (fatCell g img) (sectorCount g img) (length (directorySectorsOf g img)) (u32at img 48) ≡ true
+  directory-chain = rules .1
+
+  pub directory-units : units (fatCell g img) (length (directorySectorsOf g img)) (u32at img 48) ≡ directorySectorsOf g img
+  unfolding directorySectorsOf directorySectors directoryStart sectorSpace
+  directory-units = follow-units (fatCell g img) (sectorCount g img) (sectorCount g img) (u32at img 48)
+
+  pub directory-linked : Linked (fatCell g img) (sectorCount g img) (directorySectorsOf g img)
+  directory-linked = rw directory-units at (chain-linked (fatCell g img) (sectorCount g img) (length (directorySectorsOf g img)) (u32at img 48) directory-chain .0)
+
+  pub directory-few : sectorCount g img ≤ END → length (directorySectorsOf g img) ≤ sectorCount g img
+  directory-few l = linked-short (fatCell g img) (sectorCount g img) l (directorySectorsOf g img) directory-linked
+
+  directory-below : (k : ℕ) → k < length (directorySectorsOf g img) → getD (directorySectorsOf g img) k 0 < sectorCount g img
+  directory-below k l = linked-below (fatCell g img) (sectorCount g img) (directorySectorsOf g img) directory-linked _ (count-at (directorySectorsOf g img) k 0 l)
+
+-- the walk that lists the chain: what it is called with, and what it leaves
+module _ {img : Bytes} {w : List ℕ} (t : Tables) (n s : ℕ) (l : FatListed (geometryOf (t .geometry)) img w (t .sectors) (t .list))
+    (e : n ≡ length (directorySectorsOf (geometryOf (t .geometry)) img)) (d : s ≡ u32at img 48) (h : directoryRules (volume (geometryOf (t .geometry)) img) ≡ true) where
+  abbrev g : Geometry
+  g = geometryOf (t .geometry)
+
+  few : n ≤ sectorCount g img
+  few = omega (arith, directory-few g img h (omega (arith, l .sized .few)))
+
+  pub listing-chain : chain (fatCell g img) (sectorCount g img) n s ≡ true
+  listing-chain = rw (e, d) (directory-chain g img h)
+
+  pub listing-room : 0 + n ≤ t .list
+  listing-room = omega (arith, few, l .apart)
+
+  units-are : units (fatCell g img) n s ≡ directorySectorsOf g img
+  units-are = ap₂ (λ k u. units (fatCell g img) k u) e d ∙ directory-units g img h
+
+  pub listing-left : {w′ : List ℕ} → Holds w′ 0 n (number (units (fatCell g img) n s)) → Listed (directoryAt t n) img w′
+  listing-left a =
+      record {
+        sized = l .sized;
+        count = e;
+        some = omega (arith, directory-some g img h);
+        few = few;
+        room = a .room;
+        here = λ k p. a .here k p ∙ ap (λ xs. getD xs k 0) units-are;
+        below = λ k p. directory-below g img h k (omega arith);
+      }
