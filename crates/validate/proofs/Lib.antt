@@ -1,2 +1,3 @@
 -- Laws for validation.
 pub mod Verdicts
+pub mod Walks
