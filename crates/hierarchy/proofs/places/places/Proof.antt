@@ -1,0 +1,42 @@
+use borrow.Author.Needs.{needs}
+use native.Mathlib.Omega.{arith}
+use Prim.Native.Nat.{_-_, _≤_, _<_}
+use mathlib.Core.Path.{_≡_, sym, _∙_}
+use Rattle.directory.specs.Listed.{entriesOf}
+use Rattle.directory.proofs.Places.{count-is, count-few}
+use mathlib.Core.Bool.{true}
+use mathlib.Core.Logic.{inl, inr, ⊎-elim}
+use Rattle.format.specs.Basics.Lists.{allBelow}
+use Rattle.theory.specs.TreeOrder.{placeRight}
+use Rattle.theory.proofs.Loops.{below-none, said-yes, said-no}
+use Rattle.theory.proofs.Trees.Nodes.{object-stands}
+use Rattle.theory.proofs.Trees.Passes.{places-more, places-fail, places-end}
+use Rattle.hierarchy.proofs.places.places.Statement.{statement}
+use Rattle.hierarchy.proofs.places.places.Tie as tie
+
+abbrev Inv-loop : tie.InvT-loop
+Inv-loop img work d n i₀ i = (i ≤ n) × (allBelow i (placeRight (entriesOf d img)) ≡ true)
+
+abbrev μ-loop : tie.MeasureT-loop
+μ-loop img work d n i₀ i = n - i
+
+-- the entry of a turn
+inside : (c : tie.In-loop Inv-loop μ-loop) → let p = c .before .before .before .before .before .args in c .before .loop .i < entriesOf (p .d) (p .img .now) .count
+inside c = omega (arith, count-is (c .before .before .before .before .before .pre .0), c .before .before .count .ensures)
+
+pub places-spec : {M : Type 1} → statement M
+places-spec =
+    tie.close
+    (tie.spec Inv-loop μ-loop
+    (λ c κs. let l = c .before .before .pre .0 in (l .sized .narrow, omega (arith, l .few, l .sized .few)))  -- count-requires
+    (λ c. (omega arith, below-none _))  -- loop-holds
+    (λ c. omega (arith, c .before .before .count .ensures, count-few (c .before .before .before .before .before .pre .0)))  -- cast-x
+    (λ c κs. (c .before .before .before .before .before .pre .0, inside c))  -- object-requires
+    (λ c κs. let p = c .before .before .before .before .before .before .before .pre in (p .0, (p .1 .0, object-stands _ (p .1 .1) _ (inside (c .before .before)) (sym (c .before .object .ensures) ∙ c .if1 .taken))))  -- place-ok-requires
+    (λ c. sym (places-fail _ _ (inside (c .before .before .before .before)) (sym (c .before .before .before .object .ensures) ∙ c .before .before .if1 .taken) (said-no (c .if2 .taken) (c .before .place-ok .ensures))))  -- returns
+    (λ c. omega (arith, c .before .before .before .before .count .ensures, count-few (c .before .before .before .before .before .before .before .pre .0)))  -- add-i
+    (λ c. search needs)  -- loop-less
+    (λ c. (omega arith, places-more _ _ (⊎-elim (λ w. inr (said-yes (w .2 .left) (w .1 .ensures))) (λ w. inl (sym (c .before .object .ensures) ∙ w .left)) (c .if1 .came)) (c .before .before .before .loop .inv .1)))  -- loop-again
+    (λ c.
+    let n = count-is (c .before .before .before .before .before .pre .0) in
+    sym (places-end _ _ (omega (arith, n, c .before .before .count .ensures, c .before .loop .inv .0)) (omega (arith, n, c .before .before .count .ensures)) (c .before .loop .inv .1))))  -- returns-2

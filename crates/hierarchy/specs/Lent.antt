@@ -1,0 +1,19 @@
+-- The part of the work buffer that the walk over the trees is lent: from `base` on a mark for each entry, then a stack. The list of the directory's sectors stands before it.
+use Prim.Native.Nat.{ℕ, _+_, _≤_}
+use mathlib.Core.List.{List}
+use lib.ListN.{length}
+use Rattle.format.specs.Basics.Bytes.{Bytes}
+use Rattle.theory.specs.TreeWalk.{WalkRoom}
+use Rattle.directory.specs.Listed.{countOf, entriesOf, Listed}
+use Rattle.directory.specs.declared.Directory.{Directory as Where}
+
+-- room for the marks
+pub record Room (d : Where) (img : Bytes) (work : List ℕ) (base : ℕ) : Type 0 where
+  pub listed : Listed d img work
+  pub apart : d .list + d .sectors ≤ base
+  pub room : base + countOf d ≤ length work
+
+-- room for marks and stack, and no mark yet
+pub record Lent (d : Where) (img : Bytes) (work : List ℕ) (base : ℕ) : Type 0 where
+  pub room : Room d img work base
+  pub walk : WalkRoom (entriesOf d img) base work

@@ -1,0 +1,2 @@
+-- What the functions on the trees of the directory require.
+pub mod Lent
