@@ -18,8 +18,21 @@ def header(fats, difats, directory):
     return first + words(fats[:109] + [FREE] * (109 - len(fats[:109])))
 
 
-def image(sectors, fats, difats, directory):
-    """An image of so many sectors with these table sectors and this chain for the directory."""
+def entry(name=None, kind=0, colour=1, left=NONE, right=NONE, child=NONE):
+    """One entry's 128 bytes; without a name it is blank."""
+    if name is None:
+        return bytes(68) + words([NONE] * 3) + bytes(48)
+    text = name.encode("utf-16-le") + bytes(2)
+    fields = struct.pack("<HBB", len(text), kind, colour) + words([left, right, child])
+    return text + bytes(64 - len(text)) + fields + bytes(48)
+
+
+def root(child=NONE):
+    return entry("Root Entry", 5, child=child)
+
+
+def image(sectors, fats, difats, directory, entries=()):
+    """An image of so many sectors with these table sectors, and this chain for the directory, which holds these entries."""
     cells = [FREE] * (128 * len(fats))
     for s in fats:
         cells[s] = FATSECT
@@ -31,10 +44,20 @@ def image(sectors, fats, difats, directory):
     for k, s in enumerate(fats):
         body[s] = words(cells[128 * k:128 * (k + 1)])
     for k, s in enumerate(difats):
-        entries = fats[109 + 127 * k:109 + 127 * (k + 1)]
+        numbers = fats[109 + 127 * k:109 + 127 * (k + 1)]
         link = difats[k + 1] if k + 1 < len(difats) else END
-        body[s] = words(entries + [FREE] * (127 - len(entries)) + [link])
+        body[s] = words(numbers + [FREE] * (127 - len(numbers)) + [link])
+    entries = list(entries) or [root()]
+    entries += [entry()] * (4 * len(directory) - len(entries))
+    for k, s in enumerate(directory):
+        body[s] = b"".join(entries[4 * k:4 * (k + 1)])
     return header(fats, difats, directory[0]) + b"".join(body)
+
+
+def with_entries(entries):
+    """An image of one FAT sector and a directory of these entries; blank entries fill its last sector."""
+    n = (len(entries) + 3) // 4
+    return image(1 + n, [0], [], list(range(1, 1 + n)), entries)
 
 
 def put(img, *patches):
@@ -46,22 +69,6 @@ def put(img, *patches):
 
 def byte(img, at, value):
     return img[:at] + bytes([value]) + img[at + 1:]
-
-
-def entry(name=None, kind=0, colour=1, left=NONE, right=NONE, child=NONE):
-    """One entry's 128 bytes; without a name it is blank."""
-    if name is None:
-        return bytes(68) + words([NONE] * 3) + bytes(48)
-    text = name.encode("utf-16-le") + bytes(2)
-    return text + bytes(64 - len(text)) + struct.pack("<HBB", len(text), kind, colour) + words([left, right, child]) + bytes(48)
-
-
-def with_entries(entries):
-    """An image of one FAT sector and a directory of these entries; blank entries fill the last sector."""
-    entries = entries + [entry()] * (-len(entries) % 4)
-    n = len(entries) // 4
-    whole = image(1 + n, [0], [], list(range(1, 1 + n)))
-    return whole[:1024] + b"".join(entries)
 
 
 def write(program, cases):

@@ -1,6 +1,6 @@
 -- The first rule that does not hold decides.
 use Prim.Native.Nat.{ℕ, _≤_, _<_}
-use mathlib.Core.Path.{_≡_, refl, sym, _∙_, ap}
+use mathlib.Core.Path.{_≡_, refl, sym, _∙_, ap, subst}
 use mathlib.Core.Bool.{Bool, true, false}
 use mathlib.Core.List.{List}
 use native.Mathlib.Omega.{arith}
@@ -19,6 +19,8 @@ use Rattle.format.specs.Rules.Entries.{entryRules}
 use Rattle.format.specs.Rules.Trees.{treeRules}
 use Rattle.format.specs.Rules.Verdict.{check}
 use Rattle.format.specs.Calls.Buffers.{workCleared}
+use Rattle.kinds.specs.Numbers.{numberOf}
+use Rattle.kinds.specs.declared.Answer.{Answer}
 use Rattle.tables.specs.Sized.{ImageSized}
 use Rattle.tables.specs.Work.{WorkClear}
 use Rattle.tables.specs.Listed.{Listed, listPlace}
@@ -27,7 +29,9 @@ use Rattle.chains.specs.Answers.{lengthAnswer}
 use Rattle.chains.specs.declared.Length.{Length}
 use Rattle.chains.specs.declared.Length.the-variants.{Is, Never}
 use Rattle.validate.specs.Groups.{tableGroups, entryGroups, directoryVerdict}
-use Rattle.validate.specs.Passed.{TablesHold}
+use Rattle.validate.specs.Passed.{TablesHold, StageRight}
+use Rattle.validate.specs.declared.TableStage.{TableStage}
+use Rattle.validate.specs.declared.TableStage.the-variants.{Refused, Passed}
 
 module _ (g : Geometry) (img : Bytes) where
   -- ---- groups 10 to 13
@@ -94,6 +98,15 @@ module _ (g : Geometry) (img : Bytes) where
         room = omega (arith, wrote-cleared (workNeed (length img)) w w′ e l .long);
         clear = λ u h. cleared (workNeed (length img)) w w′ e u (omega (arith, z .many));
       }
+
+-- ---- the stage of groups 10 to 13, by its answer
+
+module _ (g : Geometry) (img : Bytes) (work : List ℕ) {r : TableStage} (s : StageRight g img work r) where
+  pub stage-refused : {a : Answer} → r ≡ Refused a → (k : ℕ) → numberOf a ≡ tableGroups g img k
+  stage-refused e = subst (λ x. StageRight g img work x) e s
+
+  pub stage-passed : {n : ℕ} → r ≡ Passed n → TablesHold g img work n
+  stage-passed e = subst (λ x. StageRight g img work x) e s
 
 -- ---- the directory's chain, by the answer about its length
 

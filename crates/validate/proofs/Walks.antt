@@ -1,20 +1,24 @@
 -- The work buffer for groups 14 and 15: the directory's list at its start, then marks without a mark, then room for a stack; the FAT's list behind.
-use Prim.Native.Nat.{ℕ, _+_, _*_, _≤_, _<_}
-use mathlib.Core.Path.{_≡_, sym, _∙_, ap}
+use Prim.Native.Nat.{ℕ, _+_, _*_, _≤_}
+use mathlib.Core.Path.{_≡_, _∙_}
 use mathlib.Core.Logic.{inr}
 use mathlib.Core.List.{List}
 use native.Mathlib.Omega.{arith}
-use lib.ListN.{length, getD}
+use lib.ListN.{length}
 use Rattle.format.specs.Basics.Bytes.{Bytes}
 use Rattle.format.specs.Layout.Geometry.{Geometry, sectorCount, entriesIn}
-use Rattle.format.specs.Layout.Volume.{directorySectorsOf}
 use Rattle.format.specs.Layout.Directory.{Directory}
 use Rattle.format.specs.Calls.Buffers.{workCleared}
 use Rattle.theory.specs.TreeWalk.{WalkRoom}
 use Rattle.tables.specs.Work.{Wrote}
 use Rattle.tables.specs.Listed.{Listed, listPlace}
 use Rattle.tables.proofs.WorkLaws.{cleared, wrote-cleared, listed-kept}
+use Rattle.tables.specs.declared.Tables.{Tables}
+use Rattle.directory.specs.declared.Directory.{Directory as Where}
+use Rattle.directory.specs.Listed.{entriesOf, directoryAt, Listed as DirectoryListed}
+use Rattle.directory.proofs.Places.{count-is}
 use Rattle.directory.proofs.Room.{walk-room}
+use Rattle.hierarchy.specs.Lent.{Lent}
 use Rattle.validate.specs.Passed.{TablesHold}
 
 module _ {g : Geometry} {img : Bytes} {w : List ℕ} {n : ℕ} (t : TablesHold g img w n) where
@@ -38,3 +42,9 @@ module _ {g : Geometry} {img : Bytes} {w : List ℕ} {n : ℕ} (t : TablesHold g
           room = omega (arith, room-before, room-in, clearing .long, r .long, k);
           clean = λ x h. r .outside (n + x) (inr (omega arith)) ∙ cleared (n + entriesIn g * n) w w₁ c (n + x) (omega (arith, k));
         }
+
+-- what the walk over the trees is lent
+pub walk-lent : {d : Where} {img : Bytes} {w : List ℕ} (t : Tables) (n : ℕ) → d ≡ directoryAt t n → DirectoryListed d img w → WalkRoom (entriesOf d img) n w → Lent d img w n
+walk-lent {d} {img} {w} t n e l r =
+    let a : d .list + d .sectors ≤ n = rw e (omega arith) in
+    record { room = record { listed = l; apart = a; room = omega (arith, r .room, count-is l) }; walk = r }

@@ -7,13 +7,13 @@ use Rattle.theory.proofs.Loops.{said-yes, said-no}
 use Rattle.frame.proofs.Final.{sized3}
 use Rattle.frame.proofs.Lengths.{allowed-short}
 use Rattle.tables.proofs.Allowed.{allowed-sized}
-use Rattle.tables_run.proofs.Verdicts.{length-breaks, work-short, groups-decide, clear-start}
-use Rattle.tables_run.proofs.first_verdict.Statement.{statement}
-use Rattle.tables_run.proofs.first_verdict.Tie as tie
+use Rattle.validate.proofs.Verdicts.{length-breaks, work-short, groups-decide, clear-start}
+use Rattle.validate.proofs.directory_verdict.Statement.{statement}
+use Rattle.validate.proofs.directory_verdict.Tie as tie
 
-pub first-verdict-spec : {M : Type 1} → statement M
+pub directory-verdict-spec : {M : Type 1} → statement M
 unfolding version3
-first-verdict-spec =
+directory-verdict-spec =
     tie.close
     (tie.spec
     (λ c κs. (omega arith, omega arith))  -- length-allowed-requires
@@ -25,6 +25,6 @@ first-verdict-spec =
     let z = allowed-sized version3 (c .before .before .before .before .before .before .before .before .before .before .before .args .img .now) sized3 (omega arith) (said-yes (c .before .before .before .before .before .before .before .if1 .left) (c .before .before .before .before .before .before .before .before .length-allowed .ensures)) in
     let w = c .before .before .before .before .before .before .before .before .before .before .before .args .work .now in
     let e = c .before .before .before .before .before .before .work-need .ensures in
-    (z, clear-start _ _ w _ z (omega (arith, c .before .before .before .before .before .if2 .left, e)) (c .before .before .before .zero-first .ensures ∙ ap (λ n. workCleared n w) e)))  -- first-groups-requires
+    (z, clear-start _ _ w _ z (omega (arith, c .before .before .before .before .before .if2 .left, e)) (c .before .before .before .zero-first .ensures ∙ ap (λ n. workCleared n w) e)))  -- groups-requires
     (λ c. search needs)  -- same-length
-    (λ c. c .before .before .first-groups .ensures ∙ groups-decide _ _ _ (said-yes (c .before .before .before .before .before .before .before .before .before .before .if1 .left) (c .before .before .before .before .before .before .before .before .before .before .before .length-allowed .ensures)) (omega (arith, c .before .before .before .before .before .before .before .before .if2 .left, c .before .before .before .before .before .before .before .before .before .work-need .ensures))))  -- returns-3
+    (λ c. c .before .before .groups .ensures ∙ groups-decide _ _ _ (said-yes (c .before .before .before .before .before .before .before .before .before .before .if1 .left) (c .before .before .before .before .before .before .before .before .before .before .before .length-allowed .ensures)) (omega (arith, c .before .before .before .before .before .before .before .before .if2 .left, c .before .before .before .before .before .before .before .before .before .work-need .ensures))))  -- returns-3

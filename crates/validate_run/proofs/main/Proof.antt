@@ -1,9 +1,9 @@
 use borrow.Author.Needs.{needs}
-use Rattle.tables_run.proofs.main.Statement.{statement}
-use Rattle.tables_run.proofs.main.Tie as tie
-use Rattle.tables_run.proofs.main.Reads as reads
-use Rattle.tables_run.proofs.main.Lts as lts
-use Rattle.tables_run.proofs.one.Reads as one-reads
+use Rattle.validate_run.proofs.main.Statement.{statement}
+use Rattle.validate_run.proofs.main.Tie as tie
+use Rattle.validate_run.proofs.main.Reads as reads
+use Rattle.validate_run.proofs.main.Lts as lts
+use Rattle.validate_run.proofs.one.Reads as one-reads
 
 abbrev Inv-loop : tie.InvT-loop
 Inv-loop turns₀ turns = Unit {0}

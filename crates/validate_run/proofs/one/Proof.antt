@@ -5,8 +5,8 @@ use mathlib.Core.List.{List, _++_}
 use native.Mathlib.Omega.{arith}
 use lib.ListN.{length, take, drop, length-append, length-drop}
 use lib.Seq.{length-take-le}
-use Rattle.tables_run.proofs.one.Statement.{statement}
-use Rattle.tables_run.proofs.one.Tie as tie
+use Rattle.validate_run.proofs.one.Statement.{statement}
+use Rattle.validate_run.proofs.one.Tie as tie
 
 -- the buffer has 65,536 bytes, whatever was read into its first n
 filled : (n : ℕ) (a b : List ℕ) → 65536 ≡ length b → n ≤ 65536 → length a ≡ length (take n b) → n ≤ length (a ++ drop n b)
@@ -29,9 +29,9 @@ one-spec =
     (λ c κs. search needs)  -- read-full-requires-2
     (λ c. search needs)  -- returns-3
     (λ c. filled _ (c .before .before .read-full2 .last .1 .0) (c .before .before .before .before .before .large-buffer .result) (c .before .before .before .before .before .large-buffer .ensures) (omega (arith, c .before .before .before .before .if2 .left)) (c .before .before .read-full2 .kept .1 .0))  -- array-share-prefix-image
-    (λ c. sym (length-take-le _ _ (filled _ (c .before .before .before .read-full2 .last .1 .0) (c .before .before .before .before .before .before .large-buffer .result) (c .before .before .before .before .before .before .large-buffer .ensures) (omega (arith, c .before .before .before .before .before .if2 .left)) (c .before .before .before .read-full2 .kept .1 .0))))  -- slice-aggregate-first-verdict
-    (λ c. search needs)  -- slice-aggregate-first-verdict-2
-    (λ c κs. search needs)  -- first-verdict-requires
+    (λ c. sym (length-take-le _ _ (filled _ (c .before .before .before .read-full2 .last .1 .0) (c .before .before .before .before .before .before .large-buffer .result) (c .before .before .before .before .before .before .large-buffer .ensures) (omega (arith, c .before .before .before .before .before .if2 .left)) (c .before .before .before .read-full2 .kept .1 .0))))  -- slice-aggregate-directory-verdict
+    (λ c. search needs)  -- slice-aggregate-directory-verdict-2
+    (λ c κs. search needs)  -- directory-verdict-requires
     (λ c κs. search needs)  -- number-requires
     (λ c. search needs)  -- cast-print-decimal
     (λ c κs. search needs)  -- print-decimal-requires

@@ -1,0 +1,129 @@
+#!/usr/bin/env python3
+"""Writes the images that the program `validate_run` reads, and the numbers that it must print.
+
+The numbers are those that 01 gives, rule by rule: 0 where groups 10 to 15 hold."""
+from images import DIFSECT, END, FATSECT, FREE, NONE, byte, entry, image, put, root, with_entries, write
+
+STORAGE, STREAM = 1, 2
+RED, BLACK = 0, 1
+
+
+def stream(name, colour=BLACK, left=NONE, right=NONE, child=NONE):
+    return entry(name, STREAM, colour, left, right, child)
+
+
+def storage(name, colour=BLACK, left=NONE, right=NONE, child=NONE):
+    return entry(name, STORAGE, colour, left, right, child)
+
+
+def patched(e, at, new):
+    return e[:at] + bytes(new) + e[at + len(new):]
+
+
+def named(units, number=None, end=(0, 0)):
+    """A stream with these units for a name, a number of name bytes of its own, and these two bytes behind the name."""
+    e = stream("x" * units)
+    e = patched(e, 2 * units, end)
+    return e if number is None else patched(e, 64, [number & 255, number >> 8])
+
+
+def one(e):
+    return with_entries([root(1), e])
+
+
+def siblings(*entries):
+    return with_entries([root(1)] + list(entries))
+
+
+# names of three letters in order: aaa, bbb, ..; seven of them in a balanced tree below the root
+def seven(names):
+    a, b, c, d, e, f, g = names
+    return with_entries([root(4), stream(a), stream(b, left=1, right=3), stream(c), stream(d, left=2, right=6),
+                         stream(e), stream(f, left=5, right=7), stream(g)])
+
+
+def spine(n, name=lambda i: "n%05d" % i, last=NONE):
+    """A tree that is all right sides, n deep."""
+    return with_entries([root(1)] + [stream(name(i), right=i + 1 if i < n else last) for i in range(1, n + 1)])
+
+
+rising = ["aaa", "bbb", "ccc", "ddd", "eee", "fff", "ggg"]
+
+
+small = image(2, [0], [], [1])
+three = image(4, [2], [], [3, 0])
+difat = image(112, list(range(110)), [110], [111])
+mixed = image(112, list(range(111, 1, -1)), [1], [0])
+tables = [
+    # accepted: one FAT sector; a chain of two; one DIFAT sector; table sectors in falling order
+    (small, 0), (three, 0), (difat, 0), (mixed, 0),
+    # lengths
+    (small[:1535], 1), (small[:1024], 1), (small + bytes(511), 1), (b"", 1),
+    # group 10, field by field; the minor version and the transaction number are free
+    (byte(small, 0, 0xD1), 10), (byte(small, 7, 0), 10), (byte(small, 8, 1), 10), (byte(small, 23, 1), 10),
+    (byte(small, 26, 4), 10), (byte(small, 28, 0xFF), 10), (byte(small, 30, 12), 10), (byte(small, 32, 7), 10),
+    (byte(small, 34, 1), 10), (byte(small, 39, 1), 10), (byte(small, 40, 1), 10), (byte(small, 56, 1), 10),
+    (byte(small, 24, 0), 0), (byte(small, 52, 9), 0),
+    # group 11: the counts, also far too large ones
+    (put(small, (44, 0)), 11), (put(small, (44, 2)), 11), (put(small, (44, 0xFFFFFFFF)), 11), (put(small, (72, 1)), 11),
+    (put(small, (72, 0xFFFFFFFF)), 11),
+    # group 11: where the DIFAT starts and ends, its links, its entries
+    (put(small, (68, FREE)), 11), (put(small, (68, 0)), 11),
+    (put(difat, (111 * 512 + 508, FREE)), 11), (put(small, (508, 1)), 11), (put(small, (80, 0)), 11), (put(difat, (111 * 512 + 4, 5)), 11),
+    # group 11: table sectors that are no sectors, that stand twice, that are both
+    (put(small, (76, 2)), 11), (put(small, (76, END)), 11), (put(difat, (111 * 512, 0)), 11),
+    # group 11: the marks
+    (put(small, (512, END)), 11), (put(small, (512, DIFSECT)), 11), (put(small, (516, FATSECT)), 11), (put(small, (516, DIFSECT)), 11),
+    # group 12: cells that name no sector, and cells behind the last sector's
+    (put(small, (516, 2)), 12), (put(small, (516, 0xFFFFFFFB)), 12), (put(small, (520, END)), 12), (put(small, (1020, 0)), 12),
+    (put(small, (520, FATSECT)), 12),
+    # group 13: no sector, a free sector, a table sector, a circle
+    (put(small, (48, END)), 13), (put(small, (48, 2)), 13), (put(small, (48, 0)), 13), (put(small, (516, FREE)), 13), (put(small, (516, 1)), 13),
+    (put(three, (3 * 512, 3)), 13), (put(three, (3 * 512, FREE)), 13),
+    # the lowest number is given
+    (byte(put(small, (44, 0)), 0, 0), 10), (put(small, (508, 1), (520, END)), 11), (put(small, (520, END), (48, END)), 12),
+]
+directories = [
+    # accepted: no object; one; a storage in a storage; a balanced tree; a tree all to one side
+    (with_entries([root()]), 0), (one(stream("log")), 0), (siblings(storage("Site", child=2), storage("Jets", child=3), stream("log")), 0),
+    (seven(rising), 0), (spine(100), 0),
+    # group 14: the root
+    (with_entries([stream("log")]), 14), (with_entries([patched(root(), 68, [0, 0, 0, 0])]), 14), (with_entries([patched(root(), 72, [0, 0, 0, 0])]), 14),
+    (with_entries([patched(root(), 100, [1])]), 14), (with_entries([patched(root(), 67, [2])]), 14), (with_entries([patched(root(), 124, [1])]), 14),
+    (with_entries([patched(root(), 108, [1])]), 0), (with_entries([root(), root()]), 14),
+    # group 14: blank entries
+    (with_entries([root(), patched(entry(), 0, [1])]), 14), (with_entries([root(), patched(entry(), 64, [2])]), 14),
+    (with_entries([root(), patched(entry(), 67, [1])]), 14), (with_entries([root(), patched(entry(), 76, [1, 0, 0, 0])]), 14),
+    (with_entries([root(), patched(entry(), 96, [1])]), 14), (with_entries([root(), patched(entry(), 127, [1])]), 14),
+    (with_entries([root(), patched(entry(), 66, [3])]), 14),
+    # group 14: names of 1 and 31 units, name bytes 2, 3 and 66, a last unit that is not zero, units that no name has
+    (one(named(1)), 0), (one(named(31)), 0), (one(named(1, 2)), 14), (one(named(1, 3)), 14), (one(named(31, 66)), 14), (one(named(2, 5)), 14),
+    (one(named(3, end=(1, 0))), 14), (one(named(3, end=(0, 1))), 14), (one(stream("a/b")), 14), (one(stream("a\\b")), 14), (one(stream("a:b")), 14),
+    (one(stream("a\0b")), 14), (one(stream("a!b")), 0), (one(patched(stream("ab"), 10, [7])), 0),
+    # group 14: streams and storages
+    (one(patched(stream("log"), 76, [2, 0, 0, 0])), 14), (one(patched(stream("log"), 80, [1])), 14), (one(patched(stream("log"), 95, [1])), 14),
+    (one(patched(stream("log"), 96, [1])), 0), (one(patched(stream("log"), 100, [1])), 14), (one(patched(stream("log"), 115, [1])), 14),
+    (one(patched(storage("Site"), 80, [1])), 0), (one(patched(storage("Site"), 116, [1])), 14), (one(patched(storage("Site"), 120, [1])), 14),
+    (one(patched(stream("log"), 67, [2])), 14), (one(patched(stream("log"), 127, [1])), 14),
+    # group 15: LOG equals log; the shorter name comes first; letters count as capitals
+    (siblings(stream("log", right=2), stream("LOG")), 15), (siblings(stream("log", right=2), stream("Jets")), 0),
+    (siblings(stream("Jets", right=2), stream("log")), 15), (siblings(stream("a_b", right=2), stream("aab")), 15),
+    (siblings(stream("aab", right=2), stream("a_b")), 0), (siblings(stream("AAB", left=2), stream("aaa")), 0),
+    # group 15: order broken deep in a side, though each node is right with the two below it
+    (seven(["aaa", "bbb", "eee", "ddd", "ddf", "fff", "ggg"]), 15), (seven(["aaa", "bbb", "ccc", "ddd", "ccd", "fff", "ggg"]), 15),
+    (seven(["aaa", "bbb", "ccc", "ddd", "eee", "fff", "eff"]), 15), (spine(100, lambda i: "n%05d" % (i if i < 100 else 98)), 15),
+    # group 15: colours
+    (one(stream("log", RED)), 15), (siblings(stream("log", right=2), stream("Jets", RED, right=3), stream("Jetty", RED)), 15),
+    (siblings(stream("log", right=2), stream("Jets", RED, right=3), stream("Jetty")), 0), (siblings(storage("Site", child=2), stream("log", RED)), 15),
+    # group 15: a cycle, a shared subtree, a way back to the parent, a storage below itself
+    (siblings(stream("log", right=1)), 15), (siblings(stream("log", right=2), stream("Jets", right=1)), 15),
+    (siblings(stream("log", left=2, right=2), stream("Jets")), 15), (siblings(storage("Site", child=2, right=3), storage("Jets", child=4), storage("Jetty", child=4), stream("log")), 15),
+    (siblings(storage("Site", child=1)), 15), (spine(100, last=1), 15), (spine(100, last=50), 15),
+    # group 15: objects that are not reached; numbers that name no object
+    (with_entries([root(), stream("log")]), 15), (siblings(stream("log"), storage("Site")), 15), (siblings(stream("log", left=0)), 15),
+    (siblings(stream("log", right=0)), 15), (siblings(storage("Site", child=0)), 15), (with_entries([root(0)]), 15), (siblings(stream("log", right=3)), 15),
+    (siblings(stream("log", right=4)), 15), (siblings(stream("log", right=0xFFFFFFFE)), 15), (with_entries([root(1)]), 15),
+    # the lowest number is given
+    (siblings(stream("log", right=1), stream("a/b")), 14),
+]
+write("validate_run", tables + directories)
