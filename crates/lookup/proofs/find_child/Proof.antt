@@ -25,7 +25,8 @@ abbrev μ-loop : tie.MeasureT-loop
 real : (c : tie.Else1 Inv-loop μ-loop) → c .before .before .loop .x .0 ≢ NOSTREAM
 real c = eqb-false _ _ (sym (c .before .is-none .ensures) ∙ c .if1 .left)
 
-stands : (c : tie.Else1 Inv-loop μ-loop) → let p = c .before .before .before .before .before .before .args in Standing (entriesOf (p .d) (p .img .now)) (c .before .before .loop .x .0)
+stands : (c : tie.Else1 Inv-loop μ-loop) → let p = c .before .before .before .before .before .before .args in
+    Standing (entriesOf (p .d) (p .img .now)) (c .before .before .loop .x .0)
 stands c = searchable-stands _ _ (real c) (c .before .before .loop .inv .here)
 
 pub find-child-spec : {M : Type 1} → statement M
