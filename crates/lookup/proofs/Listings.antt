@@ -9,9 +9,10 @@ use lib.ListN.{length, getD, set, take, length-append, length-set}
 use lib.Seq.{take-suc-set, length-take-le}
 use Rattle.format.specs.Layout.Directory.{Directory}
 use Rattle.format.specs.Layout.Tree.{entries}
-use Rattle.theory.specs.TreeViews.{rows, rightOf, childOf, at, whole, shapeOk, Standing}
+use Rattle.theory.specs.TreeViews.{rows, rightOf, childOf, at, whole, soundAt, shapeOk, Standing}
 use Rattle.theory.specs.TreeWalk.{pending}
 use Rattle.theory.proofs.Trees.Nodes.{entries-few}
+use Rattle.theory.proofs.Trees.Stand.{standing}
 use Rattle.theory.proofs.Trees.Stack.{pending-pop}
 use Rattle.lookup.specs.Listing.{toCome, AllStand, Descended}
 use Rattle.lookup.proofs.Descents.{stack-fits}
@@ -69,44 +70,53 @@ module _ {e : Directory} {s₀ out₀ s out : List ℕ} {n k : ℕ} (w : Listing
     pub list-room : k < length out
     list-room = omega (arith, sum, entries-few e (w .ok), ap length come, w .out-long, w .out-room)
 
-    -- the stack has room for the right side, and then for what is below
-    pub right-room : length (entries (at e (rightOf e top)) ++ toCome e (pending s (n - 1))) ≤ length s
-    right-room = omega (
-      arith,
-      sum,
-      entries-few e (w .ok),
-      ap length come,
-      w .stack-long,
-      w .stack-room,
-      length-append (entries (at e (childOf e top))) (entries (at e (rightOf e top)) ++ toCome e (pending s (n - 1))),
-    )
+    -- the number y of its right side is put on first
+    module _ {y : ℕ} (ey : y ≡ rightOf e top) where
+      pub right-sound : soundAt e y ≡ true
+      right-sound = rw ey (standing e top top-stands .right-sound)
 
-    module _ {s₁ : List ℕ} {n₁ : ℕ} (a : Descended e (rightOf e top) s (n - 1) s₁ n₁) (l₁ : length s₁ ≡ length s) where
-      pub child-room : length (entries (at e (childOf e top)) ++ toCome e (pending s₁ n₁)) ≤ length s₁
-      child-room = rw (a .same) (omega (arith, sum, entries-few e (w .ok), ap length come, w .stack-long, w .stack-room, l₁))
+      pub right-room : length (entries (at e y) ++ toCome e (pending s (n - 1))) ≤ length s
+      right-room =
+          let a = length-append (entries (at e (childOf e top))) (entries (at e (rightOf e top)) ++ toCome e (pending s (n - 1))) in
+          rw ey (omega (arith, sum, entries-few e (w .ok), ap length come, w .stack-long, w .stack-room, a))
 
-      module _ {s₂ : List ℕ} {n₂ : ℕ} (b : Descended e (childOf e top) s₁ n₁ s₂ n₂) (l₂ : length s₂ ≡ length s₁) where
-        after : toCome e (pending s n) ≡ top ∷ toCome e (pending s₂ n₂)
-        after =
-            come
-            ∙ ap (λ (xs : List ℕ). top ∷ xs) (ap (λ (xs : List ℕ). entries (at e (childOf e top)) ++ xs) (sym (a .same)) ∙ sym (b .same))
+      module _ {s₁ : List ℕ} {n₁ : ℕ} (a : Descended e y s (n - 1) s₁ n₁) (l₁ : length s₁ ≡ length s) where
+        right-come : toCome e (pending s₁ n₁) ≡ entries (at e (rightOf e top)) ++ toCome e (pending s (n - 1))
+        right-come = rw ey at (a .same)
 
-        -- the loop's measure
-        pub list-less : length (toCome e (pending s₂ n₂)) < length (toCome e (pending s n))
-        list-less = omega (arith, ap length after)
+        -- then the number z of what is below it, which so comes before
+        module _ {z : ℕ} (ez : z ≡ childOf e top) where
+          pub child-sound : soundAt e z ≡ true
+          child-sound = rw ez (standing e top top-stands .below-sound)
 
-        pub list-more : Listing e s₀ out₀ s₂ (set out k top) n₂ (k + 1)
-        list-more = record {
-          same = rw (add-one, take-suc-set out k top list-room)
-              (append-assoc (take k out) (top ∷ []) (toCome e (pending s₂ n₂)) ∙ ap (λ (xs : List ℕ). take k out ++ xs) (sym after) ∙ w .same);
-          stands = b .stands;
-          ok = w .ok;
-          reached = simp length-set (omega (arith, list-room));
-          stack-long = l₂ ∙ l₁ ∙ w .stack-long;
-          out-long = simp length-set (w .out-long);
-          stack-room = w .stack-room;
-          out-room = w .out-room;
-        }
+          pub child-room : length (entries (at e z) ++ toCome e (pending s₁ n₁)) ≤ length s₁
+          child-room = rw (ez, right-come) (omega (arith, sum, entries-few e (w .ok), ap length come, w .stack-long, w .stack-room, l₁))
+
+          module _ {s₂ : List ℕ} {n₂ : ℕ} (b : Descended e z s₁ n₁ s₂ n₂) (l₂ : length s₂ ≡ length s₁) where
+            child-come : toCome e (pending s₂ n₂) ≡ entries (at e (childOf e top)) ++ toCome e (pending s₁ n₁)
+            child-come = rw ez at (b .same)
+
+            after : toCome e (pending s n) ≡ top ∷ toCome e (pending s₂ n₂)
+            after =
+                come
+                ∙ ap (λ (xs : List ℕ). top ∷ xs) (ap (λ (xs : List ℕ). entries (at e (childOf e top)) ++ xs) (sym right-come) ∙ sym child-come)
+
+            -- the loop's measure
+            pub list-less : length (toCome e (pending s₂ n₂)) < length (toCome e (pending s n))
+            list-less = omega (arith, ap length after)
+
+            pub list-more : Listing e s₀ out₀ s₂ (set out k top) n₂ (k + 1)
+            list-more = record {
+              same = rw (add-one, take-suc-set out k top list-room)
+                  (append-assoc (take k out) (top ∷ []) (toCome e (pending s₂ n₂)) ∙ ap (λ (xs : List ℕ). take k out ++ xs) (sym after) ∙ w .same);
+              stands = b .stands;
+              ok = w .ok;
+              reached = simp length-set (omega (arith, list-room));
+              stack-long = l₂ ∙ l₁ ∙ w .stack-long;
+              out-long = simp length-set (w .out-long);
+              stack-room = w .stack-room;
+              out-room = w .out-room;
+            }
 
 -- ---- the start: an empty stack, then the tree below the root
 
