@@ -1,5 +1,5 @@
 -- Entries that the code reads: the root, those that stand in a tree, and none.
-use Prim.Native.Nat.{ℕ, _<_}
+use Prim.Native.Nat.{ℕ, _≤_, _<_}
 use mathlib.Core.Path.{_≡_, sym, _∙_}
 use mathlib.Core.Logic.{_≢_}
 use mathlib.Core.Bool.{Bool, true, false}
@@ -15,6 +15,10 @@ use Rattle.theory.specs.TreeViews.{Standing}
 use Rattle.directory.specs.Listed.{entriesOf, Listed, NamedIn, Ruled}
 use Rattle.directory.specs.declared.Directory.{Directory as Where}
 use Rattle.directory.proofs.Places.{count-is, per-some}
+
+-- what `count` asks
+pub countable : {d : Where} {img : Bytes} {w : List ℕ} → Listed d img w → (d .geometry .bytes ≤ 4096) × (d .sectors < 0x1_0000_0000)
+countable l = (l .sized .narrow, omega (arith, l .few, l .sized .few))
 
 -- there is a root
 pub root-inside : {d : Where} {img : Bytes} {w : List ℕ} → Listed d img w → 0 < entriesOf d img .count

@@ -22,13 +22,13 @@ fn last(img: &[u8], work: &[u32], d: Directory, x: EntryId) -> EntryId
     requires { ⌜ Standing (entriesOf d (now img)) (x .0) ⌝ }
     ensures { λ r. ⌜ LastIs (entriesOf d (now (img .entry))) (x .0) (r .0) ⌝ }
 {
-    let mut y = x;
+    let mut high = x;
     loop {
-        let next = right_of(img, work, d, y);
+        let next = right_of(img, work, d, high);
         if next.is_none() {
-            return y;
+            return high;
         }
-        y = next;
+        high = next;
     }
 }
 
@@ -38,13 +38,13 @@ fn first(img: &[u8], work: &[u32], d: Directory, x: EntryId) -> EntryId
     requires { ⌜ Standing (entriesOf d (now img)) (x .0) ⌝ }
     ensures { λ r. ⌜ FirstIs (entriesOf d (now (img .entry))) (x .0) (r .0) ⌝ }
 {
-    let mut y = x;
+    let mut low = x;
     loop {
-        let next = left_of(img, work, d, y);
+        let next = left_of(img, work, d, low);
         if next.is_none() {
-            return y;
+            return low;
         }
-        y = next;
+        low = next;
     }
 }
 

@@ -1,14 +1,14 @@
 use borrow.Author.Needs.{needs}
 use Prim.Native.Nat.{ℕ}
 use mathlib.Core.Path.{_≡_}
-use Rattle.theory.proofs.Loops.{said-yes, said-no}
-use borrow.Author.Tests.{not-true, not-false}
-use Rattle.format.specs.Rules.Trees.{topBlack}
 use mathlib.Core.Bool.{true, false}
 use mathlib.Core.List.{List}
+use borrow.Author.Tests.{not-true, not-false}
+use Rattle.format.specs.Rules.Trees.{topBlack}
 use Rattle.format.specs.Layout.Directory.{Directory}
 use Rattle.theory.specs.TreeWalk.{covered, marksIn}
 use Rattle.theory.specs.TreeViews.{whole, shapeOk}
+use Rattle.theory.proofs.Loops.{said-yes, said-no}
 use Rattle.theory.proofs.Trees.Nodes.{shape-sound}
 use Rattle.directory.specs.Listed.{entriesOf}
 use Rattle.hierarchy.specs.Lent.{Room}

@@ -10,10 +10,10 @@ use Rattle.hierarchy.proofs.places.first.Statement.{statement}
 use Rattle.hierarchy.proofs.places.first.Tie as tie
 
 abbrev Inv-loop : tie.InvT-loop
-Inv-loop img work d x y = FirstWalk (entriesOf d img) (x .0) (y .0)
+Inv-loop img work d x low = FirstWalk (entriesOf d img) (x .0) (low .0)
 
 abbrev μ-loop : tie.MeasureT-loop
-μ-loop img work d x y = length (siblings (at (entriesOf d img) (y .0)))
+μ-loop img work d x low = length (siblings (at (entriesOf d img) (low .0)))
 
 pub first-spec : {M : Type 1} → statement M
 first-spec =

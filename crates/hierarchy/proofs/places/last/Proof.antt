@@ -10,10 +10,10 @@ use Rattle.hierarchy.proofs.places.last.Statement.{statement}
 use Rattle.hierarchy.proofs.places.last.Tie as tie
 
 abbrev Inv-loop : tie.InvT-loop
-Inv-loop img work d x y = LastWalk (entriesOf d img) (x .0) (y .0)
+Inv-loop img work d x high = LastWalk (entriesOf d img) (x .0) (high .0)
 
 abbrev μ-loop : tie.MeasureT-loop
-μ-loop img work d x y = length (siblings (at (entriesOf d img) (y .0)))
+μ-loop img work d x high = length (siblings (at (entriesOf d img) (high .0)))
 
 pub last-spec : {M : Type 1} → statement M
 last-spec =

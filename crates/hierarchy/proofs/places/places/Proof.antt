@@ -1,16 +1,17 @@
 use borrow.Author.Needs.{needs}
-use native.Mathlib.Omega.{arith}
 use Prim.Native.Nat.{_-_, _≤_, _<_}
 use mathlib.Core.Path.{_≡_, sym, _∙_}
-use Rattle.directory.specs.Listed.{entriesOf}
-use Rattle.directory.proofs.Places.{count-is, count-few}
 use mathlib.Core.Bool.{true}
 use mathlib.Core.Logic.{inl, inr, ⊎-elim}
+use native.Mathlib.Omega.{arith}
 use Rattle.format.specs.Basics.Lists.{allBelow}
 use Rattle.theory.specs.TreeOrder.{placeRight}
 use Rattle.theory.proofs.Loops.{below-none, said-yes, said-no}
 use Rattle.theory.proofs.Trees.Nodes.{object-stands}
 use Rattle.theory.proofs.Trees.Passes.{places-more, places-fail, places-end}
+use Rattle.directory.specs.Listed.{entriesOf}
+use Rattle.directory.proofs.Places.{count-is, count-few}
+use Rattle.hierarchy.proofs.Entries.{countable}
 use Rattle.hierarchy.proofs.places.places.Statement.{statement}
 use Rattle.hierarchy.proofs.places.places.Tie as tie
 
@@ -28,7 +29,7 @@ pub places-spec : {M : Type 1} → statement M
 places-spec =
     tie.close
     (tie.spec Inv-loop μ-loop
-    (λ c κs. let l = c .before .before .pre .0 in (l .sized .narrow, omega (arith, l .few, l .sized .few)))  -- count-requires
+    (λ c κs. countable (c .before .before .pre .0))  -- count-requires
     (λ c. (omega arith, below-none _))  -- loop-holds
     (λ c. omega (arith, c .before .before .count .ensures, count-few (c .before .before .before .before .before .pre .0)))  -- cast-x
     (λ c κs. (c .before .before .before .before .before .pre .0, inside c))  -- object-requires

@@ -1,15 +1,16 @@
 use borrow.Author.Needs.{needs}
-use native.Mathlib.Omega.{arith}
 use Prim.Native.Nat.{_+_, _-_, _≤_, _<_}
 use mathlib.Core.Path.{_≡_, sym}
-use Rattle.directory.specs.Listed.{entriesOf}
-use Rattle.directory.proofs.Places.{count-is, count-few}
 use mathlib.Core.Bool.{true}
+use native.Mathlib.Omega.{arith}
 use lib.ListN.{length}
 use Rattle.format.specs.Basics.Lists.{allBelow}
 use Rattle.theory.specs.TreeWalk.{marked, marksIn}
 use Rattle.theory.proofs.Loops.{below-none}
 use Rattle.theory.proofs.Trees.Passes.{covered-more, covered-fails, covered-end}
+use Rattle.directory.specs.Listed.{entriesOf}
+use Rattle.directory.proofs.Places.{count-is, count-few}
+use Rattle.hierarchy.proofs.Entries.{countable}
 use Rattle.hierarchy.proofs.walk.covered.Statement.{statement}
 use Rattle.hierarchy.proofs.walk.covered.Tie as tie
 
@@ -31,7 +32,7 @@ pub covered-spec : {M : Type 1} → statement M
 covered-spec =
     tie.close
     (tie.spec Inv-loop μ-loop
-    (λ c κs. let l = c .before .before .pre .listed in (l .sized .narrow, omega (arith, l .few, l .sized .few)))  -- count-requires
+    (λ c κs. countable (c .before .before .pre .listed))  -- count-requires
     (λ c. (omega arith, below-none _))  -- loop-holds
     (λ c. omega (arith, mark-in c))  -- add-if1
     (λ c. omega (arith, mark-in c))  -- mul-if1

@@ -1,16 +1,16 @@
 use borrow.Author.Needs.{needs}
-use native.Mathlib.Omega.{arith}
 use Prim.Native.Nat.{ℕ, _+_, _-_, _*_, _<_}
 use mathlib.Core.Path.{_≡_, refl, _∙_}
-use Rattle.directory.specs.Listed.{countOf, entriesOf}
-use borrow.Author.Tests.{not-true, not-false}
 use mathlib.Core.Bool.{Bool, true, false}
 use mathlib.Core.Logic.{_≢_}
+use native.Mathlib.Omega.{arith}
+use borrow.Author.Tests.{not-true, not-false}
 use lib.ListN.{length, getD, length-set}
 use Rattle.format.specs.Layout.Entry.{NOSTREAM}
 use Rattle.theory.specs.TreeWalk.{zeros, fresh, marksIn}
 use Rattle.theory.proofs.Loops.{said-yes, said-no}
-use Rattle.hierarchy.proofs.Entries.{root-inside, none-yes, none-no}
+use Rattle.directory.specs.Listed.{countOf, entriesOf}
+use Rattle.hierarchy.proofs.Entries.{countable, root-inside, none-yes, none-no}
 use Rattle.hierarchy.proofs.Walks.{Going, stack-in, start-kept, going-start, going-pop, going-skip, going-wrong, going-inside, going-room, going-less, going-mark, going-end}
 use Rattle.hierarchy.proofs.walk.follow.Statement.{statement}
 use Rattle.hierarchy.proofs.walk.follow.Tie as tie
@@ -53,7 +53,7 @@ pub follow-spec : {M : Type 1} → statement M
 follow-spec =
     tie.close
     (tie.spec Inv-loop μ-loop
-    (λ c κs. let l = c .before .before .pre .room .listed in (l .sized .narrow, omega (arith, l .few, l .sized .few)))  -- count-requires
+    (λ c κs. countable (c .before .before .pre .room .listed))  -- count-requires
     (λ c. omega (arith, c .count .ensures, c .before .before .before .pre .room .room))  -- add-stack
     (λ c κs. let l = c .before .before .before .before .pre .room .listed in (l, root-inside l))  -- child-of-requires
     (λ c. omega (arith, stack-in (c .before .before .before .before .before .pre) (stack-is (c .before .before)) (c .child-of .ensures)))  -- mul-work

@@ -1,8 +1,8 @@
 use borrow.Author.Needs.{needs}
-use native.Mathlib.Omega.{arith}
 use Prim.Native.Nat.{_+_, _<_}
-use Rattle.directory.proofs.Places.{count-is}
+use native.Mathlib.Omega.{arith}
 use lib.ListN.{length, length-set}
+use Rattle.directory.proofs.Places.{count-is}
 use Rattle.hierarchy.proofs.walk.visit.Statement.{statement}
 use Rattle.hierarchy.proofs.walk.visit.Tie as tie
 
