@@ -1,22 +1,20 @@
-// The header and the tables of an image: groups 10 and 11, and the lookup of a cell.
+// The header and the tables of an image: lengths, group 10, and the lookup of a cell. Group 11 stands in `sectors`.
 ghost use mathlib.Core.Path.{_≡_};
 ghost use Prim.Native.Nat.{_+_, _≤_, _<_, _*_};
-ghost use Rattle.format.specs.Layout.Geometry.{sectorCount, cellsIn, difatIn, headerDifat};
-ghost use Rattle.format.specs.Layout.Tables.{difatEntry, fatCell};
+ghost use Rattle.format.specs.Layout.Geometry.{sectorCount, cellsIn};
+ghost use Rattle.format.specs.Layout.Tables.{fatCell};
 ghost use Rattle.format.specs.Rules.Length.{lengthAllowed, workNeed};
 ghost use Rattle.format.specs.Rules.Header.{headerRules};
-ghost use Rattle.format.specs.Rules.Tables.{difatNeed, tableCounts, difatRest, tableMarks, tableRules};
 ghost use Rattle.kinds.specs.Sizes.{geometryOf};
 ghost use Rattle.tables.specs.Sized.{ImageSized, F, D, wordIn};
-ghost use Rattle.tables.specs.Work.{Wrote, Holds, WorkClear};
 ghost use Rattle.tables.specs.Listed.{Listed, tablesOf};
-ghost use Rattle.tables.specs.Stages.{DifatArgs, DifatListed, Difats, ListArgs, ListLeft, TableMarked, TablesLeft, StageArgs, Built, ListsLeft, MarksLeft};
 use kinds::Geometry;
 use kinds::Sector;
 use le::u16_at;
 use le::u32_at;
 use le::u64_at;
-use le::zero_first;
+
+pub mod sectors;
 
 // ---- lengths
 
@@ -92,220 +90,6 @@ pub fn cell_at(img: &[u8], work: &[u32], t: Tables, s: Sector) -> Sector
     let cells = g.cells();
     let i = s.index();
     word_in(img, g, Sector(work[list + i / cells]), i % cells)
-}
-
-// ---- group 11: counts
-
-pub fn table_counts(img: &[u8], g: Geometry) -> bool
-    requires { ⌜ ImageSized (geometryOf g) (now img) ⌝ }
-    ensures { λ r. ⌜ r ≡ tableCounts (geometryOf g) (now (img .entry)) ⌝ }
-{
-    let f = u32_at(img, 44) as usize;
-    let d = u32_at(img, 72) as usize;
-    let n = sector_count(img, g);
-    (1 <= f) & (n <= g.cells() * f) & (d == difat_need(g, f))
-}
-
-// The DIFAT sectors that f FAT sectors need.
-fn difat_need(g: Geometry, f: usize) -> usize
-    requires { ⌜ (512 ≤ g .bytes) × (g .bytes ≤ 4096) × (f < 4294967296) ⌝ }
-    ensures { λ r. ⌜ r ≡ difatNeed (geometryOf g) f ⌝ }
-{
-    let mut over = 0;
-    if 109 < f {
-        over = f - 109;
-    }
-    let per = g.difat();
-    (over + (per - 1)) / per
-}
-
-// ---- group 11: the DIFAT's sectors and entries
-
-// Lists the d DIFAT sectors, as long as each is below n; says whether all are and the last names the end.
-pub fn list_difats(img: &[u8], work: &mut [u32], g: Geometry, n: usize, at: usize, d: usize) -> bool
-    requires { ⌜ DifatArgs (geometryOf g) (now img) (now work) n at d ⌝ }
-    ensures { λ r. ⌜ DifatListed (geometryOf g) (now (img .entry)) (now (work .entry)) (now (work .exit)) at r ⌝ }
-{
-    let link = g.difat();
-    let mut s = Sector(u32_at(img, 68));
-    let mut j = 0;
-    while j < d {
-        if !s.below(n) {
-            return false;
-        }
-        work[at + j] = s.0;
-        s = word_in(img, g, s, link);
-        j += 1;
-    }
-    s.is_end()
-}
-
-// Entry i of the DIFAT, whose sectors are listed from a place on.
-pub fn difat_entry(img: &[u8], work: &[u32], g: Geometry, at: usize, i: usize) -> Sector
-    requires { ⌜ Difats (geometryOf g) (now img) (now work) at ⌝ }
-    requires { ⌜ i < headerDifat + difatIn (geometryOf g) * D (now img) ⌝ }
-    ensures { λ r. ⌜ r .0 ≡ difatEntry (geometryOf g) (now (img .entry)) i ⌝ }
-{
-    if i < 109 {
-        return Sector(u32_at(img, 76 + 4 * i));
-    }
-    let per = g.difat();
-    word_in(img, g, Sector(work[at + (i - 109) / per]), (i - 109) % per)
-}
-
-// Lists the f FAT sectors, in front of the DIFAT sectors.
-pub fn list_fats(img: &[u8], work: &mut [u32], g: Geometry, at: usize, f: usize)
-    requires { ⌜ Difats (geometryOf g) (now img) (now work) (at + F (now img)) ⌝ }
-    requires { ⌜ f ≡ F (now img) ⌝ }
-    ensures { λ _. ⌜ Wrote (now (work .entry)) (now (work .exit)) at (F (now (img .entry))) ⌝ }
-    ensures { λ _. ⌜ Holds (now (work .exit)) at (F (now (img .entry))) (difatEntry (geometryOf g) (now (img .entry))) ⌝ }
-{
-    let mut k = 0;
-    while k < f {
-        let s = difat_entry(img, work, g, at + f, k);
-        work[at + k] = s.0;
-        k += 1;
-    }
-}
-
-// The DIFAT's entries from f on are free.
-pub fn difat_rest(img: &[u8], work: &[u32], g: Geometry, at: usize, f: usize, d: usize) -> bool
-    requires { ⌜ Difats (geometryOf g) (now img) (now work) at ⌝ }
-    requires { ⌜ (f ≡ F (now img)) × (d ≡ D (now img)) ⌝ }
-    ensures { λ r. ⌜ r ≡ difatRest (geometryOf g) (now (img .entry)) ⌝ }
-{
-    let end = 109 + g.difat() * d - f;
-    let mut i = 0;
-    while i < end {
-        let s = difat_entry(img, work, g, at, f + i);
-        if !s.is_free() {
-            return false;
-        }
-        i += 1;
-    }
-    true
-}
-
-// ---- group 11: marks
-
-// Marks the sectors of a list, as long as each is below n and has no mark; says whether all were so.
-pub fn mark_list(work: &mut [u32], n: usize, at: usize, count: usize, v: u32) -> bool
-    requires { ⌜ ListArgs (now work) n at count v ⌝ }
-    ensures { λ r. ⌜ ListLeft (now (work .entry)) (now (work .exit)) n at count v r ⌝ }
-{
-    let mut k = 0;
-    while k < count {
-        let s = Sector(work[at + k]);
-        if !s.below(n) {
-            return false;
-        }
-        if 0 < work[s.index()] {
-            return false;
-        }
-        work[s.index()] = v;
-        k += 1;
-    }
-    true
-}
-
-// The cells that mark table sectors are those of the marked sectors.
-pub fn table_marks(img: &[u8], work: &[u32], t: Tables) -> bool
-    requires { ⌜ Listed (geometryOf (t .geometry)) (now img) (now work) (t .sectors) (t .list) ⌝ }
-    requires { ⌜ TableMarked (geometryOf (t .geometry)) (now img) (now work) ⌝ }
-    ensures { λ r. ⌜ r ≡ tableMarks (geometryOf (t .geometry)) (now (img .entry)) ⌝ }
-{
-    let n = t.sectors;
-    let mut i = 0;
-    while i < n {
-        let c = cell_at(img, work, t, Sector(i as u32));
-        let m = work[i];
-        if c.is_fat() != (m == 1) {
-            return false;
-        }
-        if c.is_difat() != (m == 2) {
-            return false;
-        }
-        i += 1;
-    }
-    true
-}
-
-// ---- group 11, whole
-
-// Lists the FAT's and the DIFAT's sectors; says whether the DIFAT's are below n, end, and have no entry past the FAT's.
-pub fn list_tables(
-    img: &[u8],
-    work: &mut [u32],
-    g: Geometry,
-    n: usize,
-    f: usize,
-    d: usize,
-    list: usize,
-) -> bool
-    requires { ⌜ StageArgs (geometryOf g) (now img) (now work) n f d list ⌝ }
-    ensures { λ r. ⌜ ListsLeft (geometryOf g) (now (img .entry)) (now (work .entry)) (now (work .exit)) list r ⌝ }
-{
-    if !list_difats(img, work, g, n, list + f, d) {
-        return false;
-    }
-    list_fats(img, work, g, list, f);
-    difat_rest(img, work, g, list + f, f, d)
-}
-
-// Marks the listed sectors, compares their cells, and takes the marks away.
-pub fn mark_tables(
-    img: &[u8],
-    work: &mut [u32],
-    g: Geometry,
-    n: usize,
-    f: usize,
-    d: usize,
-    list: usize,
-) -> bool
-    requires { ⌜ StageArgs (geometryOf g) (now img) (now work) n f d list ⌝ }
-    requires { ⌜ Built (geometryOf g) (now img) (now work) list ⌝ }
-    ensures { λ r. ⌜ MarksLeft (geometryOf g) (now (img .entry)) (now (work .entry)) (now (work .exit)) list r ⌝ }
-{
-    if !mark_list(work, n, list, f, 1) {
-        return false;
-    }
-    if !mark_list(work, n, list + f, d, 2) {
-        return false;
-    }
-    let right = table_marks(
-        img,
-        work,
-        Tables {
-            geometry: g,
-            sectors: n,
-            list: list,
-        },
-    );
-    zero_first(work, n);
-    right
-}
-
-// Group 11. Where it holds, the FAT's sectors stand listed in the work buffer, and no sector has a mark.
-pub fn table_rules(img: &[u8], work: &mut [u32], g: Geometry) -> bool
-    requires { ⌜ ImageSized (geometryOf g) (now img) ⌝ }
-    requires { ⌜ WorkClear (geometryOf g) (now img) (now work) ⌝ }
-    ensures { λ r. ⌜ r ≡ tableRules (geometryOf g) (now (img .entry)) ⌝ }
-    ensures { λ r. ⌜ TablesLeft (geometryOf g) (now (img .entry)) (now (work .entry)) (now (work .exit)) r ⌝ }
-{
-    let n = sector_count(img, g);
-    let f = u32_at(img, 44) as usize;
-    let d = u32_at(img, 72) as usize;
-    if !table_counts(img, g) {
-        return false;
-    }
-    if n < f + d {
-        return false;
-    }
-    let list = 13 * (img.len() / 512) - (f + d);
-    if !list_tables(img, work, g, n, f, d, list) {
-        return false;
-    }
-    mark_tables(img, work, g, n, f, d, list)
 }
 
 // The tables of an image whose group 11 holds.

@@ -23,7 +23,7 @@ use kinds::Geometry;
 use le::zero_first;
 use tables::header_rules;
 use tables::length_allowed;
-use tables::table_rules;
+use tables::sectors::table_rules;
 use tables::tables_of;
 use tables::work_need;
 

@@ -10,8 +10,8 @@ use Rattle.tables.specs.Stages.{ListLeft}
 use Rattle.tables.proofs.WorkLaws.{wrote-two}
 use Rattle.tables.proofs.SectorLaws.{fats-fail, difats-fail, sectors-marked}
 use Rattle.tables.proofs.StageLaws.{fat-args, difat-list, left-fats, left-difats, marks-fail, built-listed, marks-left}
-use Rattle.tables.proofs.mark_tables.Statement.{statement}
-use Rattle.tables.proofs.mark_tables.Tie as tie
+use Rattle.tables.proofs.sectors.mark_tables.Statement.{statement}
+use Rattle.tables.proofs.sectors.mark_tables.Tie as tie
 
 -- what the first and the second marking left
 one : (c : tie.Else1)

@@ -6,8 +6,8 @@ use Rattle.format.specs.Layout.Header.{fatCount, difatCount}
 use Rattle.format.specs.Layout.Tables.{fatCells}
 use Rattle.format.specs.Rules.Tables.{tableCounts}
 use Rattle.tables.proofs.Places.{cells-few}
-use Rattle.tables.proofs.table_counts.Statement.{statement}
-use Rattle.tables.proofs.table_counts.Tie as tie
+use Rattle.tables.proofs.sectors.table_counts.Statement.{statement}
+use Rattle.tables.proofs.sectors.table_counts.Tie as tie
 
 pub table-counts-spec : {M : Type 1} → statement M
 unfolding tableCounts fatCount difatCount fatCells

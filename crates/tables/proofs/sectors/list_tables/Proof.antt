@@ -6,8 +6,8 @@ use Rattle.tables.specs.Sized.{F}
 use Rattle.tables.specs.Stages.{Difats}
 use Rattle.tables.proofs.DifatLaws.{difats-kept}
 use Rattle.tables.proofs.StageLaws.{difat-args, left-listed, lists-fail, lists-difats, lists-left}
-use Rattle.tables.proofs.list_tables.Statement.{statement}
-use Rattle.tables.proofs.list_tables.Tie as tie
+use Rattle.tables.proofs.sectors.list_tables.Statement.{statement}
+use Rattle.tables.proofs.sectors.list_tables.Tie as tie
 
 -- the DIFAT's sectors stand in the buffer that the first call left
 difats-at : (c : tie.Else1)

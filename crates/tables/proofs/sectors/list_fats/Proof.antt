@@ -5,8 +5,8 @@ use native.Mathlib.Omega.{arith}
 use Rattle.kinds.specs.Sizes.{geometryOf}
 use Rattle.tables.specs.Sized.{F}
 use Rattle.tables.proofs.DifatLaws.{entries-enough, FatWalk, fat-start, fat-step}
-use Rattle.tables.proofs.list_fats.Statement.{statement}
-use Rattle.tables.proofs.list_fats.Tie as tie
+use Rattle.tables.proofs.sectors.list_fats.Statement.{statement}
+use Rattle.tables.proofs.sectors.list_fats.Tie as tie
 
 abbrev Inv-loop : tie.InvT-loop
 Inv-loop img work₀ g at f k₀ work k = FatWalk (geometryOf g) img work₀ at work k

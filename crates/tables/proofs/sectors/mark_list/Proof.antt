@@ -6,8 +6,8 @@ use lib.ListN.{getD}
 use borrow.Author.Tests.{ltb-true, ltb-false}
 use Rattle.theory.proofs.Loops.{said-yes, said-no}
 use Rattle.tables.proofs.ListLaws.{ListWalk, list-start, list-at, list-step, list-out, list-hit, list-end}
-use Rattle.tables.proofs.mark_list.Statement.{statement}
-use Rattle.tables.proofs.mark_list.Tie as tie
+use Rattle.tables.proofs.sectors.mark_list.Statement.{statement}
+use Rattle.tables.proofs.sectors.mark_list.Tie as tie
 
 abbrev Inv-loop : tie.InvT-loop
 Inv-loop work₀ n at count v k₀ work k = ListWalk work₀ n at count v work k

@@ -9,8 +9,8 @@ use Rattle.format.specs.Rules.Tables.{markRight}
 use Rattle.kinds.specs.Sizes.{geometryOf}
 use Rattle.theory.proofs.Loops.{below-none, below-more, below-not}
 use Rattle.tables.proofs.MarkLaws.{marks-are, mark-right, mark-not-fat, mark-not-difat}
-use Rattle.tables.proofs.table_marks.Statement.{statement}
-use Rattle.tables.proofs.table_marks.Tie as tie
+use Rattle.tables.proofs.sectors.table_marks.Statement.{statement}
+use Rattle.tables.proofs.sectors.table_marks.Tie as tie
 
 abbrev Inv-loop : tie.InvT-loop
 Inv-loop img work t n i₀ i = (i ≤ n) × (allBelow i (markRight (geometryOf (t .geometry)) img) ≡ true)

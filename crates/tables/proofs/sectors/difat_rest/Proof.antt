@@ -10,8 +10,8 @@ use Rattle.kinds.specs.Sizes.{geometryOf}
 use Rattle.tables.specs.Sized.{F, D}
 use Rattle.theory.proofs.Loops.{below-none, below-more, below-not, said-yes, said-no}
 use Rattle.tables.proofs.DifatLaws.{entries-enough, entries-few, entry-free, rest-is}
-use Rattle.tables.proofs.difat_rest.Statement.{statement}
-use Rattle.tables.proofs.difat_rest.Tie as tie
+use Rattle.tables.proofs.sectors.difat_rest.Statement.{statement}
+use Rattle.tables.proofs.sectors.difat_rest.Tie as tie
 
 abbrev Inv-loop : tie.InvT-loop
 Inv-loop img work g at f d end i₀ i = (i ≤ end) × (allBelow i (spareEntryFree (geometryOf g) img) ≡ true)

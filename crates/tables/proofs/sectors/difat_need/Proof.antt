@@ -6,8 +6,8 @@ use native.Mathlib.Omega.{arith}
 use Rattle.format.specs.Layout.Geometry.{headerDifat, cellsIn, difatIn}
 use Rattle.format.specs.Layout.Need.{roundUp}
 use Rattle.format.specs.Rules.Tables.{difatNeed}
-use Rattle.tables.proofs.difat_need.Statement.{statement}
-use Rattle.tables.proofs.difat_need.Tie as tie
+use Rattle.tables.proofs.sectors.difat_need.Statement.{statement}
+use Rattle.tables.proofs.sectors.difat_need.Tie as tie
 
 over-is : (c : tie.Joined1) → c .if1 .over ≡ c .before .args .f - 109
 over-is c = ⊎-elim (λ w. omega arith) (λ w. omega arith) (c .if1 .came)

@@ -8,8 +8,8 @@ use Rattle.kinds.specs.Sizes.{geometryOf}
 use Rattle.tables.specs.Stages.{Counted, StageArgs}
 use Rattle.theory.proofs.Loops.{said-yes, said-no}
 use Rattle.tables.proofs.StageLaws.{rules-counts, rules-many, rules-lists, rules-marks, counted, not-left, stage-start, stage-kept, lists-refused, tables-left}
-use Rattle.tables.proofs.table_rules.Statement.{statement}
-use Rattle.tables.proofs.table_rules.Tie as tie
+use Rattle.tables.proofs.sectors.table_rules.Statement.{statement}
+use Rattle.tables.proofs.sectors.table_rules.Tie as tie
 
 -- what both tests of the counts say
 counts : (c : tie.Else2) → let p = c .before .before .before .before .before .before .before .before in Counted (geometryOf (p .args .g)) (p .args .img .now)

@@ -7,8 +7,8 @@ use Rattle.kinds.specs.Sizes.{geometryOf}
 use Rattle.tables.proofs.Places.{difat-is}
 use Rattle.theory.proofs.Loops.{said-yes, said-no}
 use Rattle.tables.proofs.DifatLaws.{DifatWalk, difat-start, difat-step, difat-out, difat-end}
-use Rattle.tables.proofs.list_difats.Statement.{statement}
-use Rattle.tables.proofs.list_difats.Tie as tie
+use Rattle.tables.proofs.sectors.list_difats.Statement.{statement}
+use Rattle.tables.proofs.sectors.list_difats.Tie as tie
 
 abbrev Inv-loop : tie.InvT-loop
 Inv-loop img work₀ g n at d link s₀ j₀ work s j = DifatWalk (geometryOf g) img work₀ at work (s .0) j

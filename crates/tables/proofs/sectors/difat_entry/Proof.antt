@@ -8,8 +8,8 @@ use Rattle.kinds.specs.Sizes.{geometryOf}
 use Rattle.tables.specs.Sized.{D}
 use Rattle.tables.proofs.Places.{entry-first, entry-later}
 use Rattle.tables.proofs.DifatLaws.{difat-some, entry-sector, entry-index}
-use Rattle.tables.proofs.difat_entry.Statement.{statement}
-use Rattle.tables.proofs.difat_entry.Tie as tie
+use Rattle.tables.proofs.sectors.difat_entry.Statement.{statement}
+use Rattle.tables.proofs.sectors.difat_entry.Tie as tie
 
 -- the DIFAT sector that holds the entry, and its index there, as the code works them out
 sector-is : (c : tie.After-difat) → let p = c .before .before .before .before in (p .args .i - 109) / c .difat .result ≡ (p .args .i - 109) / difatIn (geometryOf (p .args .g))
