@@ -59,7 +59,8 @@ fn left_ordered(img: &[u8], work: &[u32], d: Directory, x: EntryId) -> bool
     if left.is_none() {
         return true;
     }
-    less(img, work, d, last(img, work, d, left), x)
+    let end = last(img, work, d, left);
+    less(img, work, d, end, x)
 }
 
 // Whether x comes before the first of its right side.
@@ -73,7 +74,8 @@ fn right_ordered(img: &[u8], work: &[u32], d: Directory, x: EntryId) -> bool
     if right.is_none() {
         return true;
     }
-    less(img, work, d, x, first(img, work, d, right))
+    let start = first(img, work, d, right);
+    less(img, work, d, x, start)
 }
 
 // ---- colours

@@ -1,6 +1,9 @@
 use borrow.Author.Needs.{needs}
-use mathlib.Core.Path.{sym}
-use Rattle.theory.specs.TreeViews.{Standing}
+use Prim.Native.Nat.{ℕ}
+use mathlib.Core.Path.{_≡_, sym, _∙_}
+use Rattle.format.specs.Rules.Trees.{less}
+use Rattle.theory.specs.TreeOrder.{firstMore, FirstIs}
+use Rattle.theory.specs.TreeViews.{at, rightOf, Standing}
 use Rattle.theory.proofs.Trees.Stand.{right-stands}
 use Rattle.theory.proofs.Trees.Spines.{firstMore-none, firstMore-at}
 use Rattle.directory.specs.Listed.{entriesOf}
@@ -12,6 +15,10 @@ use Rattle.hierarchy.proofs.places.right_ordered.Tie as tie
 side : (c : tie.Else1) → let p = c .before .before .before .before .before .args in Standing (entriesOf (p .d) (p .img .now)) (c .before .before .right-of .result .0)
 side c = rw (c .before .before .right-of .ensures) (right-stands _ _ (c .before .before .before .before .before .pre .1 .1) (none-no (c .before .is-none .ensures) (c .if1 .left) (c .before .before .right-of .ensures)))
 
+ordered : (c : tie.Else1) (r : ℕ) → let p = c .before .before .before .before .before .args in let e = entriesOf (p .d) (p .img .now) in
+    FirstIs e (c .before .before .right-of .result .0) r → firstMore e (p .x .0) (at e (rightOf e (p .x .0))) ≡ less e (p .x .0) r
+ordered c r a = rw (← c .before .before .right-of .ensures) (firstMore-at _ _ (side c) (c .before .before .before .before .before .args .x .0) r a)
+
 pub right-ordered-spec : {M : Type 1} → statement M
 right-ordered-spec =
     tie.close
@@ -21,4 +28,4 @@ right-ordered-spec =
     (λ c. sym (firstMore-none _ _ (none-yes (c .before .is-none .ensures) (c .if1 .taken) (c .before .before .right-of .ensures)) _))  -- returns
     (λ c κs. (c .before .before .before .before .before .pre .0, side c))  -- first-requires
     (λ c κs. let p = c .before .before .before .before .before .before .pre in (p .0, (standing-named (p .1 .0) (p .1 .1), standing-named (p .1 .0) (c .first .ensures .stands))))  -- less-requires
-    (λ c. let q = firstMore-at _ _ (side (c .before .before)) (c .before .before .before .before .before .before .before .args .x .0) _ (c .before .first .ensures) in let l = c .before .before .before .before .right-of .ensures in cc))  -- returns-2
+    (λ c. c .less .ensures ∙ sym (ordered (c .before .before) _ (c .before .first .ensures))))  -- returns-2
