@@ -55,6 +55,14 @@ module _ {d : Where} {img : Bytes} {work : List ℕ} (l : Listed d img work) whe
   pub count-few : countOf d < 0x2000_0000
   count-few = omega (arith, mul-le-mul-right (d .sectors) (per-few (l .sized)), l .few, l .sized .few)
 
+  -- what `count` asks
+  pub countable : (d .geometry .bytes ≤ 4096) × (d .sectors < 0x1_0000_0000)
+  countable = (l .sized .narrow, omega (arith, l .few, l .sized .few))
+
+  -- there is a root
+  pub root-inside : 0 < entriesOf d img .count
+  root-inside = omega (arith, count-is, mul-le-mul-right (d .sectors) (per-some (l .sized)), l .some)
+
   module _ (x : ℕ) (h : x < entriesOf d img .count) where
     inside : x / entriesIn g < d .sectors
     inside = let s = per-some (l .sized) in scale-below (entriesIn g) (d .sectors) x (omega arith) (omega (arith, count-is))

@@ -9,7 +9,7 @@ use Rattle.format.specs.Rules.Entries.{entryFields, entryRight}
 use Rattle.theory.proofs.Loops.{below-none, below-more, below-not}
 use Rattle.entries.specs.Entry.{entryAt}
 use Rattle.directory.specs.Listed.{countOf, entriesOf, placeOf}
-use Rattle.directory.proofs.Places.{count-is, count-few, placed, place-inside, rules-are, entry-tested}
+use Rattle.directory.proofs.Places.{countable, count-is, count-few, placed, place-inside, rules-are, entry-tested}
 use Rattle.directory.proofs.entry_rules.Statement.{statement}
 use Rattle.directory.proofs.entry_rules.Tie as tie
 
@@ -34,7 +34,7 @@ pub entry-rules-spec : {M : Type 1} → statement M
 entry-rules-spec =
     tie.close
     (tie.spec Inv-loop μ-loop
-    (λ c κs. let l = c .before .before .pre in (l .sized .narrow, omega (arith, l .few, l .sized .few)))  -- count-requires
+    (λ c κs. countable (c .before .before .pre))  -- count-requires
     (λ c. (omega arith, below-none _))  -- loop-holds
     (λ c. omega (arith, few c))  -- cast-t8
     (λ c κs. placed (c .before .before .before .before .before .pre) _ (inside c))  -- place-requires

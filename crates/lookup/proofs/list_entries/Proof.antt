@@ -8,7 +8,7 @@ use Rattle.theory.proofs.Trees.Nodes.{shape-sound}
 use Rattle.directory.specs.Listed.{entriesOf, Listed}
 use Rattle.directory.proofs.Places.{count-is}
 use Rattle.lookup.specs.Listing.{toCome}
-use Rattle.lookup.proofs.Root.{root-inside}
+use Rattle.directory.proofs.Places.{root-inside}
 use Rattle.lookup.proofs.Listings.{Listing, start-stands, start-room, list-start, list-stack, list-room, top-stands, rest-stands}
 use Rattle.lookup.proofs.Listings.{right-sound, right-room, child-sound, child-room, list-less, list-more, list-done, list-count}
 use Rattle.lookup.proofs.list_entries.Statement.{statement}

@@ -10,8 +10,7 @@ use Rattle.theory.proofs.Loops.{below-none, said-yes, said-no}
 use Rattle.theory.proofs.Trees.Nodes.{object-stands}
 use Rattle.theory.proofs.Trees.Passes.{places-more, places-fail, places-end}
 use Rattle.directory.specs.Listed.{entriesOf}
-use Rattle.directory.proofs.Places.{count-is, count-few}
-use Rattle.hierarchy.proofs.Entries.{countable}
+use Rattle.directory.proofs.Places.{count-is, count-few, countable}
 use Rattle.hierarchy.proofs.places.places.Statement.{statement}
 use Rattle.hierarchy.proofs.places.places.Tie as tie
 

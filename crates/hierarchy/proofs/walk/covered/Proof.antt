@@ -9,8 +9,7 @@ use Rattle.theory.specs.TreeWalk.{marked, marksIn}
 use Rattle.theory.proofs.Loops.{below-none}
 use Rattle.theory.proofs.Trees.Passes.{covered-more, covered-fails, covered-end}
 use Rattle.directory.specs.Listed.{entriesOf}
-use Rattle.directory.proofs.Places.{count-is, count-few}
-use Rattle.hierarchy.proofs.Entries.{countable}
+use Rattle.directory.proofs.Places.{count-is, count-few, countable}
 use Rattle.hierarchy.proofs.walk.covered.Statement.{statement}
 use Rattle.hierarchy.proofs.walk.covered.Tie as tie
 

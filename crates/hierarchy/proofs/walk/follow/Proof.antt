@@ -10,7 +10,8 @@ use Rattle.format.specs.Layout.Entry.{NOSTREAM}
 use Rattle.theory.specs.TreeWalk.{zeros, fresh, marksIn}
 use Rattle.theory.proofs.Loops.{said-yes, said-no}
 use Rattle.directory.specs.Listed.{countOf, entriesOf}
-use Rattle.hierarchy.proofs.Entries.{countable, root-inside, none-yes, none-no}
+use Rattle.directory.proofs.Places.{countable, root-inside}
+use Rattle.hierarchy.proofs.Entries.{none-yes, none-no}
 use Rattle.hierarchy.proofs.Walks.{Going, stack-in, start-kept, going-start, going-pop, going-skip, going-wrong, going-inside, going-room, going-less, going-mark, going-end}
 use Rattle.hierarchy.proofs.walk.follow.Statement.{statement}
 use Rattle.hierarchy.proofs.walk.follow.Tie as tie

@@ -1,6 +1,6 @@
 use borrow.Author.Needs.{needs}
 use native.Mathlib.Omega.{arith}
-use Rattle.hierarchy.proofs.Entries.{countable}
+use Rattle.directory.proofs.Places.{countable}
 use Rattle.hierarchy.proofs.Walks.{root-not-fresh, beyond-not-fresh, entry-inside, entry-fresh}
 use Rattle.hierarchy.proofs.walk.fresh.Statement.{statement}
 use Rattle.hierarchy.proofs.walk.fresh.Tie as tie
