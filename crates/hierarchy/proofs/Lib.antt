@@ -1,4 +1,4 @@
 -- Laws for the functions on the trees of the directory.
+pub mod Entries
 pub mod Walks
 pub mod Verdicts
-pub mod Entries

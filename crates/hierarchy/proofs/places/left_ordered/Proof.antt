@@ -15,10 +15,12 @@ use Rattle.hierarchy.proofs.places.left_ordered.Tie as tie
 side : (c : tie.Else1) → let p = c .before .before .before .before .before .args in Standing (entriesOf (p .d) (p .img .now)) (c .before .before .left-of .result .0)
 side c = rw (c .before .before .left-of .ensures) (left-stands _ _ (c .before .before .before .before .before .pre .1 .1) (none-no (c .before .is-none .ensures) (c .if1 .left) (c .before .before .left-of .ensures)))
 
+-- the order to the left side by the last of it
 ordered : (c : tie.Else1) (r : ℕ) → let p = c .before .before .before .before .before .args in let e = entriesOf (p .d) (p .img .now) in
     LastIs e (c .before .before .left-of .result .0) r → lastLess e (at e (leftOf e (p .x .0))) (p .x .0) ≡ less e r (p .x .0)
 ordered c r a = rw (← c .before .before .left-of .ensures) (lastLess-at _ _ (side c) (c .before .before .before .before .before .args .x .0) r a)
 
+-- the left number and the last of its side both have a name, so that only the order itself tells which is to be compared
 pub left-ordered-spec : {M : Type 1} → statement M
 left-ordered-spec =
     tie.close

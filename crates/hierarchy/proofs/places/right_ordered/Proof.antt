@@ -15,6 +15,7 @@ use Rattle.hierarchy.proofs.places.right_ordered.Tie as tie
 side : (c : tie.Else1) → let p = c .before .before .before .before .before .args in Standing (entriesOf (p .d) (p .img .now)) (c .before .before .right-of .result .0)
 side c = rw (c .before .before .right-of .ensures) (right-stands _ _ (c .before .before .before .before .before .pre .1 .1) (none-no (c .before .is-none .ensures) (c .if1 .left) (c .before .before .right-of .ensures)))
 
+-- the order to the right side by the first of it
 ordered : (c : tie.Else1) (r : ℕ) → let p = c .before .before .before .before .before .args in let e = entriesOf (p .d) (p .img .now) in
     FirstIs e (c .before .before .right-of .result .0) r → firstMore e (p .x .0) (at e (rightOf e (p .x .0))) ≡ less e (p .x .0) r
 ordered c r a = rw (← c .before .before .right-of .ensures) (firstMore-at _ _ (side c) (c .before .before .before .before .before .args .x .0) r a)
