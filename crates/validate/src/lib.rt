@@ -1,12 +1,12 @@
 // Validation: the first group of rules that an image breaks.
 ghost use mathlib.Core.Path.{_≡_};
 ghost use lib.ListN.{length};
-ghost use Rattle.format.specs.Layout.Geometry.{version3};
+ghost use Rattle.format.specs.Layout.Geometry.{version3, sectorCount};
 ghost use Rattle.kinds.specs.Sizes.{geometryOf};
 ghost use Rattle.kinds.specs.Numbers.{numberOf};
 ghost use Rattle.tables.specs.Sized.{ImageSized};
 ghost use Rattle.tables.specs.Work.{WorkClear};
-ghost use Rattle.tables.specs.Listed.{tablesOf};
+ghost use Rattle.tables.specs.Listed.{Listed as FatListed, listPlace, tablesOf};
 ghost use Rattle.theory.specs.TreeWalk.{WalkRoom};
 ghost use Rattle.directory.specs.Listed.{entriesOf, directoryAt, Listed};
 ghost use Rattle.validate.specs.Groups.{tableGroups, entryGroups, directoryVerdict};
@@ -65,6 +65,7 @@ fn open_directory(img: &[u8], work: &mut [u32], g: Geometry, n: usize) -> Direct
     ensures { λ r. ⌜ r ≡ directoryAt (tablesOf g (now (img .entry))) n ⌝ }
     ensures { λ r. ⌜ Listed r (now (img .entry)) (now (work .exit)) ⌝ }
     ensures { λ r. ⌜ WalkRoom (entriesOf r (now (img .entry))) n (now (work .exit)) ⌝ }
+    ensures { λ _. ⌜ FatListed (geometryOf g) (now (img .entry)) (now (work .exit)) (sectorCount (geometryOf g) (now (img .entry))) (listPlace (now (img .entry))) ⌝ }
 {
     let t = tables_of(img, g);
     let marks = g.entries() * n;
@@ -72,16 +73,18 @@ fn open_directory(img: &[u8], work: &mut [u32], g: Geometry, n: usize) -> Direct
     list_directory(img, work, t, n)
 }
 
-// Groups 14 and 15.
+// Groups 14 and 15. The walk over the trees is lent what it needs and no more, so the list of FAT sectors stays.
 fn entry_groups(img: &[u8], work: &mut [u32], g: Geometry, n: usize) -> Answer
     requires { ⌜ TablesHold (geometryOf g) (now img) (now work) n ⌝ }
     ensures { λ r. ⌜ numberOf r ≡ entryGroups (geometryOf g) (now (img .entry)) ⌝ }
+    ensures { λ _. ⌜ FatListed (geometryOf g) (now (img .entry)) (now (work .exit)) (sectorCount (geometryOf g) (now (img .entry))) (listPlace (now (img .entry))) ⌝ }
 {
     let d = open_directory(img, work, g, n);
     if !entry_rules(img, work, d) {
         return Answer::Entries;
     }
-    if !tree_rules(img, work, d, n) {
+    let m = n + 3 * d.count() + 1;
+    if !tree_rules(img, &mut work[..m], d, n) {
         return Answer::Trees;
     }
     Answer::Done

@@ -15,4 +15,4 @@ groups-spec =
     (λ c. search needs)  -- same-length
     (λ c. stage-refused _ _ _ (c .before .before .before .before .before .table-groups .ensures) (c .before .a .given .1) _)  -- returns
     (λ c. search needs)  -- same-length-2
-    (λ c. c .before .before .entry-groups .ensures ∙ sym (stage-passed _ _ _ (c .before .before .before .before .before .before .before .before .before .table-groups .ensures) (c .before .before .before .before .before .n .given .1) .later _)))  -- returns-2
+    (λ c. c .before .before .entry-groups .ensures .0 ∙ sym (stage-passed _ _ _ (c .before .before .before .before .before .before .before .before .before .table-groups .ensures) (c .before .before .before .before .before .n .given .1) .later _)))  -- returns-2

@@ -8,7 +8,7 @@ use Rattle.format.specs.Calls.Buffers.{workCleared}
 use Rattle.kinds.specs.Sizes.{geometryOf}
 use Rattle.directory.specs.Listed.{countOf, directoryAt}
 use Rattle.directory.proofs.Places.{count-is}
-use Rattle.validate.proofs.Walks.{room-before, room-in, still-listed, room-to-walk}
+use Rattle.validate.proofs.Walks.{room-before, room-in, still-listed, list-stays, room-to-walk}
 use Rattle.validate.proofs.open_directory.Statement.{statement}
 use Rattle.validate.proofs.open_directory.Tie as tie
 
@@ -40,4 +40,4 @@ open-directory-spec =
     let t = c .before .before .before .before .before .before .before .before .before .before .before .before .pre in
     let l = c .before .before .list-directory .ensures in
     let r = l .0 ∙ ap (λ x. directoryAt x (c .before .before .before .before .before .before .before .before .before .before .before .before .args .n)) (c .before .before .before .before .before .before .before .before .before .tables-of .ensures) in
-    (r, (l .1 .0, room-to-walk t (emptied (c .before .before .before .before .before .before)) _ (count-is (l .1 .0) ∙ ap countOf r) (l .1 .1)))))  -- returns
+    (r, (l .1 .0, (room-to-walk t (emptied (c .before .before .before .before .before .before)) _ (count-is (l .1 .0) ∙ ap countOf r) (l .1 .1), list-stays t (emptied (c .before .before .before .before .before .before)) (l .1 .1))))))  -- returns
