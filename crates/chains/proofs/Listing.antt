@@ -13,14 +13,14 @@ use Rattle.theory.proofs.Chains.{chain-next, units-next}
 use Rattle.tables.specs.Work.{Wrote, Holds}
 use Rattle.tables.specs.Listed.{Listed}
 use Rattle.tables.proofs.WorkLaws.{wrote-none, wrote-set, holds-none, holds-more, listed-kept}
-use Rattle.chains.specs.Answers.{number}
+use Rattle.chains.specs.Answers.{unitAt}
 
 pub record Listing (g : Geometry) (img : Bytes) (w₀ : List ℕ) (sectors list n s₀ at : ℕ) (w : List ℕ) (s i : ℕ) : Type 0 where
   pub some : i ≤ n
   pub room : at + n ≤ list
   pub listed : Listed g img w sectors list
   pub wrote : Wrote w₀ w at n
-  pub holds : Holds w at i (number (units (fatCell g img) n s₀))
+  pub holds : Holds w at i (unitAt (units (fatCell g img) n s₀))
   pub left : chain (fatCell g img) (sectorCount g img) (n - i) s ≡ true
   pub rest : (j : ℕ) → getD (units (fatCell g img) n s₀) (i + j) 0 ≡ getD (units (fatCell g img) (n - i) s) j 0
 

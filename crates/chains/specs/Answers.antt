@@ -25,9 +25,9 @@ pub record Remarked (g : Geometry) (img : Bytes) (n s : ℕ) (before after : Lis
   pub chained : chain (fatCell g img) (sectorCount g img) n s ≡ true → ChainMarked (fatCell g img) (sectorCount g img) n s (marks before) (marks after)
   pub wrote : Wrote before after 0 (sectorCount g img)
 
--- number k of a list
-abbrev pub number : List ℕ → ℕ → ℕ
-number us k = getD us k 0
+-- unit k of a chain's units
+abbrev pub unitAt : List ℕ → ℕ → ℕ
+unitAt us k = getD us k 0
 
 -- the length, where there is a chain
 unfoldable pub lengthAnswer : Bool → ℕ → Length

@@ -15,7 +15,7 @@ ghost use Rattle.theory.specs.Marks.{marks, Closed};
 ghost use Rattle.kinds.specs.Sizes.{geometryOf};
 ghost use Rattle.tables.specs.Work.{Wrote, Holds};
 ghost use Rattle.tables.specs.Listed.{Listed};
-ghost use Rattle.chains.specs.Answers.{markAnswer, Remarked, number, lengthAnswer};
+ghost use Rattle.chains.specs.Answers.{markAnswer, Remarked, unitAt, lengthAnswer};
 use kinds::Sector;
 use le::u32_at;
 use tables::Tables;
@@ -68,7 +68,7 @@ pub fn list_chain(img: &[u8], work: &mut [u32], t: Tables, start: Sector, n: usi
     requires { ⌜ chain (fatCell (geometryOf (t .geometry)) (now img)) (sectorCount (geometryOf (t .geometry)) (now img)) n (start .0) ≡ true ⌝ }
     requires { ⌜ at + n ≤ t .list ⌝ }
     ensures { λ _. ⌜ Wrote (now (work .entry)) (now (work .exit)) at n ⌝ }
-    ensures { λ _. ⌜ Holds (now (work .exit)) at n (number (units (fatCell (geometryOf (t .geometry)) (now (img .entry))) n (start .0))) ⌝ }
+    ensures { λ _. ⌜ Holds (now (work .exit)) at n (unitAt (units (fatCell (geometryOf (t .geometry)) (now (img .entry))) n (start .0))) ⌝ }
 {
     let mut s = start;
     let mut i = 0;

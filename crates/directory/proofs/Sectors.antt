@@ -23,7 +23,7 @@ use Rattle.theory.proofs.Chains.{chain-linked, follow-units, linked-below, link
 use Rattle.tables.specs.Work.{Holds}
 use Rattle.tables.specs.Listed.{Listed as FatListed}
 use Rattle.tables.specs.declared.Tables.{Tables}
-use Rattle.chains.specs.Answers.{number}
+use Rattle.chains.specs.Answers.{unitAt}
 use Rattle.directory.specs.Listed.{directoryAt, Listed}
 
 module _ (g : Geometry) (img : Bytes) (h : directoryRules (volume g img) ≡ true) where
@@ -69,7 +69,7 @@ module _ {img : Bytes} {w : List ℕ} (t : Tables) (n s : ℕ) (l : FatListed (g
   units-are : units (fatCell g img) n s ≡ directorySectorsOf g img
   units-are = ap₂ (λ k u. units (fatCell g img) k u) e d ∙ directory-units g img h
 
-  pub listing-left : {w′ : List ℕ} → Holds w′ 0 n (number (units (fatCell g img) n s)) → Listed (directoryAt t n) img w′
+  pub listing-left : {w′ : List ℕ} → Holds w′ 0 n (unitAt (units (fatCell g img) n s)) → Listed (directoryAt t n) img w′
   listing-left a =
       record {
         sized = l .sized;

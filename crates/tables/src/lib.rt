@@ -18,7 +18,7 @@ pub mod sectors;
 
 // ---- lengths
 
-// Answer 1 stays away: whether an image of n bytes may be looked at.
+// Whether an image of n bytes may be looked at; where not, the answer is 1.
 pub fn length_allowed(n: usize, g: Geometry) -> bool
     requires { ⌜ 0 < g .bytes ⌝ }
     requires { ⌜ g .bytes ≤ 4096 ⌝ }
