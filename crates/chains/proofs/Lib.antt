@@ -1,4 +1,5 @@
 -- Laws for the walks along the FAT.
 pub mod Walks
+pub mod Owners
 pub mod Listing
 pub mod Groups

@@ -1,11 +1,11 @@
--- The walk that marks a chain in the work buffer: the marks at its start, the list of FAT sectors further on.
+-- The walk that marks a chain in the work buffer, whose marks stand at its start, over any table of cells.
 use Prim.Native.Nat.{ℕ, _-_, _≤_, _<_}
 use mathlib.Core.Path.{_≡_, refl, sym, _∙_}
 use mathlib.Core.Logic.{_≢_}
 use mathlib.Core.Bool.{true, false}
 use mathlib.Core.List.{List}
 use native.Mathlib.Omega.{arith}
-use lib.ListN.{length, getD, set}
+use lib.ListN.{length, getD, set, length-set}
 use lib.Seq.{getD-set-same, getD-set-other}
 use borrow.Author.Tests.{eq-eqb, ne-eqb}
 use Rattle.format.specs.Basics.Lists.{all}
@@ -14,7 +14,8 @@ use Rattle.format.specs.Layout.Geometry.{Geometry, sectorCount}
 use Rattle.format.specs.Layout.Chain.{END, chain, units}
 use Rattle.format.specs.Layout.Tables.{fatCell}
 use Rattle.theory.specs.Marks.{marks, unmarked, Closed}
-use Rattle.theory.proofs.Tests.{clash}
+use Rattle.theory.proofs.Tests.{clash, false-of}
+use Rattle.theory.proofs.Chains.{chain-short}
 use Rattle.theory.proofs.Marks.{closed-none, Marking, marking-start, marking-step, marking-end, marking-fresh, marking-done, marking-out, marking-met, marking-clash}
 use Rattle.tables.specs.Work.{Wrote, WorkClear}
 use Rattle.tables.specs.Listed.{Listed}
@@ -64,46 +65,44 @@ module _ (cell : ℕ → ℕ) (limit n s : ℕ) (m : ℕ → ℕ) where
 
 -- ---- the walk over a chain of n from s₀: it is at s, with k to go, and the buffer w₀ has become w
 
-pub record Walk (g : Geometry) (img : Bytes) (w₀ : List ℕ) (sectors list n s₀ : ℕ) (w : List ℕ) (s k : ℕ) : Type 0 where
-  pub marking : Marking (fatCell g img) (sectorCount g img) n s₀ (marks w₀) k s (marks w)
-  pub listed : Listed g img w sectors list
-  pub wrote : Wrote w₀ w 0 (sectorCount g img)
+pub record Walk (cell : ℕ → ℕ) (limit : ℕ) (w₀ : List ℕ) (n s₀ : ℕ) (w : List ℕ) (s k : ℕ) : Type 0 where
+  pub room : limit ≤ length w
+  pub marking : Marking cell limit n s₀ (marks w₀) k s (marks w)
+  pub wrote : Wrote w₀ w 0 limit
 
 -- what the walk answers, and the buffer that it leaves
-pub record Answered (g : Geometry) (img : Bytes) (w₀ : List ℕ) (n s₀ : ℕ) (w : List ℕ) (a : Marked) : Type 0 where
-  pub answer : a ≡ markAnswer (fatCell g img) (sectorCount g img) n s₀ (marks w₀)
-  pub left : Remarked g img n s₀ w₀ w
+pub record Answered (cell : ℕ → ℕ) (limit : ℕ) (w₀ : List ℕ) (n s₀ : ℕ) (w : List ℕ) (a : Marked) : Type 0 where
+  pub answer : a ≡ markAnswer cell limit n s₀ (marks w₀)
+  pub left : Remarked cell limit n s₀ w₀ w
 
-module _ {g : Geometry} {img : Bytes} {w₀ : List ℕ} {sectors list n s₀ : ℕ} where
-  pub walk-start : Listed g img w₀ sectors list → Closed (fatCell g img) (sectorCount g img) (marks w₀) → Walk g img w₀ sectors list n s₀ w₀ s₀ n
-  walk-start l c = record { marking = marking-start c; listed = l; wrote = wrote-none w₀ 0 _ }
+module _ {cell : ℕ → ℕ} {limit : ℕ} {w₀ : List ℕ} {n s₀ : ℕ} where
+  pub walk-start : limit ≤ length w₀ → Closed cell limit (marks w₀) → Walk cell limit w₀ n s₀ w₀ s₀ n
+  walk-start l c = record { room = l; marking = marking-start c; wrote = wrote-none w₀ 0 _ }
 
-  module _ {w : List ℕ} {s k : ℕ} (at : Walk g img w₀ sectors list n s₀ w s k) where
-    pub walk-step : 0 < k → s < sectorCount g img → getD w s 0 ≤ 0 → Walk g img w₀ sectors list n s₀ (set w s k) (fatCell g img s) (k - 1)
+  module _ {w : List ℕ} {s k : ℕ} (at : Walk cell limit w₀ n s₀ w s k) where
+    pub walk-step : 0 < k → s < limit → getD w s 0 ≤ 0 → Walk cell limit w₀ n s₀ (set w s k) (cell s) (k - 1)
     walk-step p l z =
         record {
-          marking =
-              marking-step (marks (set w s k)) (at .marking) p l (rw marks-at (omega arith))
-              (marks-same w s k (omega (arith, at .listed .apart, at .listed .room))) (marks-other w s k);
-          listed = listed-set s k (at .listed) l;
+          room = rw length-set (at .room);
+          marking = marking-step (marks (set w s k)) (at .marking) p l (rw marks-at (omega arith)) (marks-same w s k (omega (arith, at .room))) (marks-other w s k);
           wrote = wrote-set s k (at .wrote) (omega arith) (omega arith);
         }
 
-    broken : chain (fatCell g img) (sectorCount g img) n s₀ ≡ false → Answered g img w₀ n s₀ w Broken
+    broken : chain cell limit n s₀ ≡ false → Answered cell limit w₀ n s₀ w Broken
     broken h = record { answer = answer-broken _ _ _ _ _ h; left = record { chained = λ e. absurd (clash e h); wrote = at .wrote } }
 
-    pub walk-out : 0 < k → sectorCount g img ≤ s → Answered g img w₀ n s₀ w Broken
+    pub walk-out : 0 < k → limit ≤ s → Answered cell limit w₀ n s₀ w Broken
     walk-out p h = broken (marking-out (at .marking) p h)
 
-    pub walk-clash : Closed (fatCell g img) (sectorCount g img) (marks w₀) → s < sectorCount g img → 0 < getD w s 0 → getD w s 0 ≢ k → Answered g img w₀ n s₀ w Broken
-    walk-clash c l p d = broken (marking-clash (omega (arith, at .listed .sized .few)) c (at .marking) l (rw marks-at p) (rw marks-at d))
+    pub walk-clash : limit ≤ END → Closed cell limit (marks w₀) → s < limit → 0 < getD w s 0 → getD w s 0 ≢ k → Answered cell limit w₀ n s₀ w Broken
+    walk-clash b c l p d = broken (marking-clash b c (at .marking) l (rw marks-at p) (rw marks-at d))
 
-    pub walk-shared : 0 < k → s < sectorCount g img → getD w s 0 ≡ k → Answered g img w₀ n s₀ w Shared
+    pub walk-shared : 0 < k → s < limit → getD w s 0 ≡ k → Answered cell limit w₀ n s₀ w Shared
     walk-shared p l e =
         let r = marking-met (at .marking) p l (rw marks-at e) in
         record { answer = answer-shared _ _ _ _ _ (r .0) (r .1); left = record { chained = λ h. r .2; wrote = at .wrote } }
 
-    pub walk-fresh : k ≤ 0 → s ≡ END → Answered g img w₀ n s₀ w Fresh
+    pub walk-fresh : k ≤ 0 → s ≡ END → Answered cell limit w₀ n s₀ w Fresh
     walk-fresh z e =
         let y : k ≡ 0 = omega arith in
         record {
@@ -111,5 +110,11 @@ module _ {g : Geometry} {img : Bytes} {w₀ : List ℕ} {sectors list n s₀ : �
           left = record { chained = λ h. marking-done (at .marking) y e; wrote = at .wrote };
         }
 
-    pub walk-off : k ≤ 0 → s ≢ END → Answered g img w₀ n s₀ w Broken
+    pub walk-off : k ≤ 0 → s ≢ END → Answered cell limit w₀ n s₀ w Broken
     walk-off z d = broken (marking-end (at .marking) (omega arith) ∙ ne-eqb s END d)
+
+-- a chain of more units than there are is none, whatever stands in the buffer
+pub too-long : {cell : ℕ → ℕ} {limit : ℕ} (w : List ℕ) {n s : ℕ} → limit ≤ END → limit < n → Answered cell limit w n s w Broken
+too-long {cell} {limit} w {n} {s} b h =
+    let f : chain cell limit n s ≡ true → ⊥ = λ e. omega (arith, chain-short cell limit b n s e) in
+    record { answer = answer-broken _ _ _ _ _ (false-of _ f); left = record { chained = λ e. absurd (f e); wrote = wrote-none w 0 _ } }

@@ -1,14 +1,11 @@
 -- What marking a chain answers and leaves, and what the search for a chain's length answers.
 use Prim.Native.Nat.{ℕ}
 use mathlib.Core.Path.{_≡_}
-use mathlib.Core.Bool.{Bool, true, cond}
+use mathlib.Core.Bool.{Bool, true, false, cond}
 use mathlib.Core.List.{List}
 use lib.ListN.{getD}
 use Rattle.format.specs.Basics.Lists.{all}
-use Rattle.format.specs.Basics.Bytes.{Bytes}
-use Rattle.format.specs.Layout.Geometry.{Geometry, sectorCount}
 use Rattle.format.specs.Layout.Chain.{chain, units}
-use Rattle.format.specs.Layout.Tables.{fatCell}
 use Rattle.theory.specs.Marks.{marks, unmarked, ChainMarked}
 use Rattle.tables.specs.Work.{Wrote}
 use Rattle.chains.specs.declared.Marked.{Marked}
@@ -20,10 +17,21 @@ use Rattle.chains.specs.declared.Length.the-variants.{Is, Never}
 unfoldable pub markAnswer : (ℕ → ℕ) → ℕ → ℕ → ℕ → (ℕ → ℕ) → Marked
 markAnswer cell limit n s m = cond (chain cell limit n s) (cond (all (unmarked m) (units cell n s)) Fresh Shared) Broken
 
--- the work buffer after a chain of n from s was marked in it: the marks of a right chain, and nothing but sectors' marks changed
-pub record Remarked (g : Geometry) (img : Bytes) (n s : ℕ) (before after : List ℕ) : Type 0 where
-  pub chained : chain (fatCell g img) (sectorCount g img) n s ≡ true → ChainMarked (fatCell g img) (sectorCount g img) n s (marks before) (marks after)
-  pub wrote : Wrote before after 0 (sectorCount g img)
+-- what the answer says of the chain, and of its units
+abbrev pub isBroken : Marked → Bool
+isBroken Broken = true
+isBroken Fresh = false
+isBroken Shared = false
+
+abbrev pub isShared : Marked → Bool
+isShared Broken = false
+isShared Fresh = false
+isShared Shared = true
+
+-- the work buffer after a chain of n from s was marked in it: the marks of a right chain, and nothing but units' marks changed
+pub record Remarked (cell : ℕ → ℕ) (limit n s : ℕ) (before after : List ℕ) : Type 0 where
+  pub chained : chain cell limit n s ≡ true → ChainMarked cell limit n s (marks before) (marks after)
+  pub wrote : Wrote before after 0 limit
 
 -- unit k of a chain's units
 abbrev pub unitAt : List ℕ → ℕ → ℕ

@@ -1,11 +1,12 @@
 // Walks along the FAT: the walk that marks a chain, group 12, and group 13.
 ghost use mathlib.Core.Path.{_≡_};
 ghost use mathlib.Core.Bool.{true, _&&_};
-ghost use Prim.Native.Nat.{_+_, _≤_};
+ghost use Prim.Native.Nat.{_+_, _≤_, _<_};
 ghost use lib.Dec.{leb, eqb};
 ghost use lib.ListN.{length};
 ghost use Rattle.format.specs.Basics.Lists.{allBelow};
 ghost use Rattle.format.specs.Layout.Geometry.{sectorCount};
+ghost use Rattle.format.specs.Layout.Need.{roundUp};
 ghost use Rattle.format.specs.Layout.Chain.{END, chain, units};
 ghost use Rattle.format.specs.Layout.Tables.{fatCell, sectorSpace};
 ghost use Rattle.format.specs.Layout.Volume.{directorySectorsOf, volume};
@@ -15,7 +16,7 @@ ghost use Rattle.theory.specs.Marks.{marks, Closed};
 ghost use Rattle.kinds.specs.Sizes.{geometryOf};
 ghost use Rattle.tables.specs.Work.{Wrote, Holds};
 ghost use Rattle.tables.specs.Listed.{Listed};
-ghost use Rattle.chains.specs.Answers.{markAnswer, Remarked, unitAt, lengthAnswer};
+ghost use Rattle.chains.specs.Answers.{markAnswer, isBroken, isShared, Remarked, unitAt, lengthAnswer};
 use kinds::Sector;
 use le::u32_at;
 use tables::Tables;
@@ -30,12 +31,34 @@ pub enum Marked {
     Shared,
 }
 
+impl Marked {
+    pub fn is_broken(self) -> bool
+        ensures { λ r. ⌜ r ≡ isBroken self ⌝ }
+    {
+        match self {
+            Marked::Broken => true,
+            Marked::Fresh => false,
+            Marked::Shared => false,
+        }
+    }
+
+    pub fn is_shared(self) -> bool
+        ensures { λ r. ⌜ r ≡ isShared self ⌝ }
+    {
+        match self {
+            Marked::Broken => false,
+            Marked::Fresh => false,
+            Marked::Shared => true,
+        }
+    }
+}
+
 // Marks the n sectors of a chain, each with how many are left from there.
 pub fn mark_chain(img: &[u8], work: &mut [u32], t: Tables, start: Sector, n: u32) -> Marked
     requires { ⌜ Listed (geometryOf (t .geometry)) (now img) (now work) (t .sectors) (t .list) ⌝ }
     requires { ⌜ Closed (fatCell (geometryOf (t .geometry)) (now img)) (sectorCount (geometryOf (t .geometry)) (now img)) (marks (now work)) ⌝ }
     ensures { λ r. ⌜ r ≡ markAnswer (fatCell (geometryOf (t .geometry)) (now (img .entry))) (sectorCount (geometryOf (t .geometry)) (now (img .entry))) n (start .0) (marks (now (work .entry))) ⌝ }
-    ensures { λ _. ⌜ Remarked (geometryOf (t .geometry)) (now (img .entry)) n (start .0) (now (work .entry)) (now (work .exit)) ⌝ }
+    ensures { λ _. ⌜ Remarked (fatCell (geometryOf (t .geometry)) (now (img .entry))) (sectorCount (geometryOf (t .geometry)) (now (img .entry))) n (start .0) (now (work .entry)) (now (work .exit)) ⌝ }
 {
     let mut s = start;
     let mut k = n;
@@ -58,6 +81,32 @@ pub fn mark_chain(img: &[u8], work: &mut [u32], t: Tables, start: Sector, n: u32
         return Marked::Fresh;
     }
     Marked::Broken
+}
+
+// How many units hold so many bytes.
+pub fn units_for(size: u64, unit: u64) -> u64
+    requires { ⌜ 1 < unit ⌝ }
+    ensures { λ r. ⌜ r ≡ roundUp size unit ⌝ }
+{
+    if size % unit == 0 {
+        return size / unit;
+    }
+    size / unit + 1
+}
+
+// Marks the sectors of a chain that holds so many bytes. One of more sectors than there are is broken without a walk.
+pub fn mark_bytes(img: &[u8], work: &mut [u32], t: Tables, start: Sector, size: u64) -> Marked
+    requires { ⌜ Listed (geometryOf (t .geometry)) (now img) (now work) (t .sectors) (t .list) ⌝ }
+    requires { ⌜ Closed (fatCell (geometryOf (t .geometry)) (now img)) (sectorCount (geometryOf (t .geometry)) (now img)) (marks (now work)) ⌝ }
+    ensures { λ r. ⌜ r ≡ markAnswer (fatCell (geometryOf (t .geometry)) (now (img .entry))) (sectorCount (geometryOf (t .geometry)) (now (img .entry))) (roundUp size (t .geometry .bytes)) (start .0) (marks (now (work .entry))) ⌝ }
+    ensures { λ _. ⌜ Remarked (fatCell (geometryOf (t .geometry)) (now (img .entry))) (sectorCount (geometryOf (t .geometry)) (now (img .entry))) (roundUp size (t .geometry .bytes)) (start .0) (now (work .entry)) (now (work .exit)) ⌝ }
+{
+    let g = t.geometry;
+    let n = units_for(size, g.bytes as u64);
+    if (t.sectors as u64) < n {
+        return Marked::Broken;
+    }
+    mark_chain(img, work, t, start, n as u32)
 }
 
 // ---- listing a chain

@@ -6,12 +6,8 @@ use Rattle.format.specs.Layout.Name.{Name, nameLess, nameEqual, fold}
 use Rattle.kinds.specs.declared.Order.{Order}
 use Rattle.kinds.specs.declared.Order.the-variants.{Less, Same, More}
 use Rattle.kinds.specs.Ordering.{ordering}
-use Rattle.theory.proofs.Tests.{clash}
+use Rattle.theory.proofs.Tests.{clash, false-of}
 use Rattle.theory.proofs.NameOrder.{lessBy, equalBy, by-three, by-apart, by-once, less-is, equal-is}
-
-false-of : (b : Bool) → (b ≡ true → ⊥) → b ≡ false
-false-of true f = absurd (f refl)
-false-of false f = refl
 
 module _ (a b : Name) where
   -- ---- by the order of `fold`

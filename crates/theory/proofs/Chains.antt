@@ -132,6 +132,9 @@ module _ (f : ℕ → ℕ) (N : ℕ) (lim : N ≤ END) where
   pub linked-short : (us : List ℕ) → Linked f N us → length us ≤ N
   linked-short us h = pigeonhole us N (linked-below f N us h) (linked-once us h)
 
+  pub chain-short : (n s : ℕ) → chain f N n s ≡ true → n ≤ N
+  chain-short n s h = omega (arith, linked-short (units f n s) (chain-linked f N n s h .0), length-units f n s)
+
 -- ---- following a chain whose length is not known: the limit is fuel enough
 
 follow-chain : (f : ℕ → ℕ) (N n m s : ℕ) → N ≤ END → n ≤ m → chain f N n s ≡ true → follow f N m s ≡ units f n s

@@ -14,6 +14,7 @@ pub mod OwnerCounts
 pub mod ListSums
 pub mod Chains
 pub mod Marks
+pub mod OwnerMarks
 pub mod Relinks
 pub mod Cuts
 pub mod FreeUnits

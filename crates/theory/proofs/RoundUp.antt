@@ -1,7 +1,8 @@
 -- How many units hold a number of bytes.
 use mathlib.Core.Path.{_≡_}
-use Prim.Native.Nat.{ℕ, zero, suc, _+_, _-_, _*_, _/_, _≤_, _<_}
-use native.Mathlib.Nat.{mul-le-mul-right, lt-div-mul-add, div-mul-le-self, div-add-mod', mod-lt, div-lt-iff-lt-mul}
+use mathlib.Core.Logic.{_≢_}
+use Prim.Native.Nat.{ℕ, zero, suc, _+_, _-_, _*_, _/_, _%_, _≤_, _<_}
+use native.Mathlib.Nat.{mul-le-mul-right, lt-div-mul-add, div-mul-le-self, div-add-mod', mod-lt, div-lt-iff-lt-mul, div-eq-of-lt-le, add-mul}
 use native.Mathlib.Omega.{arith}
 use native.Mathlib.Decide.{decLt}
 use Rattle.format.specs.Layout.Need.{roundUp}
@@ -38,3 +39,16 @@ round-mono n m d z h =
           absurd (omega (arith, a, b, c, mul-le-mul-right d p))
       | no p ↦ omega arith
     ]
+
+-- by what a division leaves
+module _ (n d : ℕ) (z : 0 < d) where
+  pub round-whole : n % d ≡ 0 → roundUp n d ≡ n / d
+  unfolding roundUp
+  round-whole e = let a = div-add-mod' n d in div-eq-of-lt-le d (omega arith) (omega (arith, add-mul (n / d) 1 d))
+
+  pub round-more : n % d ≢ 0 → roundUp n d ≡ n / d + 1
+  unfolding roundUp
+  round-more e =
+      let a = div-add-mod' n d in
+      let b = mod-lt n z in
+      div-eq-of-lt-le d (omega (arith, add-mul (n / d) 1 d)) (omega (arith, add-mul (n / d) 1 d, add-mul (n / d + 1) 1 d))

@@ -16,6 +16,10 @@ use Rattle.theory.proofs.Counts.{eqb-cases}
 pub clash : {b : Bool} → b ≡ true → b ≡ false → ⊥
 clash {b} p q = let z = ap (λ (b : Bool). cond {A = ℕ} b 0 1) (sym p ∙ q) in omega arith
 
+pub false-of : (b : Bool) → (b ≡ true → ⊥) → b ≡ false
+false-of true f = absurd (f refl)
+false-of false f = refl
+
 pub both : (a b : Bool) → (a && b) ≡ true → (a ≡ true) × (b ≡ true)
 both true b h = (refl, h)
 both false b h = absurd (clash h refl)

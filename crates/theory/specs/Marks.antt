@@ -1,12 +1,12 @@
 -- Marks on units: at each marked unit, how many units its chain still has, itself included. 0 is no mark.
 use mathlib.Core.Path.{_≡_}
 use mathlib.Core.Logic.{_⊎_}
-use mathlib.Core.Bool.{Bool, _||_}
+use mathlib.Core.Bool.{Bool, true, false, _||_}
 use mathlib.Core.List.{List}
-use Prim.Native.Nat.{ℕ, suc, _<_}
+use Prim.Native.Nat.{ℕ, suc, _≤_, _<_}
 use lib.Dec.{eqb, ltb}
 use lib.ListN.{getD}
-use Rattle.format.specs.Basics.Lists.{member}
+use Rattle.format.specs.Basics.Lists.{count, member}
 use Rattle.format.specs.Layout.Chain.{END, units}
 
 -- the marks that stand in a list, each at its unit's number
@@ -27,3 +27,10 @@ pub record Closed (cell : ℕ → ℕ) (limit : ℕ) (m : ℕ → ℕ) : Type 0 
 pub record ChainMarked (cell : ℕ → ℕ) (limit n s : ℕ) (before after : ℕ → ℕ) : Type 0 where
   pub closed : Closed cell limit after
   pub marked : (u : ℕ) → u < limit → ltb 0 (after u) ≡ (ltb 0 (before u) || member u (units cell n s))
+
+-- The chains whose units are `owned`, end to end, have been marked; `shared` says whether a unit stands twice among them.
+pub record Owning (cell : ℕ → ℕ) (limit : ℕ) (owned : List ℕ) (m : ℕ → ℕ) (shared : Bool) : Type 0 where
+  pub closed : Closed cell limit m
+  pub marked : (u : ℕ) → u < limit → ltb 0 (m u) ≡ member u owned
+  pub single : shared ≡ false → (u : ℕ) → u < limit → count u owned ≤ 1
+  pub double : shared ≡ true → (u : ℕ) × (u < limit) × (1 < count u owned)
