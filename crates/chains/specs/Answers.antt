@@ -1,12 +1,13 @@
 -- What marking a chain answers and leaves, and what the search for a chain's length answers.
 use Prim.Native.Nat.{ℕ}
 use mathlib.Core.Path.{_≡_}
-use mathlib.Core.Bool.{Bool, true, false, cond}
-use mathlib.Core.List.{List}
+use mathlib.Core.Bool.{Bool, true, false, not, cond, _||_}
+use mathlib.Core.List.{List, _++_}
 use lib.ListN.{getD}
 use Rattle.format.specs.Basics.Lists.{all}
 use Rattle.format.specs.Layout.Chain.{chain, units}
-use Rattle.theory.specs.Marks.{marks, unmarked, ChainMarked}
+use Rattle.format.specs.Layout.Space.{Space}
+use Rattle.theory.specs.Marks.{marks, unmarked, Closed, ChainMarked, Owning}
 use Rattle.tables.specs.Work.{Wrote}
 use Rattle.chains.specs.declared.Marked.{Marked}
 use Rattle.chains.specs.declared.Marked.the-variants.{Broken, Fresh, Shared}
@@ -32,6 +33,22 @@ isShared Shared = true
 pub record Remarked (cell : ℕ → ℕ) (limit n s : ℕ) (before after : List ℕ) : Type 0 where
   pub chained : chain cell limit n s ≡ true → ChainMarked cell limit n s (marks before) (marks after)
   pub wrote : Wrote before after 0 limit
+
+-- the answer for two walks, where the first is not broken
+abbrev pub andThen : Marked → Marked → Marked
+andThen Broken b = Broken
+andThen Fresh b = b
+andThen Shared Broken = Broken
+andThen Shared Fresh = Shared
+andThen Shared Shared = Shared
+
+-- Chains have been marked, one after the other: `right` says whether all of them are chains, `own` are their units end to end.
+pub record ChainsMarked (sp : Space) (right : Bool) (own before after : List ℕ) (a : Marked) : Type 0 where
+  pub answer : isBroken a ≡ not right
+  pub closed : right ≡ true → Closed (sp .cell) (sp .limit) (marks after)
+  pub owners : right ≡ true → (owned : List ℕ) (shared : Bool) → Owning (sp .cell) (sp .limit) owned (marks before) shared
+      → Owning (sp .cell) (sp .limit) (owned ++ own) (marks after) (shared || isShared a)
+  pub wrote : Wrote before after 0 (sp .limit)
 
 -- unit k of a chain's units
 abbrev pub unitAt : List ℕ → ℕ → ℕ

@@ -16,7 +16,7 @@ ghost use Rattle.theory.specs.Marks.{marks, Closed};
 ghost use Rattle.kinds.specs.Sizes.{geometryOf};
 ghost use Rattle.tables.specs.Work.{Wrote, Holds};
 ghost use Rattle.tables.specs.Listed.{Listed};
-ghost use Rattle.chains.specs.Answers.{markAnswer, isBroken, isShared, Remarked, unitAt, lengthAnswer};
+ghost use Rattle.chains.specs.Answers.{markAnswer, isBroken, isShared, andThen, Remarked, unitAt, lengthAnswer};
 use kinds::Sector;
 use le::u32_at;
 use tables::Tables;
@@ -49,6 +49,21 @@ impl Marked {
             Marked::Broken => false,
             Marked::Fresh => false,
             Marked::Shared => true,
+        }
+    }
+
+    // This walk, which is not broken, and a later one.
+    pub fn and_then(self, later: Marked) -> Marked
+        ensures { λ r. ⌜ r ≡ andThen self later ⌝ }
+    {
+        match self {
+            Marked::Broken => Marked::Broken,
+            Marked::Fresh => later,
+            Marked::Shared => match later {
+                Marked::Broken => Marked::Broken,
+                Marked::Fresh => Marked::Shared,
+                Marked::Shared => Marked::Shared,
+            },
         }
     }
 }

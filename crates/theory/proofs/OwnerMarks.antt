@@ -12,7 +12,7 @@ use Rattle.format.specs.Basics.Lists.{all, allBelow, bit, count, member}
 use Rattle.format.specs.Layout.Chain.{END, FREE, chain, units, isFree}
 use Rattle.format.specs.Layout.Space.{Space}
 use Rattle.format.specs.Rules.Owners.{ownerRule, ownerRight, ownersIn}
-use Rattle.theory.specs.Marks.{unmarked, ChainMarked, Owning}
+use Rattle.theory.specs.Marks.{unmarked, ChainMarked, Owning, covered}
 use Rattle.theory.proofs.Counts.{bit-self, count-append}
 use Rattle.theory.proofs.Tests.{clash, all-at, below-ext}
 use Rattle.theory.proofs.Loops.{below-not}
@@ -129,15 +129,11 @@ rule-more zero c h = absurd (omega arith)
 rule-more (suc zero) c h = absurd (omega arith)
 rule-more (suc (suc n)) c h = refl
 
--- The test of a unit: it has a mark, or its cell is free, or it is one of the `others`, which stand in no chain.
-abbrev pub covers : (ℕ → ℕ) → (ℕ → ℕ) → List ℕ → ℕ → Bool
-covers cell m others u = ltb 0 (m u) || (isFree cell u || member u others)
-
 module _ (sp : Space) {m : ℕ → ℕ} {shared : Bool} (owned others all : List ℕ) (o : Owning (sp .cell) (sp .limit) owned m shared)
     (sum : (u : ℕ) → count u all ≡ count u others + count u owned)
     (apart : (u : ℕ) → u < sp .limit → 0 < count u others → (count u others ≡ 1) × (count u owned ≡ 0)) where
-  one : (u : ℕ) → u < sp .limit → shared ≡ false → ownerRight sp all u ≡ covers (sp .cell) m others u
-  unfolding ownerRight member
+  one : (u : ℕ) → u < sp .limit → shared ≡ false → ownerRight sp all u ≡ covered (sp .cell) m others u
+  unfolding ownerRight member covered
   one u l e =
       elim (decLt 0 (count u others)) [
         | yes p ↦
@@ -155,12 +151,12 @@ module _ (sp : Space) {m : ℕ → ℕ} {shared : Bool} (owned others all : List
       ]
 
   -- group 18 holds in a space where no unit is shared and each is covered
-  pub owners-by-marks : ownersIn sp all ≡ (not shared && allBelow (sp .limit) (covers (sp .cell) m others))
+  pub owners-by-marks : ownersIn sp all ≡ (not shared && allBelow (sp .limit) (covered (sp .cell) m others))
   unfolding ownersIn ownerRight
   owners-by-marks = go shared refl
     where
-      go : (b : Bool) → shared ≡ b → ownersIn sp all ≡ (not shared && allBelow (sp .limit) (covers (sp .cell) m others))
-      go false e = rw e (below-ext (sp .limit) (covers (sp .cell) m others) (ownerRight sp all) (λ u l. one u l e))
+      go : (b : Bool) → shared ≡ b → ownersIn sp all ≡ (not shared && allBelow (sp .limit) (covered (sp .cell) m others))
+      go false e = rw e (below-ext (sp .limit) (covered (sp .cell) m others) (ownerRight sp all) (λ u l. one u l e))
       go true e =
           let r = o .double e in
           rw e (below-not (ownerRight sp all) (sp .limit) (r .0) (r .1) (rule-more (count (r .0) all) (sp .cell (r .0)) (omega (arith, sum (r .0), r .2))))

@@ -7,7 +7,7 @@ use Prim.Native.Nat.{ℕ, suc, _≤_, _<_}
 use lib.Dec.{eqb, ltb}
 use lib.ListN.{getD}
 use Rattle.format.specs.Basics.Lists.{count, member}
-use Rattle.format.specs.Layout.Chain.{END, units}
+use Rattle.format.specs.Layout.Chain.{END, units, isFree}
 
 -- the marks that stand in a list, each at its unit's number
 unfoldable pub marks : List ℕ → ℕ → ℕ
@@ -34,3 +34,7 @@ pub record Owning (cell : ℕ → ℕ) (limit : ℕ) (owned : List ℕ) (m : ℕ
   pub marked : (u : ℕ) → u < limit → ltb 0 (m u) ≡ member u owned
   pub single : shared ≡ false → (u : ℕ) → u < limit → count u owned ≤ 1
   pub double : shared ≡ true → (u : ℕ) × (u < limit) × (1 < count u owned)
+
+-- a unit that group 18 has nothing against: it has a mark, or its cell is free, or it is one of the `others`, which stand in no chain
+unfoldable pub covered : (ℕ → ℕ) → (ℕ → ℕ) → List ℕ → ℕ → Bool
+covered cell m others u = ltb 0 (m u) || (isFree cell u || member u others)
