@@ -1,0 +1,130 @@
+//! Changes that break no rule: the image stays valid.
+
+use super::edit::*;
+use super::{Break, rule};
+use crate::images::Sample;
+use crate::images::places::sector_place;
+use crate::number::*;
+use crate::random::Random;
+
+pub const CHANGES: &[Break] = &[
+    rule(0, "harmless: minor version", |s, r| s.spoil(r, 24, 26)),
+    rule(0, "harmless: transaction number", |s, r| s.spoil(r, 52, 56)),
+    rule(0, "harmless: byte of a free sector", |s, r| {
+        let &at = r.some(&s.layout.free)?;
+        in_sector(s, r, at)
+    }),
+    rule(0, "harmless: byte of the mini stream", |s, r| {
+        let &at = r.some(&s.layout.mini_stream)?;
+        in_sector(s, r, at)
+    }),
+    rule(0, "harmless: byte of a large stream", |s, r| {
+        let units = s.large(r)?.units;
+        let at = r.pick(&units);
+        in_sector(s, r, at)
+    }),
+    rule(0, "harmless: root's name and name bytes", |s, r| in_entry(s, r, 0, 0, 66)),
+    rule(0, "harmless: root's CLSID and state", |s, r| in_entry(s, r, 0, 80, 100)),
+    rule(0, "harmless: root's modified time", |s, r| in_entry(s, r, 0, 108, 116)),
+    rule(0, "harmless: root's colour", root_colour),
+    rule(0, "harmless: bytes behind a name", behind_name),
+    rule(0, "harmless: a stream's state bits", |s, r| {
+        let e = s.stream(r)?.entry;
+        in_entry(s, r, e, 96, 100)
+    }),
+    rule(0, "harmless: a storage's CLSID, state and times", |s, r| {
+        let e = s.storage(r)?.entry;
+        in_entry(s, r, e, 80, 116)
+    }),
+    rule(0, "harmless: case of a name", other_case),
+    rule(0, "harmless: all entries black", all_black),
+    rule(0, "harmless: size within the last unit", size_within),
+    rule(0, "harmless: a mini sector more in the mini stream's last sector", mini_sector_more),
+    rule(0, "harmless: a free sector at the end dropped", dropped_sector),
+    rule(0, "harmless: a sector more", sector_more),
+    rule(0, "harmless: a stream emptied, its units free", emptied),
+];
+
+fn in_sector(s: &mut Sample, r: &mut Random, sector: u32) -> Option<()> {
+    s.spoil(r, sector_place(sector), sector_place(sector) + SECTOR)
+}
+
+fn in_entry(s: &mut Sample, r: &mut Random, entry: u32, from: usize, to: usize) -> Option<()> {
+    let at = s.layout.entry(entry);
+    s.spoil(r, at + from, at + to)
+}
+
+fn root_colour(s: &mut Sample, _: &mut Random) -> Option<()> {
+    let at = s.layout.entry(0) + COLOUR;
+    s.image[at] ^= 1;
+    Some(())
+}
+
+fn behind_name(s: &mut Sample, r: &mut Random) -> Option<()> {
+    let node = s.node(r, |node| node.entry != 0 && node.name.len() < 31)?;
+    in_entry(s, r, node.entry, 2 * (node.name.len() + 1), 64)
+}
+
+fn other_case(s: &mut Sample, r: &mut Random) -> Option<()> {
+    let node = s.object(r)?;
+    let at = s.layout.entry(node.entry);
+    for (i, &unit) in node.name.iter().enumerate() {
+        if unit < 128 && (unit as u8).is_ascii_alphabetic() && r.one_in(2) {
+            put_u16(&mut s.image, at + 2 * i, unit ^ 0x20);
+        }
+    }
+    Some(())
+}
+
+fn all_black(s: &mut Sample, _: &mut Random) -> Option<()> {
+    for i in 0..s.layout.nodes.len() {
+        let at = s.layout.entry(s.layout.nodes[i].entry) + COLOUR;
+        s.image[at] = 1;
+    }
+    Some(())
+}
+
+/// As many units as before, on the same side of the cutoff.
+fn size_within(s: &mut Sample, r: &mut Random) -> Option<()> {
+    let node = s.node(r, |node| !node.units.is_empty())?;
+    let count = node.units.len() as u32;
+    let (unit, least, most) = if node.size? < 4096 { (64, 1, 4095) } else { (512, 4096, u32::MAX) };
+    let (low, high) = ((unit * (count - 1) + 1).max(least), (unit * count).min(most));
+    let any = r.between(low, high);
+    s.set_field(node.entry, SIZE, r.pick(&[low, high, any]));
+    Some(())
+}
+
+fn mini_sector_more(s: &mut Sample, _: &mut Random) -> Option<()> {
+    let more = s.layout.minis + 1;
+    (!s.layout.minis.is_multiple_of(8) && more <= s.layout.mini_cell_count()).then_some(())?;
+    s.set_field(0, SIZE, more * 64);
+    Some(())
+}
+
+fn dropped_sector(s: &mut Sample, _: &mut Random) -> Option<()> {
+    let last = s.layout.sectors - 1;
+    s.layout.free.contains(&last).then_some(())?;
+    s.image.truncate(sector_place(last));
+    s.layout.free.retain(|&free| free != last);
+    s.layout.sectors = last;
+    Some(())
+}
+
+fn sector_more(s: &mut Sample, r: &mut Random) -> Option<()> {
+    let room = s.layout.sectors < s.layout.cell_count() && s.layout.sectors < 16_383;
+    let byte = r.byte();
+    s.image.resize(s.image.len() + SECTOR, byte);
+    room.then_some(())
+}
+
+fn emptied(s: &mut Sample, r: &mut Random) -> Option<()> {
+    let node = s.node(r, |node| !node.units.is_empty())?;
+    let large = node.size? >= 4096;
+    for &unit in &node.units {
+        s.set_unit(large, unit, FREE);
+    }
+    s.set_field(node.entry, START, END);
+    s.set_field(node.entry, SIZE, 0);
+    Some(())
+}

@@ -1,0 +1,61 @@
+//! Names: their order as the papers state it, and random ones.
+
+use crate::random::Random;
+
+/// What names are ordered by: unit count, then the units with a-z taken as A-Z.
+pub fn key(name: &[u16]) -> (usize, Vec<u16>) {
+    let upper = |&u: &u16| {
+        if u >= b'a' as u16 && u <= b'z' as u16 { u - 32 } else { u }
+    };
+    (name.len(), name.iter().map(upper).collect())
+}
+
+/// A name of 1 to 31 units, neither zero nor one of the three that are refused.
+pub fn random(random: &mut Random, alphabet: Alphabet) -> Vec<u16> {
+    let length = match random.below(4) {
+        0 => random.between(1, 3),
+        1 => random.between(1, 8),
+        2 => random.between(1, 31),
+        _ => random.pick(&[1, 2, 30, 31]),
+    };
+    (0..length).map(|_| alphabet.unit(random)).collect()
+}
+
+#[derive(Clone, Copy)]
+pub enum Alphabet {
+    /// Letters of both cases and the signs between and around them, so that many names nearly agree.
+    Close,
+    Printable,
+    /// Letters outside ASCII, of both cases.
+    Northern,
+    Any,
+}
+
+impl Alphabet {
+    pub const ALL: [Alphabet; 4] = [Alphabet::Close, Alphabet::Printable, Alphabet::Northern, Alphabet::Any];
+
+    fn unit(self, random: &mut Random) -> u16 {
+        let close: Vec<u16> = "aAbBzZ@[_`{~".encode_utf16().collect();
+        let northern: Vec<u16> = "éÉøØÿŸßσςΣжЖёЁ÷×aZ".encode_utf16().collect();
+        loop {
+            let unit = match self {
+                Alphabet::Close => random.pick(&close),
+                Alphabet::Printable => random.between(0x20, 0x7E) as u16,
+                Alphabet::Northern => random.pick(&northern),
+                Alphabet::Any => random.word() as u16,
+            };
+            if !refused(unit) {
+                return unit;
+            }
+        }
+    }
+}
+
+pub fn refused(unit: u16) -> bool {
+    unit == 0 || unit == b'/' as u16 || unit == b'\\' as u16 || unit == b':' as u16
+}
+
+/// A name in printable ASCII.
+pub fn of(text: &str) -> Vec<u16> {
+    text.encode_utf16().collect()
+}

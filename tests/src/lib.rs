@@ -1,0 +1,16 @@
+//! Tests of the compound-file library by an independent implementation.
+
+pub mod bench;
+pub mod breaks;
+pub mod cases;
+pub mod compare;
+pub mod images;
+pub mod number;
+pub mod random;
+pub mod volume;
+
+#[cfg(feature = "library")]
+pub mod library;
+
+#[cfg(test)]
+mod checks;

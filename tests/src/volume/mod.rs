@@ -1,0 +1,79 @@
+//! An independent reading of a compound file of version 3, written from the papers.
+
+pub mod chains;
+pub mod directory;
+pub mod entry;
+pub mod header;
+pub mod mini;
+pub mod owners;
+pub mod streams;
+pub mod tables;
+pub mod tree;
+
+use crate::number::SECTOR;
+use chains::Chains;
+use directory::Directory;
+use header::Header;
+use mini::Mini;
+use tables::Tables;
+
+/// An image of which all groups of rules hold, taken apart.
+pub struct Volume<'a> {
+    pub image: &'a [u8],
+    pub header: Header,
+    pub tables: Tables,
+    pub sectors: Chains,
+    pub directory: Directory,
+    pub mini: Mini,
+}
+
+/// The numbers that a work buffer needs for an image of this length.
+pub fn work_needed(image_len: usize) -> usize {
+    13 * (image_len / SECTOR)
+}
+
+pub fn length_allowed(image_len: usize) -> bool {
+    image_len.is_multiple_of(SECTOR) && (1_536..=8_388_608).contains(&image_len)
+}
+
+/// 0, or the lowest number that applies: 1, 2, or the first group that the image breaks.
+pub fn validate(image: &[u8], work_len: usize) -> u32 {
+    if !length_allowed(image.len()) {
+        return 1;
+    }
+    if work_len < work_needed(image.len()) {
+        return 2;
+    }
+    match Volume::open(image) {
+        Ok(_) => 0,
+        Err(group) => group,
+    }
+}
+
+impl<'a> Volume<'a> {
+    /// The volume of an image of allowed length, or the first group that it breaks.
+    pub fn open(image: &'a [u8]) -> Result<Volume<'a>, u32> {
+        let volume = Volume::parse(image)?;
+        held(owners::hold(&volume), 18)?;
+        Ok(volume)
+    }
+
+    /// The same with groups 10 to 17 alone.
+    pub fn parse(image: &'a [u8]) -> Result<Volume<'a>, u32> {
+        let count = image.len() / SECTOR - 1;
+        let header = Header::read(image).ok_or(10u32)?;
+        let tables = Tables::read(image, count, &header).ok_or(11u32)?;
+        held(tables.cells_hold(), 12)?;
+        let sectors = Chains::new(&tables.cells[..count]);
+        let directory = Directory::read(image, &sectors, header.first_directory).ok_or(13u32)?;
+        held(directory.entries_hold(), 14)?;
+        held(tree::holds(&directory), 15)?;
+        let mini = Mini::read(image, &header, &directory, &sectors).ok_or(16u32)?;
+        held(streams::hold(&directory, &sectors, &mini.chains), 17)?;
+        Ok(Volume { image, header, tables, sectors, directory, mini })
+    }
+}
+
+fn held(rule: bool, group: u32) -> Result<(), u32> {
+    if rule { Ok(()) } else { Err(group) }
+}
