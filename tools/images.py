@@ -18,17 +18,18 @@ def header(fats, difats, directory):
     return first + words(fats[:109] + [FREE] * (109 - len(fats[:109])))
 
 
-def entry(name=None, kind=0, colour=1, left=NONE, right=NONE, child=NONE):
-    """One entry's 128 bytes; without a name it is blank."""
+def entry(name=None, kind=0, colour=1, left=NONE, right=NONE, child=NONE, start=END, size=0):
+    """One entry's 128 bytes; without a name it is blank. A storage has no start."""
     if name is None:
         return bytes(68) + words([NONE] * 3) + bytes(48)
     text = name.encode("utf-16-le") + bytes(2)
     fields = struct.pack("<HBB", len(text), kind, colour) + words([left, right, child])
-    return text + bytes(64 - len(text)) + fields + bytes(48)
+    place = struct.pack("<IQ", 0 if kind == 1 else start, size)
+    return text + bytes(64 - len(text)) + fields + bytes(36) + place
 
 
-def root(child=NONE):
-    return entry("Root Entry", 5, child=child)
+def root(child=NONE, start=END, size=0):
+    return entry("Root Entry", 5, child=child, start=start, size=size)
 
 
 def image(sectors, fats, difats, directory, entries=()):
@@ -58,6 +59,20 @@ def with_entries(entries):
     """An image of one FAT sector and a directory of these entries; blank entries fill its last sector."""
     n = (len(entries) + 3) // 4
     return image(1 + n, [0], [], list(range(1, 1 + n)), entries)
+
+
+def volume(sectors, directory, chains, entries, mini_fat=(), cells=()):
+    """An image whose FAT is sector 0, with the cells of these further chains, and a mini FAT of these sectors and cells."""
+    img = image(sectors, [0], [], directory, entries)
+    for c in list(chains) + [list(mini_fat)]:
+        for s, t in zip(c, c[1:] + [END]):
+            img = put(img, (512 + 4 * s, t))
+    if mini_fat:
+        img = put(img, (60, mini_fat[0]), (64, len(mini_fat)))
+    cells = list(cells) + [FREE] * (128 * len(mini_fat) - len(cells))
+    for i, c in enumerate(cells):
+        img = put(img, ((mini_fat[i // 128] + 1) * 512 + 4 * (i % 128), c))
+    return img
 
 
 def put(img, *patches):

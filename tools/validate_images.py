@@ -1,15 +1,15 @@
 #!/usr/bin/env python3
 """Writes the images that the program `validate_run` reads, and the numbers that it must print.
 
-The numbers are those that 01 gives, rule by rule: 0 where groups 10 to 15 hold."""
-from images import DIFSECT, END, FATSECT, FREE, NONE, byte, entry, image, put, root, with_entries, write
+The numbers are those that 01 gives, rule by rule."""
+from images import DIFSECT, END, FATSECT, FREE, NONE, byte, entry, image, put, root, volume, with_entries, write
 
 STORAGE, STREAM = 1, 2
 RED, BLACK = 0, 1
 
 
-def stream(name, colour=BLACK, left=NONE, right=NONE, child=NONE):
-    return entry(name, STREAM, colour, left, right, child)
+def stream(name, colour=BLACK, left=NONE, right=NONE, child=NONE, start=END, size=0):
+    return entry(name, STREAM, colour, left, right, child, start, size)
 
 
 def storage(name, colour=BLACK, left=NONE, right=NONE, child=NONE):
@@ -126,4 +126,67 @@ directories = [
     # the lowest number is given
     (siblings(stream("log", right=1), stream("a/b")), 14),
 ]
-write("validate_run", tables + directories)
+
+
+# ---- groups 16 to 18
+
+def cell(s):
+    """The place of a sector's cell, in an image whose FAT is sector 0."""
+    return 512 + 4 * s
+
+
+def mini(m):
+    """The place of a mini sector's cell, where the mini FAT is sector 2."""
+    return 3 * 512 + 4 * m
+
+
+# sector 1 the directory, 2 the mini FAT, 3 the mini stream (8 mini sectors), 4 to 11 a large stream, 12 and 13 free;
+# `log` has mini sectors 0 and 5, `Jets` mini sector 1
+def busy(log=(0, 70), jets=(1, 64), big=(4, 4096), start=3, size=512):
+    entries = [root(1, start, size), stream("log", left=2, right=3, start=log[0], size=log[1]), stream("Jet", start=jets[0], size=jets[1]),
+               stream("timing", start=big[0], size=big[1])]
+    return volume(14, [1], [[3], list(range(4, 12))], entries, [2], [5, END, FREE, FREE, FREE, END])
+
+
+def wide(minis, mini_fats):
+    """So many mini sectors, none of them owned, and so many mini FAT sectors."""
+    n = (minis + 7) // 8
+    fats = list(range(2, 2 + mini_fats))
+    own = list(range(2 + mini_fats, 2 + mini_fats + n))
+    return volume(2 + mini_fats + n, [1], [own] if own else [], [root(start=own[0] if own else END, size=64 * minis)], fats)
+
+
+good = busy()
+# the mini FAT's sector is the mini stream's too
+doubled = put(good[:4 * 512] + good[3 * 512:4 * 512] + good[5 * 512:], (60, 3), (cell(2), FREE))
+edge = volume(11, [1], [list(range(3, 11))], [root(1, 3, 4096), stream("log", start=0, size=4095)], [2], list(range(1, 64)) + [END])
+spaces = [
+    # accepted: both kinds of stream; a stream of 4,095 bytes; no mini sector, with and without a mini FAT; as many as there are cells
+    (good, 0), (edge, 0), (wide(0, 0), 0), (wide(0, 1), 0), (wide(128, 1), 0), (wide(1, 2), 0),
+    # group 16: the mini FAT's chain
+    (put(good, (64, 0)), 16), (put(good, (64, 2)), 16), (put(good, (64, 0xFFFFFFFF)), 16), (put(good, (60, END)), 16), (put(good, (60, 12)), 16),
+    (put(good, (60, 14)), 16), (put(good, (cell(2), 12), (cell(12), END)), 16), (put(good, (cell(2), 2)), 16), (put(wide(0, 0), (60, FREE)), 16),
+    (put(wide(0, 1), (64, 0)), 16),
+    # group 16: the mini stream's size and chain; its last sector need not be full
+    (busy(size=500), 16), (busy(size=448), 0), (busy(size=576), 16), (busy(size=0), 16), (busy(start=END), 16), (busy(start=12), 16), (busy(start=0), 16),
+    (put(good, (cell(3), 12), (cell(12), END)), 16), (wide(129, 1), 16), (wide(8, 0), 16),
+    # group 16: the cells
+    (put(good, (mini(0), 8)), 16), (put(good, (mini(2), FATSECT)), 16), (put(good, (mini(2), DIFSECT)), 16), (put(good, (mini(8), END)), 16),
+    (put(good, (mini(127), 0)), 16), (put(good, (mini(8), FATSECT)), 16),
+    # group 17: chains of large streams
+    (busy(big=(4, 4608)), 17), (busy(big=(4, 4095)), 17), (busy(big=(5, 4096)), 17), (busy(big=(12, 4096)), 17), (busy(big=(14, 4096)), 17),
+    (busy(big=(END, 4096)), 17), (busy(big=(4, 0xFFFFFFFF)), 17), (put(good, (cell(11), 12), (cell(12), END)), 17), (put(good, (cell(11), 4)), 17),
+    (put(good, (cell(11), FREE)), 17),
+    # group 17: chains of small streams, and empty ones
+    (busy(log=(0, 129)), 17), (busy(log=(0, 64)), 17), (busy(log=(2, 64)), 17), (busy(log=(8, 64)), 17), (busy(log=(END, 1)), 17), (busy(log=(0, 0)), 17),
+    (put(good, (mini(5), 0)), 17), (put(good, (mini(5), FREE)), 17),
+    # group 18: two owners
+    (busy(jets=(0, 70)), 18), (busy(jets=(5, 64)), 18), (busy(big=(END, 0), jets=(4, 4096), log=(4, 4096)), 18),
+    (put(busy(start=4, size=4096), (cell(3), FREE)), 18), (doubled, 18),
+    # group 18: units that nobody owns
+    (busy(big=(END, 0)), 18), (busy(jets=(END, 0)), 18), (put(good, (cell(12), END)), 18), (put(good, (cell(13), 12)), 18), (put(good, (mini(7), END)), 18),
+    (put(good, (mini(6), 2)), 18),
+    # the lowest number is given
+    (put(busy(big=(4, 4095)), (64, 0)), 16), (put(busy(big=(4, 4095)), (cell(12), END)), 17), (put(busy(size=500), (cell(12), END)), 16),
+]
+write("validate_run", tables + directories + spaces)

@@ -7,6 +7,7 @@ use Rattle.format.specs.Basics.Lists.{all}
 use Rattle.format.specs.Layout.Chain.{END, chain, units}
 use Rattle.theory.specs.Marks.{marks, unmarked, Closed, Owning}
 use Rattle.format.specs.Layout.Space.{Space}
+use Rattle.tables.specs.Work.{Wrote}
 use Rattle.tables.proofs.WorkLaws.{wrote-none, wrote-two}
 use Rattle.theory.proofs.Tests.{clash}
 use Rattle.theory.proofs.OwnerMarks.{owning-fresh, owning-shared}
@@ -107,3 +108,23 @@ marked-both sp {r} {own₁} {own₂} {a = a} {b} p q =
           rw (← z, ← append-assoc owned own₁ own₂) (q .owners h (owned ++ own₁) (shared || isShared a) (p .owners refl owned shared o));
       wrote = wrote-two (p .wrote) (q .wrote);
     }
+
+-- what the answer says of the chains
+module _ {sp : Space} {right : Bool} {own w w′ : List ℕ} {a : Marked} (m : ChainsMarked sp right own w w′ a) where
+  pub is-wrong : isBroken a ≡ true → right ≡ false
+  is-wrong h = flip right (sym (m .answer) ∙ h)
+    where
+      flip : (b : Bool) → not b ≡ true → b ≡ false
+      flip true p = sym p
+      flip false p = refl
+
+  pub is-right : isBroken a ≡ false → right ≡ true
+  is-right h = flip right (sym (m .answer) ∙ h)
+    where
+      flip : (b : Bool) → not b ≡ false → b ≡ true
+      flip true p = refl
+      flip false p = sym p
+
+-- a walk that found a chain broken
+pub marked-broken : (sp : Space) {right : Bool} (own : List ℕ) {w w′ : List ℕ} → right ≡ false → Wrote w w′ 0 (sp .limit) → ChainsMarked sp right own w w′ Broken
+marked-broken sp own h r = record { answer = sym (rw h); closed = λ e. absurd (clash e h); owners = λ e. absurd (clash e h); wrote = r }

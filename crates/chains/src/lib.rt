@@ -199,12 +199,12 @@ pub enum Length {
     Never,
 }
 
-// The length of a chain of k sectors after which s comes.
-fn length_of(k: usize, s: Sector) -> Length
-    ensures { λ r. ⌜ r ≡ lengthAnswer (leb 1 k && eqb (s .0) END) k ⌝ }
+// The length of a chain of k sectors, by what comes after them.
+fn length_of(k: usize, next: Sector) -> Length
+    ensures { λ r. ⌜ r ≡ lengthAnswer (leb 1 k && eqb (next .0) END) k ⌝ }
 {
     if 0 < k {
-        if s.is_end() {
+        if next.is_end() {
             return Length::Is(k);
         }
     }

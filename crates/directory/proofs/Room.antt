@@ -72,10 +72,10 @@ module _ (g : Geometry) (img : Bytes) where
     unfolding isSector
     table-below s h = ltb-true s (sectorCount g img) (all-at (isSector g img) tables (sectors .0) s h)
 
-    table-once : (s : ℕ) → count s tables ≤ 1
+    pub table-once : (s : ℕ) → count s tables ≤ 1
     table-once s = distinct-once tables s (sectors .1)
 
-    marks-at : (s : ℕ) → s < sectorCount g img → (eqb (fatCell g img s) FATSECT ≡ member s (fatSectors g img)) × (eqb (fatCell g img s) DIFSECT ≡ member s (difatSectors g img))
+    pub marks-at : (s : ℕ) → s < sectorCount g img → (eqb (fatCell g img s) FATSECT ≡ member s (fatSectors g img)) × (eqb (fatCell g img s) DIFSECT ≡ member s (difatSectors g img))
     unfolding tableMarks markRight
     marks-at s h =
         let a = below-at (sectorCount g img) (markRight g img) (parts .1) s h in
@@ -83,7 +83,7 @@ module _ (g : Geometry) (img : Bytes) where
         (beq-equal (eqb (fatCell g img s) FATSECT) (member s (fatSectors g img)) (b .0), beq-equal (eqb (fatCell g img s) DIFSECT) (member s (difatSectors g img)) (b .1))
 
     -- a sector whose cell has neither mark is none of them
-    unmarked : (s : ℕ) → s < sectorCount g img → fatCell g img s ≢ FATSECT → fatCell g img s ≢ DIFSECT → count s tables ≡ 0
+    pub unmarked : (s : ℕ) → s < sectorCount g img → fatCell g img s ≢ FATSECT → fatCell g img s ≢ DIFSECT → count s tables ≡ 0
     unfolding member
     unmarked s h p q =
         let a = ltb-false 0 (count s (fatSectors g img)) (sym (marks-at s h .0) ∙ ne-eqb (fatCell g img s) FATSECT p) in

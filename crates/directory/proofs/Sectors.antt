@@ -63,13 +63,10 @@ module _ {img : Bytes} {w : List ℕ} (t : Tables) (n s : ℕ) (l : FatListed (g
   pub listing-chain : chain (fatCell g img) (sectorCount g img) n s ≡ true
   listing-chain = rw (e, d) (directory-chain g img h)
 
-  pub listing-room : 0 + n ≤ t .list
-  listing-room = omega (arith, few, l .apart)
-
   units-are : units (fatCell g img) n s ≡ directorySectorsOf g img
   units-are = ap₂ (λ k u. units (fatCell g img) k u) e d ∙ directory-units g img h
 
-  pub listing-left : {w′ : List ℕ} → Holds w′ 0 n (unitAt (units (fatCell g img) n s)) → Listed (directoryAt t n) img w′
+  pub listing-left : {w′ : List ℕ} {at : ℕ} → Holds w′ at n (unitAt (units (fatCell g img) n s)) → Listed (directoryAt t n at) img w′
   listing-left a =
       record {
         sized = l .sized;

@@ -26,9 +26,9 @@ placeOf d work x =
     let g = geometryOf (d .geometry) in
     sectorPlace g (getD work (d .list + x / entriesIn g) 0) + 128 * (x % entriesIn g)
 
--- the list at the start of the work buffer
-abbrev pub directoryAt : Tables → ℕ → Where
-directoryAt t n = record { geometry = t .geometry; sectors = n; list = 0 }
+-- the list of n sectors at a place of the work buffer
+abbrev pub directoryAt : Tables → ℕ → ℕ → Where
+directoryAt t n at = record { geometry = t .geometry; sectors = n; list = at }
 
 -- an entry whose sector stands in the list
 pub record Placed (d : Where) (work : List ℕ) (x : ℕ) : Type 0 where

@@ -39,7 +39,7 @@ member-not : (u : ℕ) (xs : List ℕ) → count u xs ≤ 0 → member u xs ≡ 
 unfolding member
 member-not u xs h = le-ltb 0 (count u xs) h
 
-member-append : (u : ℕ) (xs ys : List ℕ) → member u (xs ++ ys) ≡ (member u xs || member u ys)
+pub member-append : (u : ℕ) (xs ys : List ℕ) → member u (xs ++ ys) ≡ (member u xs || member u ys)
 member-append u xs ys =
     elim (decLt 0 (count u xs)) [
       | yes p ↦ rw (member-of u xs p) (member-of u (xs ++ ys) (omega (arith, count-append u xs ys)))
@@ -67,6 +67,20 @@ module _ {cell : ℕ → ℕ} {limit : ℕ} where
         marked = λ u l. le-ltb 0 (m u) (omega (arith, z u l));
         single = λ e u l. omega arith;
         double = λ e. absurd (clash e refl);
+      }
+
+  -- the same marks, wherever they stand
+  pub owning-same : {owned : List ℕ} {m m′ : ℕ → ℕ} {shared : Bool} → ((u : ℕ) → u < limit → m′ u ≡ m u) → Owning cell limit owned m shared → Owning cell limit owned m′ shared
+  owning-same {m = m} {m′} e o =
+      record {
+        closed = record {
+          at = λ u l h.
+              ⊎-elim (λ c. inl (e u l ∙ c .0, c .1)) (λ c. inr (c .0, omega (arith, e u l, e (cell u) (c .0), c .1), omega (arith, e (cell u) (c .0), c .2)))
+              (o .closed .at u l (omega (arith, e u l)));
+        };
+        marked = λ u l. ap (ltb 0) (e u l) ∙ o .marked u l;
+        single = o .single;
+        double = o .double;
       }
 
   -- a further chain: it shares a unit if one of its own had a mark

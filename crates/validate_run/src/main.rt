@@ -1,7 +1,7 @@
-// Reads images from standard input, each behind its length of four bytes, and prints for each the number that groups 10 to 15 give.
+// Reads images from standard input, each behind its length of four bytes, and prints for each the number that validation gives.
+use cfb::validate;
 use kinds::number;
 use le::u32_at;
-use validate::directory_verdict;
 
 // One image; says whether there was one.
 fn one() -> bool {
@@ -18,7 +18,7 @@ fn one() -> bool {
         return false;
     }
     let mut work = [0u32; 1664];
-    let answer = number(directory_verdict(&image[..n], &mut work));
+    let answer = number(validate(&image[..n], &mut work));
     io::print_decimal(1, answer as u64);
     io::write_all(1, b"\n")
 }

@@ -1,6 +1,6 @@
 use borrow.Author.Needs.{needs}
 use mathlib.Core.Path.{refl}
-use Rattle.directory.proofs.Sectors.{listing-chain, listing-room, listing-left}
+use Rattle.directory.proofs.Sectors.{listing-chain, listing-left}
 use Rattle.directory.proofs.listed.list_directory.Statement.{statement}
 use Rattle.directory.proofs.listed.list_directory.Tie as tie
 
@@ -12,10 +12,10 @@ list-directory-spec =
     (λ c κs.
     let p = c .before .before .before .before .before in
     let e = c .u32-at .ensures in
-    (p .pre .0, (listing-chain (p .args .t) _ _ (p .pre .0) (p .pre .1 .0) e (p .pre .1 .1), listing-room (p .args .t) _ _ (p .pre .0) (p .pre .1 .0) e (p .pre .1 .1))))  -- list-chain-requires
+    (p .pre .0, (listing-chain (p .args .t) _ _ (p .pre .0) (p .pre .1 .0) e (p .pre .1 .1 .0), p .pre .1 .1 .1)))  -- list-chain-requires
     (λ c. search needs)  -- same-length
     (λ c.
     let p = c .before .before .before .before .before .before .before .before in
     let e = c .before .before .before .u32-at .ensures in
     let a = c .before .before .list-chain .ensures in
-    (refl, (listing-left (p .args .t) _ _ (p .pre .0) (p .pre .1 .0) e (p .pre .1 .1) (a .1), a .0))))  -- returns
+    (refl, (listing-left (p .args .t) _ _ (p .pre .0) (p .pre .1 .0) e (p .pre .1 .1 .0) (a .1), a .0))))  -- returns

@@ -1,0 +1,2 @@
+-- Laws for the public calls.
+pub mod Calls

@@ -1,0 +1,1 @@
+-- The public calls state all they promise with `format`'s own definitions.

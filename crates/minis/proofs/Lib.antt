@@ -1,0 +1,4 @@
+-- Laws for the mini FAT.
+pub mod ListLaws
+pub mod Sectors
+pub mod Rules

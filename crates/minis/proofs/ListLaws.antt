@@ -1,0 +1,91 @@
+-- The list of the mini FAT's sectors: where it stays, the bounds that it gives, and the cells by it.
+use Prim.Native.Nat.{ℕ, _+_, _*_, _/_, _%_, _≤_, _<_}
+use mathlib.Core.Path.{_≡_, _∙_, ap}
+use mathlib.Core.Logic.{_⊎_, inl, inr}
+use mathlib.Core.List.{List}
+use native.Mathlib.Nat.{mul-le-mul-left}
+use native.Mathlib.Omega.{arith}
+use lib.ListN.{length, getD, set}
+use borrow.Author.Tests.{lt-ltb}
+use Rattle.format.specs.Basics.Bytes.{Bytes}
+use Rattle.format.specs.Layout.Geometry.{Geometry, sectorCount, placeIn, cellsIn}
+use Rattle.format.specs.Layout.Header.{miniFatCount}
+use Rattle.format.specs.Layout.Tables.{cellIn, cellPlaceIn}
+use Rattle.format.specs.Layout.Volume.{miniCells, miniSpace}
+use Rattle.kinds.specs.Sizes.{geometryOf}
+use Rattle.theory.proofs.Scale.{scale-div, scale-mod, scale-below}
+use Rattle.tables.specs.Sized.{wordIn}
+use Rattle.tables.specs.Work.{Wrote}
+use Rattle.tables.proofs.Places.{cells-some, cells-bytes}
+use Rattle.tables.proofs.WorkLaws.{wrote-none, wrote-set}
+use Rattle.minis.specs.Listed.{Listed}
+use Rattle.minis.specs.declared.Minis.{Minis}
+
+-- ---- the list stays
+
+module _ {t : Minis} {img : Bytes} {w w′ : List ℕ} {at m : ℕ} (l : Listed t img w) (r : Wrote w w′ at m) where
+  still : (at + m ≤ t .list) ⊎ (t .list + t .sectors ≤ at) → Listed t img w′
+  still d =
+      record {
+        sized = l .sized;
+        counts = l .counts;
+        sectors = l .sectors;
+        small = l .small;
+        apart = l .apart;
+        room = omega (arith, l .room, r .long);
+        here = λ k h. r .outside _ (apart k h d) ∙ l .here k h;
+        below = l .below;
+      }
+    where
+      apart : (k : ℕ) → k < t .sectors → (at + m ≤ t .list) ⊎ (t .list + t .sectors ≤ at) → (t .list + k < at) ⊎ (at + m ≤ t .list + k)
+      apart k h (inl q) = inr (omega arith)
+      apart k h (inr q) = inl (omega arith)
+
+  -- where only what stands before it changes
+  pub listed-kept : at + m ≤ t .list → Listed t img w′
+  listed-kept h = still (inl h)
+
+  -- where only what stands behind it changes
+  pub listed-kept-behind : t .list + t .sectors ≤ at → Listed t img w′
+  listed-kept-behind h = still (inr h)
+
+module _ {t : Minis} {img : Bytes} {w : List ℕ} (l : Listed t img w) where
+  abbrev g : Geometry
+  g = geometryOf (t .geometry)
+
+  pub listed-set : (u v : ℕ) → u < t .units → Listed t img (set w u v)
+  listed-set u v h =
+      let k : Wrote w (set w u v) 0 (t .units) = wrote-set u v (wrote-none w 0 _) (omega arith) (omega arith) in
+      listed-kept l k (omega (arith, l .apart))
+
+  -- ---- bounds
+
+  -- no mini sector has one of the special values for its number
+  pub units-few : miniSpace g img .limit ≤ 0x400_0000
+  units-few = omega (arith, l .counts .count, l .counts .few, l .sized .short)
+
+  pub units-in-work : miniSpace g img .limit ≤ length w
+  units-in-work = omega (arith, l .counts .count, l .apart, l .room)
+
+  -- every mini sector has a cell
+  pub cells-cover : t .units ≤ cellsIn g * t .sectors
+  cells-cover = rw (l .sectors) (l .counts .covers)
+
+  -- the cells take no more bytes than the image has
+  pub cells-short : 4 * (cellsIn g * t .sectors) ≤ length img
+  cells-short =
+      let a = mul-le-mul-left (cellsIn g) (l .small) in
+      let b = ap (λ n. (sectorCount g img + 1) * n) (cells-bytes (l .sized)) in
+      omega (arith, l .sized .long)
+
+  -- ---- the cell of m is a number of the sector that the list has for it
+
+  module _ (m : ℕ) (h : m < cellsIn g * t .sectors) where
+    pub cell-sector : m / cellsIn g < t .sectors
+    cell-sector = let c = cells-some (l .sized) in scale-below (cellsIn g) (t .sectors) m (omega arith) h
+
+    pub cell-is : miniSpace g img .cell m ≡ wordIn g img (getD w (t .list + m / cellsIn g) 0) (m % cellsIn g)
+    unfolding miniSpace miniCells cellIn cellPlaceIn placeIn wordIn
+    cell-is =
+        let s : m < cellsIn g * miniFatCount img = rw (← l .sectors) h in
+        rw (lt-ltb m (cellsIn g * miniFatCount img) s, scale-div 4 (cellsIn g) (cells-bytes (l .sized)) (omega arith) m, scale-mod 4 (cellsIn g) (cells-bytes (l .sized)) (omega arith) m, l .here _ cell-sector)

@@ -1,0 +1,6 @@
+-- Laws for streams and owners.
+pub mod StreamLaws
+pub mod Marking
+pub mod Covered
+pub mod Groups
+pub mod Judged

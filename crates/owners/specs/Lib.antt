@@ -1,0 +1,2 @@
+-- What the functions on streams and owners answer, beside `format`.
+pub mod Streams

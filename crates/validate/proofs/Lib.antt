@@ -1,3 +1,0 @@
--- Laws for validation.
-pub mod Verdicts
-pub mod Walks

@@ -1,3 +1,0 @@
--- What validation answers and leaves, group by group.
-pub mod Groups
-pub mod Passed

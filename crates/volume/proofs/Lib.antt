@@ -1,0 +1,11 @@
+-- Laws for validation, in the order of the groups.
+pub mod Verdicts
+pub mod Walks
+pub mod Outcomes
+pub mod MiniCounts
+pub mod SystemChains
+pub mod ListsKept
+pub mod Clearing
+pub mod MiniStage
+pub mod StreamList
+pub mod Opening

@@ -1,0 +1,105 @@
+-- What group 16 hands on: the lists stand, and the system's chains are marked.
+use Prim.Native.Nat.{ℕ, _+_, _-_, _≤_}
+use mathlib.Core.Path.{_≡_, sym, _∙_, ap, subst}
+use mathlib.Core.Bool.{Bool, true, false, _&&_}
+use mathlib.Core.List.{List, []}
+use native.Mathlib.Omega.{arith}
+use lib.ListN.{length}
+use Rattle.format.specs.Basics.Bytes.{Bytes}
+use Rattle.format.specs.Layout.Geometry.{Geometry, sectorCount}
+use Rattle.format.specs.Layout.Header.{miniFatCount}
+use Rattle.format.specs.Layout.Tables.{fatCell, sectorSpace}
+use Rattle.format.specs.Layout.Volume.{volume, miniSpace}
+use Rattle.format.specs.Rules.Length.{workNeed}
+use Rattle.format.specs.Rules.Mini.{miniFatChain, miniStreamChain}
+use Rattle.theory.specs.Marks.{marks, Owning}
+use Rattle.theory.proofs.Tests.{both}
+use Rattle.kinds.specs.Sizes.{geometryOf}
+use Rattle.tables.specs.Work.{Wrote}
+use Rattle.tables.specs.Listed.{tablesOf}
+use Rattle.tables.specs.declared.Tables.{Tables}
+use Rattle.tables.proofs.WorkLaws.{wrote-two, wrote-wider, listed-kept}
+use Rattle.chains.specs.Answers.{isBroken, isShared, ChainsMarked}
+use Rattle.chains.specs.declared.Marked.{Marked}
+use Rattle.chains.proofs.Owners.{is-right}
+use Rattle.directory.specs.Listed.{directoryAt}
+use Rattle.directory.specs.declared.Directory.{Directory}
+use Rattle.minis.specs.Listed.{minisAt, Listed as MiniListed}
+use Rattle.minis.specs.declared.Minis.{Minis}
+use Rattle.owners.specs.Streams.{systemChains}
+use Rattle.owners.proofs.Marking.{directory-kept}
+use Rattle.volume.specs.Passed.{TablesHold, Cleared, MiniRoom, SystemMarked, TableRight, miniCellRules}
+use Rattle.volume.specs.declared.mini_stage.MiniTable.{MiniTable}
+use Rattle.volume.specs.declared.mini_stage.MiniTable.the-variants.{Wrong, Right}
+use Rattle.volume.proofs.ListsKept.{room-kept}
+use Rattle.volume.proofs.Clearing.{owning-kept, list-is, list-room}
+use Rattle.volume.proofs.MiniCounts.{table-short}
+use Rattle.volume.proofs.Outcomes.{wrote-ours}
+
+module _ {t : Tables} {d : Directory} {img : Bytes} {w w₁ w₂ : List ℕ} {n : ℕ} {a : Marked} (h : TablesHold (geometryOf (t .geometry)) img w n) (e : t ≡ tablesOf (t .geometry) img)
+    (f : d ≡ directoryAt t n (t .list - n)) (c : Cleared t d img w w₁)
+    (m : ChainsMarked (sectorSpace (geometryOf (t .geometry)) img) (miniFatChain (volume (geometryOf (t .geometry)) img) && miniStreamChain (volume (geometryOf (t .geometry)) img)) (systemChains (geometryOf (t .geometry)) img) w₁ w₂ a) where
+  abbrev g : Geometry
+  g = geometryOf (t .geometry)
+
+  marks-wrote : Wrote w₁ w₂ 0 (sectorCount g img)
+  unfolding sectorSpace
+  marks-wrote = m .wrote
+
+  pub chains-wrote : Wrote w w₂ 0 (workNeed (length img))
+  chains-wrote = wrote-two (c .wrote) (wrote-ours img marks-wrote (omega (arith, h .listed .sized .many)))
+
+  module _ (u : isBroken a ≡ false) where
+    pub chains-right : (miniFatChain (volume g img) && miniStreamChain (volume g img)) ≡ true
+    chains-right = is-right m u
+
+    pub mini-room : MiniRoom t d img w₂
+    mini-room =
+        let b = both (miniFatChain (volume g img)) (miniStreamChain (volume g img)) chains-right in
+        record {
+          fat = listed-kept (c .fat) marks-wrote (omega (arith, c .fat .apart));
+          directory = directory-kept (c .directory) marks-wrote (omega (arith, c .room));
+          same = ap (λ x. x .geometry) f;
+          tables = h .tables;
+          table = b .0;
+          stream = b .1;
+          before = rw f (omega (arith, list-room h e));
+          within = omega (arith, list-is h e);
+          room = c .room;
+        }
+
+    owned : Owning (fatCell g img) (sectorCount g img) (systemChains g img) (marks w₂) (isShared a)
+    unfolding sectorSpace
+    owned = m .owners chains-right [] false (c .clear)
+
+    -- the mini FAT's list comes before the directory's
+    module _ {w₃ : List ℕ} (x : Wrote w₂ w₃ (d .list - miniFatCount img) (miniFatCount img)) where
+      pub table-wrote : Wrote w w₃ 0 (workNeed (length img))
+      table-wrote =
+          let s = table-short g img (h .listed .sized) (mini-room .table) in
+          wrote-two chains-wrote (wrote-ours img (wrote-wider 0 (d .list) x (omega arith) (omega (arith, s, c .room))) (omega (arith, mini-room .before, mini-room .within)))
+
+      pub table-wrong : (r : MiniTable) → TableRight t d img w₃ r → r ≡ Wrong → miniCellRules (volume g img) ≡ false
+      table-wrong r p k = subst (λ y. TableRight t d img w₃ y) k p
+
+      module _ (r : MiniTable) (p : TableRight t d img w₃ r) {i : Minis} (k : r ≡ Right i) where
+        found : (miniCellRules (volume g img) ≡ true) × ((i ≡ minisAt t img (miniSpace g img .limit) (d .list - miniFatCount img)) × MiniListed i img w₃)
+        found = subst (λ y. TableRight t d img w₃ y) k p
+
+        pub table-right : miniCellRules (volume g img) ≡ true
+        table-right = found .0
+
+        pub system-marked : SystemMarked t d i img w₃ (isShared a)
+        system-marked =
+            let s = table-short g img (h .listed .sized) (mini-room .table) in
+            let y = found .1 .0 in
+            record {
+              lists = record {
+                mini = room-kept x mini-room (omega (arith, s, c .room));
+                minis = found .1 .1;
+                same = ap (λ q. q .geometry) y;
+                before = rw y (omega (arith, s, c .room));
+                room = rw y (omega (arith, s, c .room));
+              };
+              owners = owning-kept x (omega (arith, s, c .room)) owned;
+            }

@@ -1,0 +1,56 @@
+use borrow.Author.Needs.{needs}
+use mathlib.Core.Path.{_≡_, refl, sym, _∙_, ap}
+use mathlib.Core.Bool.{true, false}
+use native.Mathlib.Omega.{arith}
+use lib.ListN.{length}
+use Rattle.format.specs.Layout.Geometry.{sectorCount}
+use Rattle.format.specs.Layout.Tables.{sectorSpace}
+use Rattle.format.specs.Layout.Volume.{volume, directorySectorsOf}
+use Rattle.format.specs.Rules.Mini.{miniFatChain}
+use Rattle.kinds.specs.Sizes.{geometryOf}
+use Rattle.tables.specs.Listed.{Listed}
+use Rattle.tables.proofs.WorkLaws.{wrote-two, listed-kept}
+use Rattle.chains.proofs.Owners.{marked-both, marked-broken, is-wrong, is-right}
+use Rattle.owners.proofs.Marking.{directory-kept}
+use Rattle.volume.proofs.system.mark_system.Statement.{statement}
+use Rattle.volume.proofs.system.mark_system.Tie as tie
+
+-- the list of the FAT stays: only marks change
+first-kept : (c : tie.After-mark-directory) → let p = c .before .before .before .before .args in Listed (geometryOf (p .t .geometry)) (p .img .now) (c .mark-directory .last .1 .0) (p .t .sectors) (p .t .list)
+unfolding sectorSpace
+first-kept c = let l = c .before .before .before .before .pre .0 in listed-kept l (c .mark-directory .ensures .wrote) (omega (arith, l .apart))
+
+-- the mini FAT is a chain
+right : (c : tie.Else1) → let p = c .before .before .before .before .before .before .before .before .before .before .before .before .args in miniFatChain (volume (geometryOf (p .t .geometry)) (p .img .now)) ≡ true
+right c = is-right (c .before .before .before .before .mark-mini-fat .ensures) (sym (c .before .is-broken .ensures) ∙ c .if1 .left)
+
+pub mark-system-spec : {M : Type 1} → statement M
+unfolding sectorSpace
+mark-system-spec =
+    tie.close
+    (tie.spec
+    (λ c κs.
+    let p = c .before .before .before in
+    (p .pre .0, (p .pre .1 .0 .count ∙ ap (λ g. length (directorySectorsOf (geometryOf g) (p .args .img .now))) (p .pre .1 .1 .0), (p .pre .1 .1 .1 .1 .0, p .pre .1 .1 .1 .1 .1))))  -- mark-directory-requires
+    (λ c κs. (first-kept (c .before .before .before), c .before .before .before .mark-directory .ensures .closed refl))  -- mark-mini-fat-requires
+    (λ c κs. search needs)  -- is-broken-requires
+    (λ c. search needs)  -- same-length
+    (λ c.
+    let f = c .before .before .before .before .mark-mini-fat .ensures in
+    let w : miniFatChain _ ≡ false = is-wrong f (sym (c .before .is-broken .ensures) ∙ c .if1 .taken) in
+    marked-broken _ _ (rw w) (wrote-two (c .before .before .before .before .before .before .before .before .mark-directory .ensures .wrote) (f .wrote)))  -- returns
+    (λ c κs.
+    let p = c .before .before .before .before .before .before .before .before .before .before .before .before .before .pre in
+    let d = c .before .before .before .before .before .before .before .before .before in
+    let f = c .before .before .before .before .before .mark-mini-fat .ensures in (
+      listed-kept (first-kept d) (f .wrote) (omega (arith, p .0 .apart)),
+      (directory-kept (directory-kept (p .1 .0) (d .mark-directory .ensures .wrote) (omega (arith, p .1 .1 .1 .0))) (f .wrote) (omega (arith, p .1 .1 .1 .0)), (p .1 .1 .0, f .closed (right (c .before)))),
+    ))  -- mark-mini-stream-requires
+    (λ c κs. search needs)  -- and-then-requires
+    (λ c κs. search needs)  -- and-then-requires-2
+    (λ c. search needs)  -- same-length-2
+    (λ c.
+    let e = c .before .before .before .before .before .before in
+    let f = (rw (right e) at (e .before .before .before .before .mark-mini-fat .ensures)) in
+    rw (c .and-then2 .ensures, c .before .and-then .ensures, right e)
+    (marked-both _ (marked-both _ (e .before .before .before .before .before .before .before .before .mark-directory .ensures) f) (c .before .before .before .before .mark-mini-stream .ensures))))  -- returns-2

@@ -1,0 +1,54 @@
+// A volume: an image that keeps every rule, opened for the calls. Each stage judges its groups and hands on to the next; the last one opens the volume.
+ghost use Rattle.format.specs.Layout.Geometry.{version3};
+ghost use Rattle.volume.specs.Opened.{OpenedRight};
+use directory::Directory;
+use kinds::Answer;
+use kinds::Geometry;
+use le::zero_first;
+use minis::Minis;
+use table_stage::table_groups;
+use tables::Tables;
+use tables::length_allowed;
+use tables::work_need;
+
+pub mod entry_stage;
+pub mod mini_stage;
+pub mod owner_stage;
+pub mod system;
+pub mod table_stage;
+
+// Where everything stands: the FAT's sectors, the directory's, the mini FAT's and the mini stream's are listed in the work buffer.
+pub struct Volume {
+    pub tables: Tables,
+    pub directory: Directory,
+    pub minis: Minis,
+    pub stream: usize,
+}
+
+pub enum Opened {
+    Refused(Answer),
+    Ready(Volume),
+}
+
+// Validates an image and opens it. A refusal leaves the work buffer as every refusal does.
+pub fn open_volume(img: &[u8], work: &mut [u32]) -> Opened
+    ensures { λ r. ⌜ OpenedRight version3 (now (img .entry)) (now (work .entry)) (now (work .exit)) r ⌝ }
+{
+    let g = Geometry::V3;
+    let n = img.len();
+    if !length_allowed(n, g) {
+        return Opened::Refused(Answer::BadLength);
+    }
+    let need = work_need(n);
+    if work.len() < need {
+        return Opened::Refused(Answer::ShortWork);
+    }
+    zero_first(work, need);
+    match table_groups(img, work, g) {
+        Opened::Refused(a) => {
+            zero_first(work, need);
+            Opened::Refused(a)
+        }
+        Opened::Ready(v) => Opened::Ready(v),
+    }
+}

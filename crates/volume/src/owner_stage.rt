@@ -1,0 +1,67 @@
+// Groups 17 and 18, and the opened volume.
+ghost use mathlib.Core.Path.{_≡_};
+ghost use Rattle.format.specs.Layout.Volume.{volume};
+ghost use Rattle.kinds.specs.Sizes.{geometryOf};
+ghost use Rattle.tables.specs.Work.{Wrote};
+ghost use Rattle.volume.specs.Groups.{ownerGroups};
+ghost use Rattle.volume.specs.Passed.{SystemMarked, ListsStand};
+ghost use Rattle.volume.specs.Opened.{StageLeft, Readied};
+use super::Opened;
+use super::Volume;
+use chains::list_chain;
+use chains::units_for;
+use directory::Directory;
+use directory::place;
+use entries::size;
+use entries::start;
+use kinds::Answer;
+use kinds::EntryId;
+use kinds::Sector;
+use minis::Minis;
+use owners::rules::minis_owned;
+use owners::rules::sectors_owned;
+use tables::Tables;
+
+// Lists the mini stream's sectors before the mini FAT's, which makes the volume ready.
+fn list_stream(img: &[u8], work: &mut [u32], t: Tables, d: Directory, m: Minis) -> Volume
+    requires { ⌜ ListsStand t d m (now img) (now work) ⌝ }
+    ensures { λ r. ⌜ (r .tables ≡ t) × (r .directory ≡ d) × (r .minis ≡ m) ⌝ }
+    ensures { λ r. ⌜ Readied r (now (img .entry)) (now (work .exit)) ⌝ }
+    ensures { λ _. ⌜ Wrote (now (work .entry)) (now (work .exit)) 0 (m .list) ⌝ }
+{
+    let g = t.geometry;
+    let list = m.list;
+    let p = place(work, d, EntryId::ROOT);
+    let n = units_for(size(img, p), g.bytes as u64) as usize;
+    let at = list - n;
+    list_chain(img, work, t, Sector(start(img, p)), n, at);
+    Volume {
+        tables: t,
+        directory: d,
+        minis: m,
+        stream: at,
+    }
+}
+
+// The marks of the system's chains stand already; `shared` says whether two of these share a sector.
+pub fn owner_groups(
+    img: &[u8],
+    work: &mut [u32],
+    t: Tables,
+    d: Directory,
+    m: Minis,
+    shared: bool,
+) -> Opened
+    requires { ⌜ SystemMarked t d m (now img) (now work) shared ⌝ }
+    ensures { λ r. ⌜ StageLeft (t .geometry) (now (img .entry)) (ownerGroups (volume (geometryOf (t .geometry)) (now (img .entry)))) (now (work .entry)) (now (work .exit)) r ⌝ }
+{
+    let a = sectors_owned(img, work, t, d, shared);
+    let b = minis_owned(img, work, m, d);
+    if a.is_broken() | b.is_broken() {
+        return Opened::Refused(Answer::Streams);
+    }
+    if !(a.is_right() & b.is_right()) {
+        return Opened::Refused(Answer::Owners);
+    }
+    Opened::Ready(list_stream(img, work, t, d, m))
+}

@@ -1,0 +1,37 @@
+// Groups 10 to 13.
+ghost use Rattle.format.specs.Rules.Verdict.{groups};
+ghost use Rattle.kinds.specs.Sizes.{geometryOf};
+ghost use Rattle.tables.specs.Sized.{ImageSized};
+ghost use Rattle.tables.specs.Work.{WorkClear};
+ghost use Rattle.volume.specs.Opened.{StageLeft};
+use super::Opened;
+use super::entry_stage::entry_groups;
+use chains::Length;
+use chains::cell_rules;
+use chains::directory_length;
+use kinds::Answer;
+use kinds::Geometry;
+use tables::header_rules;
+use tables::sectors::table_rules;
+use tables::tables_of;
+
+pub fn table_groups(img: &[u8], work: &mut [u32], g: Geometry) -> Opened
+    requires { ⌜ ImageSized (geometryOf g) (now img) ⌝ }
+    requires { ⌜ WorkClear (geometryOf g) (now img) (now work) ⌝ }
+    ensures { λ r. ⌜ StageLeft g (now (img .entry)) (groups (geometryOf g) (now (img .entry))) (now (work .entry)) (now (work .exit)) r ⌝ }
+{
+    if !header_rules(img, g) {
+        return Opened::Refused(Answer::Header);
+    }
+    if !table_rules(img, work, g) {
+        return Opened::Refused(Answer::Tables);
+    }
+    let t = tables_of(img, g);
+    if !cell_rules(img, work, t) {
+        return Opened::Refused(Answer::Cells);
+    }
+    match directory_length(img, work, t) {
+        Length::Is(n) => entry_groups(img, work, g, n),
+        Length::Never => Opened::Refused(Answer::Directory),
+    }
+}
