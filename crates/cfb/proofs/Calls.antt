@@ -39,6 +39,14 @@ module _ (g : Geometry) (img : Bytes) (call : Call) where
   unfolding workAfter workLeft
   left-is = refl
 
+-- a call that validation refuses
+module _ (g : Geometry) (img : Bytes) (call : Call) (w₁ : List ℕ) (r : Opened) (o : OpenedRight g img (workOf call) w₁ r) where
+  pub call-refused : {a : Answer} → r ≡ Refused a → (plain (numberOf a) ≡ reply g img call) × (w₁ ≡ workAfter g img call)
+  call-refused {a} e =
+      let x : OpenedRight g img (workOf call) w₁ (Refused a) = subst (λ y. OpenedRight g img (workOf call) w₁ y) e o in
+      let n : answer g img call ≡ numberOf a = refused-answer g img call (numberOf a) (sym (x .0)) (λ z. x .1 .0 (sym (x .0) ∙ z)) in
+      (sym (refused-reply g img call (numberOf a) n (λ z. x .1 .0 (sym (x .0) ∙ z))), x .1 .1 ∙ ap (λ k. workLeft k img (workOf call)) (sym (x .0) ∙ sym n) ∙ sym (left-is g img call))
+
 -- ---- an opened volume
 
 module _ (g : Geometry) (img : Bytes) (w w₁ : List ℕ) (r : Opened) (o : OpenedRight g img w w₁ r) {v : Volume} (e : r ≡ Ready v) where
@@ -82,9 +90,9 @@ module _ (g : Geometry) (img : Bytes) (w : List ℕ) where
         let x : OpenedRight g img w w₁ (Refused a) = subst (λ y. OpenedRight g img w w₁ y) e o in
         (ap plain (x .0) ∙ sym reply-is, x .1 .1 ∙ sym work-is)
 
-    pub validate-ready : {v : Volume} {w₂ : List ℕ} {n : ℕ} → r ≡ Ready v → n ≡ workNeed (length img) → w₂ ≡ workCleared n w₁ → (plain 0 ≡ reply g img (validate w)) × (w₂ ≡ workAfter g img (validate w))
-    validate-ready {v} {w₂} e k c =
+    pub validate-ready : {v : Volume} {w₂ : List ℕ} → r ≡ Ready v → w₂ ≡ workCleared (workNeed (length img)) w₁ → (plain 0 ≡ reply g img (validate w)) × (w₂ ≡ workAfter g img (validate w))
+    validate-ready {v} {w₂} e c =
         let x = ready-is g img w w₁ r o e in (
           ap plain (sym (x .0)) ∙ sym reply-is,
-          left-cleared (verdict g img (length w)) img w (omega (arith, x .0)) (omega (arith, x .0)) (x .1 .1 .1 .1) (c ∙ ap (λ m. workCleared m w₁) k) ∙ sym work-is,
+          left-cleared (verdict g img (length w)) img w (omega (arith, x .0)) (omega (arith, x .0)) (x .1 .1 .1 .1) c ∙ sym work-is,
         )

@@ -1,2 +1,4 @@
 -- Laws for the public calls.
 pub mod Calls
+pub mod Inside
+pub mod Finds

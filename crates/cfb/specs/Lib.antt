@@ -1,1 +1,3 @@
--- The public calls state all they promise with `format`'s own definitions.
+-- What the calls are stated with, beside `format`'s own definitions.
+pub mod Inside
+pub mod Replies

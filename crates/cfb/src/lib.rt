@@ -1,15 +1,32 @@
 // The public calls. Nobody has to check first: no call requires anything, and every call ends and answers.
 ghost use mathlib.Core.Path.{_≡_};
 ghost use Rattle.format.specs.Layout.Geometry.{version3};
-ghost use Rattle.format.specs.Calls.Call.{validate as validateCall};
+ghost use Prim.Native.Nat.{_≤_, _<_};
+ghost use lib.ListN.{length};
+ghost use Rattle.format.specs.Rules.Length.{workNeed};
+ghost use Rattle.format.specs.Calls.Call.{validate as validateCall, find as findCall};
 ghost use Rattle.format.specs.Calls.Reply.{plain, reply};
-ghost use Rattle.format.specs.Calls.Buffers.{workAfter};
+ghost use Rattle.format.specs.Calls.Buffers.{workCleared, workAfter};
 ghost use Rattle.kinds.specs.Numbers.{numberOf};
+ghost use Rattle.cfb.specs.Replies.{findReply};
+use finding::Find;
+use finding::find_in;
 use kinds::Answer;
 use le::zero_first;
 use tables::work_need;
 use volume::Opened;
 use volume::open_volume;
+
+pub mod finding;
+
+// Leaves the work buffer as a call does.
+fn clear(image: &[u8], work: &mut [u32])
+    requires { ⌜ length (now image) < 0x1_0000_0000 ⌝ }
+    requires { ⌜ workNeed (length (now image)) ≤ length (now work) ⌝ }
+    ensures { λ _. ⌜ now (work .exit) ≡ workCleared (workNeed (length (now (image .entry)))) (now (work .entry)) ⌝ }
+{
+    zero_first(work, work_need(image.len()));
+}
 
 // Whether an image keeps all rules; where not, the first group that it breaks.
 pub fn validate(image: &[u8], work: &mut [u32]) -> Answer
@@ -19,8 +36,23 @@ pub fn validate(image: &[u8], work: &mut [u32]) -> Answer
     match open_volume(image, work) {
         Opened::Refused(a) => a,
         Opened::Ready(_) => {
-            zero_first(work, work_need(image.len()));
+            clear(image, work);
             Answer::Done
+        }
+    }
+}
+
+// The entry that a path leads to: its number, its type and its size.
+pub fn find(image: &[u8], work: &mut [u32], path: &[u16]) -> Find
+    ensures { λ r. ⌜ findReply r ≡ reply version3 (now (image .entry)) (findCall (now (path .entry)) (now (work .entry))) ⌝ }
+    ensures { λ _. ⌜ now (work .exit) ≡ workAfter version3 (now (image .entry)) (findCall (now (path .entry)) (now (work .entry))) ⌝ }
+{
+    match open_volume(image, work) {
+        Opened::Refused(a) => Find::Refused(a),
+        Opened::Ready(v) => {
+            let r = find_in(path, image, work, v);
+            clear(image, work);
+            r
         }
     }
 }

@@ -7,7 +7,7 @@ use native.Mathlib.Omega.{arith}
 use Rattle.format.specs.Calls.Answer.{firstOf}
 use Rattle.format.specs.Calls.Find.{Found, at, refused, answerOf}
 use Rattle.theory.proofs.Tests.{clash}
-use Rattle.history.proofs.Refusals.{RefusedLow}
+use Rattle.theory.proofs.Refusals.{RefusedLow}
 
 pub write-zero-iff : (workFits t : Bool) → (firstOf (cond workFits 0 2) (cond t 24 0) ≡ 0) ↔ ((workFits && true && not t) ≡ true)
 unfolding firstOf

@@ -31,7 +31,7 @@ use Rattle.frame.specs.Good.{Good}
 use Rattle.frame.proofs.Accepted.{accepted-kept, volume-passed}
 use Rattle.frame.proofs.Good.{accepted-good}
 use Rattle.history.proofs.Filled.{Sized}
-use Rattle.history.proofs.Refusals.{RefusedLow, resolve-low, resolve-stream-low}
+use Rattle.theory.proofs.Refusals.{RefusedLow, resolve-low, resolve-stream-low}
 use Rattle.history.proofs.Finding.{refused-has-no-row, has-row, row-length}
 use Rattle.history.proofs.AnswerNumbers.{cond-not-26, first-not-26, iff-along, iff-never, length-26-iff, length-zero-iff, work-first-not-26, refused-not-0-26, refused-not-26, write-zero-iff}
 use Rattle.history.proofs.Room.{free-minis, free-sectors}

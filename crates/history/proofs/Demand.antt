@@ -28,7 +28,7 @@ use Rattle.format.specs.History.Step.{accepts, changed, change, rowsStep, rowsA
 use Rattle.format.specs.History.Claim.{after, isEdit, Holds, Demand3}
 use Rattle.theory.proofs.Tests.{clash}
 use Rattle.frame.specs.Frame.{Frame}
-use Rattle.history.proofs.Refusals.{RefusedLow, resolve-stream-low}
+use Rattle.theory.proofs.Refusals.{RefusedLow, resolve-stream-low}
 use Rattle.history.proofs.Room.{allocated-sectors, allocated-minis}
 use Rattle.history.proofs.Answers.{answers-0-iff, answers-26-iff, write-answer, length-answer}
 use Rattle.history.proofs.EditStep.{write-step}

@@ -25,7 +25,7 @@ use Rattle.history.proofs.Filled.{Sized, length-contents}
 use Rattle.history.proofs.Counting.{inside-forest, tree-parts, reached}
 use Rattle.history.proofs.Hits.{strip, hits, hits-le}
 use Rattle.history.proofs.Paths.{Findable, path-hits, foundList}
-use Rattle.history.proofs.Refusals.{found-stream}
+use Rattle.theory.proofs.Refusals.{found-stream}
 use Rattle.history.proofs.Rows.{meantLengths, nonEmpty, firstOr0, has-row-meant, row-length-meant, rows-meant}
 use Rattle.frame.proofs.EntryFacts.{entry-fields, name-fields-legal, stream-fields-say, stream-fields-of, storage-fields-say, storage-fields-of}
 use Rattle.history.proofs.Forest.{named-below}

@@ -10,7 +10,6 @@ pub mod Names
 pub mod Hits
 pub mod Siblings
 pub mod Paths
-pub mod Refusals
 pub mod Rows
 pub mod Finding
 pub mod Sides

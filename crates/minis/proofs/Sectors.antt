@@ -33,7 +33,7 @@ unfolding miniFatSectors
 sectors-are g img = refl
 
 -- every unit of a chain lies below the limit
-unit-below : (f : ℕ → ℕ) (limit n s : ℕ) → chain f limit n s ≡ true → (k : ℕ) → k < n → getD (units f n s) k 0 < limit
+pub unit-below : (f : ℕ → ℕ) (limit n s : ℕ) → chain f limit n s ≡ true → (k : ℕ) → k < n → getD (units f n s) k 0 < limit
 unit-below f limit n s h k l =
     linked-below f limit (units f n s) (chain-linked f limit n s h .0) _ (count-at (units f n s) k 0 (omega (arith, length-units f n s)))
 

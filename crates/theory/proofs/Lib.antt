@@ -22,6 +22,7 @@ pub mod Owned
 pub mod Contents
 pub mod Fits
 pub mod Edits
+pub mod Refusals
 pub mod NameOrder
 pub mod NameCompare
 pub mod Trees

@@ -25,7 +25,7 @@ use Rattle.volume.specs.Opened.{Readied}
 use Rattle.volume.proofs.ListsKept.{lists-kept}
 use Rattle.volume.proofs.MiniCounts.{stream-short, mini-stream-chain}
 
-stream-is : (g : Geometry) (img : Bytes) → miniStreamSectors g img ≡ units (fatCell g img) (roundUp (size (directory g img .entry 0)) (g .sectorBytes)) (start (directory g img .entry 0))
+pub stream-is : (g : Geometry) (img : Bytes) → miniStreamSectors g img ≡ units (fatCell g img) (roundUp (size (directory g img .entry 0)) (g .sectorBytes)) (start (directory g img .entry 0))
 unfolding miniStreamSectors unitsFor sectorSpace
 stream-is g img = refl
 

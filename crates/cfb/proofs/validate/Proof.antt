@@ -1,5 +1,4 @@
 use borrow.Author.Needs.{needs}
-use native.Mathlib.Omega.{arith}
 use Rattle.format.specs.Layout.Geometry.{version3}
 use Rattle.cfb.proofs.Calls.{ready-short, ready-room, validate-refused, validate-ready}
 use Rattle.cfb.proofs.validate.Statement.{statement}
@@ -12,9 +11,10 @@ validate-spec =
     (λ c κs. search needs)  -- open-volume-requires
     (λ c. search needs)  -- enum-known-a
     (λ c. search needs)  -- enum-told
-    (λ c κs. ready-short version3 _ _ _ _ (c .before .before .before .before .before .open-volume .ensures) (c .before .enum-told .given .1))  -- work-need-requires
-    (λ c κs. omega (arith, c .work-need .ensures, ready-room version3 _ _ _ _ (c .before .before .before .before .before .before .open-volume .ensures) (c .before .before .enum-told .given .1)))  -- zero-first-requires
+    (λ c κs.
+    let o = c .before .before .before .before .before .open-volume .ensures in
+    (ready-short version3 _ _ _ _ o (c .before .enum-told .given .1), ready-room version3 _ _ _ _ o (c .before .enum-told .given .1)))  -- clear-requires
     (λ c. search needs)  -- same-length
     (λ c. validate-refused _ _ _ _ _ (c .before .before .before .before .before .open-volume .ensures) (c .before .a .given .1))  -- returns
     (λ c. search needs)  -- same-length-2
-    (λ c. validate-ready _ _ _ _ _ (c .before .before .before .before .before .before .before .before .before .open-volume .ensures) (c .before .before .before .before .before .enum-told .given .1) (c .before .before .before .work-need .ensures) (c .before .before .zero-first .ensures)))  -- returns-2
+    (λ c. validate-ready _ _ _ _ _ (c .before .before .before .before .before .before .before .before .open-volume .ensures) (c .before .before .before .before .enum-told .given .1) (c .before .before .clear .ensures)))  -- returns-2

@@ -1,0 +1,9 @@
+-- The reply that an answer of the code stands for: 01's number, and its values.
+use Rattle.format.specs.Calls.Reply.{Reply, plain, counted}
+use Rattle.kinds.specs.Numbers.{numberOf}
+use Rattle.cfb.specs.declared.finding.Find.{Find}
+use Rattle.cfb.specs.declared.finding.Find.the-variants.{Entry, Refused}
+
+abbrev pub findReply : Find → Reply
+findReply (Entry f) = record { number = 0; entry = f .id .0; type = f .kind; size = f .size; count = 0 }
+findReply (Refused a) = plain (numberOf a)

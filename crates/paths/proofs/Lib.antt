@@ -1,0 +1,4 @@
+-- Laws for paths.
+pub mod Splits
+pub mod LegalNames
+pub mod Steps

@@ -1,0 +1,2 @@
+-- What the functions on paths answer, beside `format`.
+pub mod Found

@@ -1,0 +1,128 @@
+// Paths: whether one is well formed, and the entry that it leads to.
+ghost use mathlib.Core.Path.{_≡_};
+ghost use mathlib.Core.Bool.{true};
+ghost use Prim.Native.Nat.{_<_};
+ghost use lib.ListN.{length};
+ghost use Rattle.format.specs.Layout.Name.{legalName};
+ghost use Rattle.format.specs.Rules.Entries.{entryRules};
+ghost use Rattle.format.specs.Rules.Trees.{treeRules};
+ghost use Rattle.format.specs.Calls.Paths.{wellFormed};
+ghost use Rattle.format.specs.Calls.Find.{enter as enterOf, resolve};
+ghost use Rattle.theory.specs.TreeFind.{reached};
+ghost use Rattle.directory.specs.Listed.{entriesOf, Listed};
+ghost use Rattle.paths.specs.Found.{firstName, foundOf, Inside};
+use directory::Directory;
+use directory::child_of;
+use directory::kind_of;
+use entries::names::legal_unit;
+use kinds::Answer;
+use kinds::EntryId;
+use lookup::Child;
+use lookup::find_child;
+
+// ---- names
+
+// How many units the first name of a path has: those before the first slash.
+fn name_length(path: &[u16]) -> usize
+    ensures { λ r. ⌜ r ≡ length (firstName (now (path .entry))) ⌝ }
+{
+    let mut i = 0;
+    while i < path.len() {
+        if path[i] == 0x2F {
+            return i;
+        }
+        i += 1;
+    }
+    i
+}
+
+// Whether a name is a legal one.
+fn legal_name(name: &[u16]) -> bool
+    ensures { λ r. ⌜ r ≡ legalName (now (name .entry)) ⌝ }
+{
+    if 31 < name.len() {
+        return false;
+    }
+    let mut i = 0;
+    while i < name.len() {
+        if !legal_unit(name[i]) {
+            return false;
+        }
+        i += 1;
+    }
+    0 < i
+}
+
+// Whether every name of a path is a legal one. The rest after each name starts behind the slash.
+pub fn well_formed(path: &[u16]) -> bool
+    ensures { λ r. ⌜ r ≡ wellFormed (now (path .entry)) ⌝ }
+{
+    if path.len() == 0 {
+        return true;
+    }
+    let mut i = 0;
+    while i <= path.len() {
+        let n = name_length(&path[i..]);
+        if !legal_name(&path[i..i + n]) {
+            return false;
+        }
+        i += n + 1;
+    }
+    true
+}
+
+// ---- the way down
+
+pub enum Found {
+    At(EntryId),
+    Refused(Answer),
+}
+
+// One name further from entry x: the first of the rest of a path.
+fn enter(rest: &[u16], img: &[u8], work: &[u32], d: Directory, x: EntryId) -> Found
+    requires { ⌜ Listed d (now img) (now work) ⌝ }
+    requires { ⌜ entryRules (entriesOf d (now img)) ≡ true ⌝ }
+    requires { ⌜ treeRules (entriesOf d (now img)) ≡ true ⌝ }
+    requires { ⌜ x .0 < entriesOf d (now img) .count ⌝ }
+    ensures { λ r. ⌜ foundOf (entriesOf d (now (img .entry))) r ≡ enterOf (entriesOf d (now (img .entry))) (reached (entriesOf d (now (img .entry))) (x .0)) (firstName (now (rest .entry))) ⌝ }
+{
+    if kind_of(img, work, d, x) == 2 {
+        return Found::Refused(Answer::StreamOnTheWay);
+    }
+    let n = name_length(rest);
+    match find_child(&rest[..n], img, work, d, child_of(img, work, d, x)) {
+        Child::Missing => Found::Refused(Answer::NotFound),
+        Child::Present(y) => Found::At(y),
+    }
+}
+
+// The entry that a path leads to, or the refusal: a name at a time, the rest of the path handed on from behind the slash.
+pub fn find_entry(path: &[u16], img: &[u8], work: &[u32], d: Directory) -> Found
+    requires { ⌜ Listed d (now img) (now work) ⌝ }
+    requires { ⌜ entryRules (entriesOf d (now img)) ≡ true ⌝ }
+    requires { ⌜ treeRules (entriesOf d (now img)) ≡ true ⌝ }
+    ensures { λ r. ⌜ foundOf (entriesOf d (now (img .entry))) r ≡ resolve (entriesOf d (now (img .entry))) (now (path .entry)) ⌝ }
+    ensures { λ r. ⌜ Inside (entriesOf d (now (img .entry))) r ⌝ }
+{
+    if !well_formed(path) {
+        return Found::Refused(Answer::BadPath);
+    }
+    let mut x = EntryId::ROOT;
+    if path.len() == 0 {
+        return Found::At(x);
+    }
+    let mut i = 0;
+    while i <= path.len() {
+        let rest = &path[i..];
+        match enter(rest, img, work, d, x) {
+            Found::Refused(a) => {
+                return Found::Refused(a);
+            }
+            Found::At(y) => {
+                x = y;
+            }
+        }
+        i += name_length(rest) + 1;
+    }
+    Found::At(x)
+}

@@ -1,0 +1,2 @@
+-- What a read hands over, beside `format`.
+pub mod Streams

@@ -1,0 +1,6 @@
+-- Laws for text.
+pub mod Decimals
+pub mod Names
+pub mod Over
+pub mod Units
+pub mod Writing

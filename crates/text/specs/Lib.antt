@@ -1,0 +1,1 @@
+-- Text is stated with `format`'s own definitions.

@@ -1,0 +1,124 @@
+// Numbers and names as text, written to the front of a part of the out buffer. Each length can be asked for before a byte is written.
+ghost use mathlib.Core.Path.{_≡_};
+ghost use mathlib.Core.Bool.{_&&_};
+ghost use Prim.Native.Nat.{_+_, _≤_};
+ghost use lib.Dec.{leb};
+ghost use lib.ListN.{length};
+ghost use Rattle.format.specs.Layout.Entry.{name};
+ghost use Rattle.format.specs.Calls.Read.{over};
+ghost use Rattle.format.specs.Calls.Text.{decimal, hexDigit, printUnit, printName};
+ghost use Rattle.entries.specs.Entry.{entryAt, NamedAt};
+use entries::names::unit;
+use entries::names::units;
+
+// ---- numbers
+
+// How many digits a number has.
+pub fn decimal_length(n: u64) -> usize
+    ensures { λ r. ⌜ r ≡ length (decimal n) ⌝ }
+{
+    let mut k = 1;
+    let mut m = n / 10;
+    while 0 < m {
+        m = m / 10;
+        k += 1;
+    }
+    k
+}
+
+// Writes a number's digits, and returns how many they are.
+pub fn put_decimal(out: &mut [u8], n: u64) -> usize
+    requires { ⌜ length (decimal n) ≤ length (now out) ⌝ }
+    ensures { λ r. ⌜ r ≡ length (decimal n) ⌝ }
+    ensures { λ _. ⌜ now (out .exit) ≡ over (decimal n) (now (out .entry)) ⌝ }
+{
+    let k = decimal_length(n);
+    let mut i = k;
+    let mut m = n;
+    while 0 < i {
+        i -= 1;
+        out[i] = 0x30 + (m % 10) as u8;
+        m = m / 10;
+    }
+    k
+}
+
+// ---- names
+
+// Whether a unit prints as itself.
+fn plain(u: u16) -> bool
+    ensures { λ r. ⌜ r ≡ (leb 0x20 u && leb u 0x7E) ⌝ }
+{
+    (0x20 <= u) & (u <= 0x7E)
+}
+
+// How many bytes a unit takes.
+pub fn unit_length(u: u16) -> usize
+    ensures { λ r. ⌜ r ≡ length (printUnit u) ⌝ }
+{
+    if plain(u) {
+        return 1;
+    }
+    5
+}
+
+// A digit of base 16.
+fn hex_digit(d: u16) -> u8
+    requires { ⌜ d ≤ 15 ⌝ }
+    ensures { λ r. ⌜ r ≡ hexDigit d ⌝ }
+{
+    if d < 10 {
+        return 0x30 + d as u8;
+    }
+    0x37 + d as u8
+}
+
+// Writes a unit, and returns how many bytes it takes.
+pub fn put_unit(out: &mut [u8], u: u16) -> usize
+    requires { ⌜ length (printUnit u) ≤ length (now out) ⌝ }
+    ensures { λ r. ⌜ r ≡ length (printUnit u) ⌝ }
+    ensures { λ _. ⌜ now (out .exit) ≡ over (printUnit u) (now (out .entry)) ⌝ }
+{
+    if plain(u) {
+        out[0] = u as u8;
+        return 1;
+    }
+    out[0] = 0x5C;
+    out[1] = hex_digit(u / 4096 % 16);
+    out[2] = hex_digit(u / 256 % 16);
+    out[3] = hex_digit(u / 16 % 16);
+    out[4] = hex_digit(u % 16);
+    5
+}
+
+// How many bytes the name of the entry at p takes.
+pub fn name_length(img: &[u8], p: usize) -> usize
+    requires { ⌜ NamedAt (now img) p ⌝ }
+    ensures { λ r. ⌜ r ≡ length (printName (name (entryAt (now (img .entry)) p))) ⌝ }
+{
+    let n = units(img, p);
+    let mut k = 0;
+    let mut i = 0;
+    while i < n {
+        k += unit_length(unit(img, p, i));
+        i += 1;
+    }
+    k
+}
+
+// Writes the name of the entry at p, and returns how many bytes it takes.
+pub fn put_name(out: &mut [u8], img: &[u8], p: usize) -> usize
+    requires { ⌜ NamedAt (now img) p ⌝ }
+    requires { ⌜ length (printName (name (entryAt (now img) p))) ≤ length (now out) ⌝ }
+    ensures { λ r. ⌜ r ≡ length (printName (name (entryAt (now (img .entry)) p))) ⌝ }
+    ensures { λ _. ⌜ now (out .exit) ≡ over (printName (name (entryAt (now (img .entry)) p))) (now (out .entry)) ⌝ }
+{
+    let n = units(img, p);
+    let mut k = 0;
+    let mut i = 0;
+    while i < n {
+        k += put_unit(&mut out[k..], unit(img, p, i));
+        i += 1;
+    }
+    k
+}
