@@ -9,10 +9,10 @@ use Rattle.format.specs.Basics.Bytes.{Bytes}
 use Rattle.format.specs.Layout.Geometry.{Geometry}
 use Rattle.format.specs.Rules.Length.{workNeed}
 use Rattle.format.specs.Rules.Verdict.{verdict}
-use Rattle.format.specs.Calls.Call.{Call, validate, workOf}
+use Rattle.format.specs.Calls.Call.{Call, validate, workOf, outOf}
 use Rattle.format.specs.Calls.Answer.{firstOf, answerIn, answer}
 use Rattle.format.specs.Calls.Reply.{plain, onZero, done, reply}
-use Rattle.format.specs.Calls.Buffers.{workCleared, workAfter}
+use Rattle.format.specs.Calls.Buffers.{workCleared, outAfter, workAfter}
 use Rattle.kinds.specs.declared.Answer.{Answer}
 use Rattle.kinds.specs.Numbers.{numberOf}
 use Rattle.volume.specs.Opened.{OpenedRight, workLeft}
@@ -39,6 +39,11 @@ module _ (g : Geometry) (img : Bytes) (call : Call) where
   unfolding workAfter workLeft
   left-is = refl
 
+  pub refused-out : (n : ℕ) → answer g img call ≡ n → n ≢ 0 → outAfter g img call ≡ outOf call
+  unfolding outAfter onZero
+  refused-out zero e h = absurd (h refl)
+  refused-out (suc n) e h = rw e
+
 -- a call that validation refuses
 module _ (g : Geometry) (img : Bytes) (call : Call) (w₁ : List ℕ) (r : Opened) (o : OpenedRight g img (workOf call) w₁ r) where
   pub call-refused : {a : Answer} → r ≡ Refused a → (plain (numberOf a) ≡ reply g img call) × (w₁ ≡ workAfter g img call)
@@ -46,6 +51,13 @@ module _ (g : Geometry) (img : Bytes) (call : Call) (w₁ : List ℕ) (r : Opene
       let x : OpenedRight g img (workOf call) w₁ (Refused a) = subst (λ y. OpenedRight g img (workOf call) w₁ y) e o in
       let n : answer g img call ≡ numberOf a = refused-answer g img call (numberOf a) (sym (x .0)) (λ z. x .1 .0 (sym (x .0) ∙ z)) in
       (sym (refused-reply g img call (numberOf a) n (λ z. x .1 .0 (sym (x .0) ∙ z))), x .1 .1 ∙ ap (λ k. workLeft k img (workOf call)) (sym (x .0) ∙ sym n) ∙ sym (left-is g img call))
+
+  -- its out buffer stays
+  pub call-kept : {a : Answer} → r ≡ Refused a → outOf call ≡ outAfter g img call
+  call-kept {a} e =
+      let x : OpenedRight g img (workOf call) w₁ (Refused a) = subst (λ y. OpenedRight g img (workOf call) w₁ y) e o in
+      let n : answer g img call ≡ numberOf a = refused-answer g img call (numberOf a) (sym (x .0)) (λ z. x .1 .0 (sym (x .0) ∙ z)) in
+      sym (refused-out g img call (numberOf a) n (λ z. x .1 .0 (sym (x .0) ∙ z)))
 
 -- ---- an opened volume
 

@@ -52,7 +52,7 @@ module _ (v : Volume) (path : Path) where
   unfolding findIn onZero answerOf entryOf
   found-reply x e = rw (← e)
 
-  refused-late : (a : ℕ) → refused a ≡ resolve (v .directory) path → 20 ≤ a
+  pub refused-late : (a : ℕ) → refused a ≡ resolve (v .directory) path → 20 ≤ a
   refused-late a e = subst (λ f. RefusedLow f) (sym e) (resolve-low (v .directory) path) .0
 
   pub refused-reply : (a : ℕ) → refused a ≡ resolve (v .directory) path → plain a ≡ findIn v path

@@ -19,10 +19,10 @@ use Rattle.format.specs.Calls.Paths.{Path}
 use Rattle.format.specs.Calls.SetLength.{crosses, tooFew}
 use Rattle.format.specs.Calls.Listing.{listing}
 use Rattle.format.specs.Calls.Find.{Found, at, refused, answerOf, resolve, resolveStream}
-use Rattle.format.specs.Calls.Call.{Call, validate, find, read, overwrite, setLength, list, workOf}
+use Rattle.format.specs.Calls.Call.{Call, validate, find, read, overwrite, setLength, list, workOf, outOf}
 use Rattle.format.specs.Calls.Answer.{firstOf, target, targetAnswer, beyond, lengthAnswer, answerIn, answer}
-use Rattle.format.specs.Calls.Reply.{reply}
-use Rattle.format.specs.Calls.Buffers.{workCleared, workAfter}
+use Rattle.format.specs.Calls.Reply.{onZero, reply}
+use Rattle.format.specs.Calls.Buffers.{workCleared, handedOut, outAfter, workAfter}
 use Rattle.theory.proofs.Refusals.{RefusedLow, resolve-low, resolve-stream-low}
 use Rattle.tables.specs.Work.{Wrote}
 use Rattle.frame.proofs.Accepted.{accepted-kept}
@@ -85,6 +85,10 @@ module _ (g : Geometry) (img : Bytes) (c : Call) (h : verdict g img (length (wor
   pub reply-in : reply g img c ≡ replyIn g (volume g img) c
   unfolding reply replyIn
   reply-in = rw answer-in
+
+  pub out-in : outAfter g img c ≡ onZero (answerIn g (volume g img) c) (handedOut (volume g img) img c) (outOf c)
+  unfolding outAfter
+  out-in = rw answer-in
 
   pub work-in : {w₁ w₂ : List ℕ} → Wrote (workOf c) w₁ 0 (workNeed (length img)) → w₂ ≡ workCleared (workNeed (length img)) w₁ → w₂ ≡ workAfter g img c
   work-in r e =

@@ -2,6 +2,7 @@
 use Prim.Native.Nat.{ℕ, _<_}
 use mathlib.Core.Path.{_≡_}
 use mathlib.Core.List.{List}
+use lib.ListN.{length}
 use Rattle.format.specs.Basics.Bytes.{Bytes}
 use Rattle.format.specs.Layout.Geometry.{Geometry}
 use Rattle.format.specs.Layout.Entry.{kind, size}
@@ -9,8 +10,10 @@ use Rattle.format.specs.Layout.Volume.{Volume, volume}
 use Rattle.format.specs.Calls.Paths.{Path}
 use Rattle.format.specs.Calls.Find.{refused, resolve, answerOf, entryOf}
 use Rattle.format.specs.Calls.Call.{Call}
-use Rattle.format.specs.Calls.Answer.{answerIn}
-use Rattle.format.specs.Calls.Reply.{Reply, plain, onZero, foundReply, done}
+use Rattle.format.specs.Layout.Stream.{streamSize, contents}
+use Rattle.format.specs.Calls.Read.{readCount, readBytes, over}
+use Rattle.format.specs.Calls.Answer.{firstOf, target, targetAnswer, beyond, answerIn}
+use Rattle.format.specs.Calls.Reply.{Reply, plain, counted, onZero, foundReply, done}
 use Rattle.kinds.specs.Sizes.{geometryOf}
 use Rattle.kinds.specs.Numbers.{numberOf}
 use Rattle.theory.specs.TreeFind.{reached}
@@ -39,3 +42,13 @@ FindRight v path (Entry e) =
     (reached (v .directory) (e .id .0) ≡ resolve (v .directory) path)
     × ((e .id .0 < v .directory .count) × ((e .kind ≡ kind (v .directory .entry (e .id .0))) × (e .size ≡ size (v .directory .entry (e .id .0)))))
 FindRight v path (Refused a) = refused (numberOf a) ≡ resolve (v .directory) path
+
+-- of a read: the answer, the reply, and the out buffer
+unfoldable pub readAnswer : Volume → Path → ℕ → ℕ
+readAnswer v path offset = firstOf (targetAnswer v path) (beyond (streamSize v (target v path)) offset)
+
+unfoldable pub readIn : Volume → Path → ℕ → ℕ → Reply
+readIn v path offset room = onZero (readAnswer v path offset) (counted (readCount (streamSize v (target v path)) offset room)) (plain (readAnswer v path offset))
+
+unfoldable pub readOut : Volume → Bytes → Path → ℕ → Bytes → Bytes
+readOut v img path offset out = onZero (readAnswer v path offset) (over (readBytes (contents v img (target v path)) offset (length out)) out) out

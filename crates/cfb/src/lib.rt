@@ -4,20 +4,23 @@ ghost use Rattle.format.specs.Layout.Geometry.{version3};
 ghost use Prim.Native.Nat.{_≤_, _<_};
 ghost use lib.ListN.{length};
 ghost use Rattle.format.specs.Rules.Length.{workNeed};
-ghost use Rattle.format.specs.Calls.Call.{validate as validateCall, find as findCall};
+ghost use Rattle.format.specs.Calls.Call.{validate as validateCall, find as findCall, read as readCall};
 ghost use Rattle.format.specs.Calls.Reply.{plain, reply};
-ghost use Rattle.format.specs.Calls.Buffers.{workCleared, workAfter};
+ghost use Rattle.format.specs.Calls.Buffers.{workCleared, outAfter, workAfter};
 ghost use Rattle.kinds.specs.Numbers.{numberOf};
-ghost use Rattle.cfb.specs.Replies.{findReply};
+ghost use Rattle.cfb.specs.Replies.{findReply, readReply};
 use finding::Find;
 use finding::find_in;
 use kinds::Answer;
 use le::zero_first;
+use reads::Read;
+use reads::read_in;
 use tables::work_need;
 use volume::Opened;
 use volume::open_volume;
 
 pub mod finding;
+pub mod reads;
 
 // Leaves the work buffer as a call does.
 fn clear(image: &[u8], work: &mut [u32])
@@ -51,6 +54,22 @@ pub fn find(image: &[u8], work: &mut [u32], path: &[u16]) -> Find
         Opened::Refused(a) => Find::Refused(a),
         Opened::Ready(v) => {
             let r = find_in(path, image, work, v);
+            clear(image, work);
+            r
+        }
+    }
+}
+
+// Bytes of the stream that a path leads to, from an offset on: as many as are left of it and as the out buffer holds.
+pub fn read(image: &[u8], work: &mut [u32], path: &[u16], offset: u64, out: &mut [u8]) -> Read
+    ensures { λ r. ⌜ readReply r ≡ reply version3 (now (image .entry)) (readCall (now (path .entry)) offset (now (out .entry)) (now (work .entry))) ⌝ }
+    ensures { λ _. ⌜ now (out .exit) ≡ outAfter version3 (now (image .entry)) (readCall (now (path .entry)) offset (now (out .entry)) (now (work .entry))) ⌝ }
+    ensures { λ _. ⌜ now (work .exit) ≡ workAfter version3 (now (image .entry)) (readCall (now (path .entry)) offset (now (out .entry)) (now (work .entry))) ⌝ }
+{
+    match open_volume(image, work) {
+        Opened::Refused(a) => Read::Refused(a),
+        Opened::Ready(v) => {
+            let r = read_in(path, image, work, v, offset, out);
             clear(image, work);
             r
         }
