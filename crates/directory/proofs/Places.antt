@@ -3,6 +3,7 @@ use Prim.Native.Nat.{ℕ, _+_, _*_, _/_, _%_, _≤_, _<_}
 use mathlib.Core.Path.{_≡_, sym, _∙_, ap}
 use mathlib.Core.Bool.{Bool, true}
 use mathlib.Core.List.{List}
+use mathlib.Core.Logic.{inr}
 use native.Mathlib.Nat.{mod-lt, mul-le-mul-right}
 use native.Mathlib.Omega.{arith}
 use lib.ListN.{length}
@@ -17,6 +18,7 @@ use Rattle.kinds.specs.Sizes.{geometryOf}
 use Rattle.theory.proofs.Tests.{below-at}
 use Rattle.theory.proofs.Scale.{scale-div, scale-mod, scale-below}
 use Rattle.tables.specs.Sized.{ImageSized}
+use Rattle.tables.specs.Work.{Wrote}
 use Rattle.tables.proofs.Places.{sector-inside}
 use Rattle.entries.specs.Entry.{entryAt, NamedAt}
 use Rattle.entries.proofs.NameLaws.{name-fits}
@@ -101,3 +103,16 @@ module _ {d : Where} {img : Bytes} {work : List ℕ} (l : Listed d img work) whe
 pub ruled : (e : Directory) → entryRules e ≡ true → Ruled e
 unfolding entryRules entryRight
 ruled e h = record { names = λ x p l. record { inside = l; named = name-fits x (e .entry x) (omega arith) (below-at (e .count) (entryRight e) h x l) } }
+
+-- the directory's list stays where only what stands before it changes
+pub directory-kept : {d : Where} {img : Bytes} {w w′ : List ℕ} {at m : ℕ} → Listed d img w → Wrote w w′ at m → at + m ≤ d .list → Listed d img w′
+directory-kept l r k =
+    record {
+      sized = l .sized;
+      count = l .count;
+      some = l .some;
+      few = l .few;
+      room = omega (arith, l .room, r .long);
+      here = λ j h. r .outside _ (inr (omega (arith, k))) ∙ l .here j h;
+      below = l .below;
+    }

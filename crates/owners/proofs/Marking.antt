@@ -1,39 +1,21 @@
 -- The loop over all entries that marks the chain of each, in any space.
 use Prim.Native.Nat.{ℕ, _+_, _≤_, _<_}
 use mathlib.Core.Path.{_≡_, refl, sym, _∙_}
-use mathlib.Core.Logic.{inr}
 use mathlib.Core.Bool.{Bool, true, false}
 use mathlib.Core.List.{List, [], _++_}
 use native.Mathlib.Numerals.{add-one}
 use native.Mathlib.Omega.{arith}
 use borrow.Author.Tests.{not-true, not-false}
-use Rattle.format.specs.Basics.Bytes.{Bytes}
 use Rattle.format.specs.Basics.Lists.{allBelow, joinBelow}
 use Rattle.format.specs.Layout.Space.{Space}
 use Rattle.theory.specs.Marks.{marks, Closed}
 use Rattle.theory.proofs.Loops.{below-none, below-more, below-not}
 use Rattle.theory.proofs.Tests.{clash}
-use Rattle.tables.specs.Work.{Wrote}
 use Rattle.tables.proofs.WorkLaws.{wrote-two}
 use Rattle.chains.specs.Answers.{isBroken, andThen, ChainsMarked}
 use Rattle.chains.specs.declared.Marked.{Marked}
 use Rattle.chains.specs.declared.Marked.the-variants.{Broken, Fresh}
 use Rattle.chains.proofs.Owners.{marked-none, marked-both}
-use Rattle.directory.specs.Listed.{Listed}
-use Rattle.directory.specs.declared.Directory.{Directory as Where}
-
--- the directory's list stays where only what stands before it changes
-pub directory-kept : {d : Where} {img : Bytes} {w w′ : List ℕ} {at m : ℕ} → Listed d img w → Wrote w w′ at m → at + m ≤ d .list → Listed d img w′
-directory-kept l r k =
-    record {
-      sized = l .sized;
-      count = l .count;
-      some = l .some;
-      few = l .few;
-      room = omega (arith, l .room, r .long);
-      here = λ j h. r .outside _ (inr (omega (arith, k))) ∙ l .here j h;
-      below = l .below;
-    }
 
 join-none : (f : ℕ → List ℕ) → joinBelow 0 f ≡ []
 unfolding joinBelow

@@ -9,7 +9,7 @@ use Rattle.tables.proofs.WorkLaws.{listed-kept}
 use Rattle.directory.specs.declared.Directory.{Directory}
 use Rattle.minis.specs.declared.Minis.{Minis}
 use Rattle.minis.proofs.ListLaws.{listed-kept as minis-kept}
-use Rattle.owners.proofs.Marking.{directory-kept}
+use Rattle.directory.proofs.Places.{directory-kept}
 use Rattle.volume.specs.Passed.{MiniRoom, ListsStand}
 
 module _ {t : Tables} {d : Directory} {img : Bytes} {w w′ : List ℕ} {at k : ℕ} (r : Wrote w w′ at k) where

@@ -27,7 +27,7 @@ use Rattle.directory.specs.declared.Directory.{Directory}
 use Rattle.minis.specs.Listed.{minisAt, Listed as MiniListed}
 use Rattle.minis.specs.declared.Minis.{Minis}
 use Rattle.owners.specs.Streams.{systemChains}
-use Rattle.owners.proofs.Marking.{directory-kept}
+use Rattle.directory.proofs.Places.{directory-kept}
 use Rattle.volume.specs.Passed.{TablesHold, Cleared, MiniRoom, SystemMarked, TableRight, miniCellRules}
 use Rattle.volume.specs.declared.mini_stage.MiniTable.{MiniTable}
 use Rattle.volume.specs.declared.mini_stage.MiniTable.the-variants.{Wrong, Right}

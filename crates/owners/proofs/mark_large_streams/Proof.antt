@@ -11,9 +11,9 @@ use Rattle.theory.specs.Marks.{marks, Closed}
 use Rattle.tables.specs.Listed.{Listed as FatListed}
 use Rattle.tables.proofs.WorkLaws.{listed-kept}
 use Rattle.directory.specs.Listed.{entriesOf, Listed as DirectoryListed}
-use Rattle.directory.proofs.Places.{countable, count-is, count-few}
+use Rattle.directory.proofs.Places.{countable, count-is, count-few, directory-kept}
 use Rattle.owners.specs.Streams.{largeRight}
-use Rattle.owners.proofs.Marking.{Marking, directory-kept, marking-start, marking-step, marking-broken, marking-end}
+use Rattle.owners.proofs.Marking.{Marking, marking-start, marking-step, marking-broken, marking-end}
 use Rattle.owners.proofs.mark_large_streams.Statement.{statement}
 use Rattle.owners.proofs.mark_large_streams.Tie as tie
 

@@ -6,11 +6,11 @@ use Rattle.format.specs.Layout.Volume.{volume, miniSpace}
 use Rattle.format.specs.Rules.Owners.{ownMinis}
 use Rattle.kinds.specs.Sizes.{geometryOf}
 use Rattle.directory.specs.Listed.{entriesOf, Listed as DirectoryListed}
-use Rattle.directory.proofs.Places.{countable, count-is, count-few}
+use Rattle.directory.proofs.Places.{countable, count-is, count-few, directory-kept}
 use Rattle.minis.specs.Listed.{Listed as MiniListed}
 use Rattle.minis.proofs.ListLaws.{listed-kept}
 use Rattle.owners.specs.Streams.{smallRight}
-use Rattle.owners.proofs.Marking.{Marking, directory-kept, marking-start, marking-step, marking-broken, marking-end}
+use Rattle.owners.proofs.Marking.{Marking, marking-start, marking-step, marking-broken, marking-end}
 use Rattle.owners.proofs.mark_small_streams.Statement.{statement}
 use Rattle.owners.proofs.mark_small_streams.Tie as tie
 

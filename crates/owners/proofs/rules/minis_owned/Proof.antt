@@ -17,7 +17,7 @@ use Rattle.minis.specs.Listed.{Listed}
 use Rattle.minis.proofs.ListLaws.{listed-kept, units-in-work}
 use Rattle.owners.specs.Streams.{smallRight}
 use Rattle.owners.proofs.Groups.{minis-owned}
-use Rattle.owners.proofs.Marking.{directory-kept}
+use Rattle.directory.proofs.Places.{directory-kept}
 use Rattle.owners.proofs.Judged.{same-count, owning-cleared, says-broken, says-wrong, says-right}
 use Rattle.owners.proofs.rules.minis_owned.Statement.{statement}
 use Rattle.owners.proofs.rules.minis_owned.Tie as tie

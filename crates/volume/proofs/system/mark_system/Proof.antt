@@ -11,7 +11,7 @@ use Rattle.kinds.specs.Sizes.{geometryOf}
 use Rattle.tables.specs.Listed.{Listed}
 use Rattle.tables.proofs.WorkLaws.{wrote-two, listed-kept}
 use Rattle.chains.proofs.Owners.{marked-both, marked-broken, is-wrong, is-right}
-use Rattle.owners.proofs.Marking.{directory-kept}
+use Rattle.directory.proofs.Places.{directory-kept}
 use Rattle.volume.proofs.system.mark_system.Statement.{statement}
 use Rattle.volume.proofs.system.mark_system.Tie as tie
 

@@ -1,0 +1,10 @@
+-- Laws for the listing.
+pub mod LineLengths
+pub mod LineWrites
+pub mod Prints
+pub mod Stack
+pub mod Turns
+pub mod Walked
+pub mod Walks
+pub mod Measures
+pub mod Writes

@@ -1,0 +1,166 @@
+-- The walk that writes the listing.
+use Prim.Native.Nat.{ℕ, _+_, _-_, _*_, _≤_, _<_}
+use mathlib.Core.Path.{_≡_, refl, ap, sym, _∙_}
+use mathlib.Core.List.{List, [], _∷_, _++_, append-assoc, append-nil}
+use native.Mathlib.Omega.{arith}
+use lib.ListN.{length, getD, set, take, drop, length-append}
+use lib.Seq.{take-length, drop-drop, take-append-seam, drop-append-seam}
+use Rattle.format.specs.Basics.Bytes.{Bytes}
+use Rattle.format.specs.Layout.Entry.{name}
+use Rattle.format.specs.Layout.Directory.{Directory}
+use Rattle.format.specs.Layout.Tree.{forest, entries}
+use Rattle.format.specs.Calls.Read.{over}
+use Rattle.format.specs.Calls.Text.{newline, decimal, printName}
+use Rattle.format.specs.Calls.Listing.{line, lines, firstLine, listing}
+use Rattle.theory.specs.TreeViews.{whole}
+use Rattle.text.proofs.Over.{over-length, over-sets}
+use Rattle.tables.specs.Work.{Wrote}
+use Rattle.entries.specs.Entry.{entryAt}
+use Rattle.directory.specs.Listed.{countOf, entriesOf, placeOf}
+use Rattle.directory.specs.declared.Directory.{Directory as Where}
+use Rattle.listing.specs.Lines.{head, before, lineLength, firstWord}
+use Rattle.listing.specs.Walks.{pairs, turned}
+use Rattle.listing.proofs.LineLengths.{line-parts, length-line}
+use Rattle.listing.proofs.LineWrites.{Placed, placed-behind, placed-length}
+use Rattle.listing.proofs.Prints.{before-front}
+use Rattle.listing.proofs.Walked.{pathOf}
+use Rattle.listing.proofs.Measures.{listing-length}
+use Rattle.listing.proofs.Walks.{Walks, walks-end, walks-room, walks-line, walks-entry, walks-parent, walks-more, path}
+
+-- ---- the first line
+
+pub word-written : (out : Bytes) → 8 ≤ length out
+    → set (set (set (set (set (set (set (set out 0 0x6F) 1 0x62) 2 0x6A) 3 0x65) 4 0x63) 5 0x74) 6 0x73) 7 0x20 ≡ over firstWord out
+word-written out h = over-sets firstWord out h
+
+pub first-placed : (out : Bytes) {now : Bytes} → 8 ≤ length out → now ≡ over firstWord out → Placed out firstWord now 8
+first-placed out h q = record { bytes = q; count = refl; room = h }
+
+pub first-parts : (n : ℕ) → (firstWord ++ decimal n) ++ (newline ∷ []) ≡ firstLine n
+unfolding firstLine
+first-parts n = refl
+
+-- ---- the loop
+
+-- the path of the last line stands at `from`
+pub record Writing (d : Where) (img : Bytes) (objects : ℕ) (out₀ : Bytes) (w₀ w : List ℕ) (n : ℕ) (out : Bytes) (at from : ℕ) : Type 0 where
+  pub count : ℕ
+  pub text : Bytes
+  pub done : Bytes
+  pub walks : Walks d img w₀ w n count text done
+  pub placed : Placed out₀ (firstLine objects ++ done) out at
+  pub here : take (length text) (drop from out) ≡ text
+  pub behind : from + length text ≤ at
+
+-- what is written twice
+over-twice : (a b out : Bytes) → over (a ++ b) (over a out) ≡ over (a ++ b) out
+unfolding over
+over-twice a b out =
+    rw (length-append a b, ← drop-drop (length b) (length a) (a ++ drop (length a) out), drop-append-seam a (drop (length a) out), drop-drop (length b) (length a) out)
+
+pub writing-start : {d : Where} {img : Bytes} {objects : ℕ} (out₀ : Bytes) {out : Bytes} {w : List ℕ} {n at : ℕ} → Walks d img w w n 0 [] []
+    → at ≡ length (firstLine objects) → out ≡ over (firstLine objects) out₀ → length (firstLine objects) ≤ length out
+    → Writing d img objects out w w n out at 0
+writing-start {objects = objects} out₀ {out = out} s e q h =
+    let a = firstLine objects in
+    let z = append-nil a in
+    record {
+      count = 0;
+      text = [];
+      done = [];
+      walks = s;
+      placed = record {
+        bytes = q ∙ ap (λ (b : Bytes). over b out₀) (sym z) ∙ sym (over-twice a [] out₀) ∙ ap (over (a ++ [])) (sym q);
+        count = rw z e;
+        room = omega (arith, e);
+      };
+      here = refl;
+      behind = omega arith;
+    }
+
+-- there is room for the first line, which leaves the buffer as long as it was
+module _ (e : Directory) (out : Bytes) {objects : ℕ} (o : objects ≡ length (entries (forest e))) (room : length (listing e) ≤ length out) where
+  pub first-room : length (firstLine objects) ≤ length out
+  unfolding forest
+  first-room = rw o (omega (arith, room, listing-length e))
+
+  pub room-kept : {out′ : Bytes} → out′ ≡ over (firstLine objects) out → length (listing e) ≤ length out′
+  room-kept q = rw (q, over-length (firstLine objects) out first-room) room
+
+-- a path in its line, behind what was written before
+path-here : (a e t rest : Bytes) → take (length t) (drop (length a + length (head e)) ((a ++ line e t) ++ rest)) ≡ t
+path-here a e t rest =
+    let f = a ++ head e in
+    let b = (newline ∷ []) ++ rest in
+    let s : (a ++ line e t) ++ rest ≡ f ++ (t ++ b) = rw (line-parts e t) (simp append-assoc) in
+    let l : length a + length (head e) ≡ length f = sym (length-append a (head e)) in
+    rw (s, l, drop-append-seam f (t ++ b)) (take-append-seam t b)
+
+module _ {d : Where} {img : Bytes} {objects : ℕ} {out₀ : Bytes} {w₀ w : List ℕ} {n : ℕ} {out : Bytes} {at from : ℕ}
+    (m : Writing d img objects out₀ w₀ w n out at from)
+    (o : objects ≡ length (entries (forest (entriesOf d img)))) (room : length (listing (entriesOf d img)) ≤ length out₀) where
+  abbrev e : Directory
+  e = entriesOf d img
+
+  whole-is : listing e ≡ firstLine objects ++ lines e [] (whole e)
+  unfolding listing forest
+  whole-is = rw o
+
+  -- the end, where the first line was written over `out₁`
+  pub writing-end : n ≤ 0 → (out₁ : Bytes) → out₀ ≡ over (firstLine objects) out₁ → out ≡ over (listing e) out₁
+  writing-end h out₁ q = m .placed .bytes ∙ rw (walks-end (m .walks) h .0, whole-is, q) (over-twice (firstLine objects) (lines e [] (whole e)) out₁)
+
+  -- a turn writes the line of the entry at byte i
+  module _ (h : 0 < n) (i : ℕ) (q : i ≡ placeOf d w (getD w (2 * (n - 1)) 0)) where
+    abbrev x : ℕ
+    x = getD w (2 * (n - 1)) 0
+
+    abbrev p : ℕ
+    p = getD w (2 * (n - 1) + 1) 0
+
+    pub line-behind : from + p ≤ at
+    line-behind = omega (arith, m .behind, walks-parent (m .walks) h)
+
+    all-room : at + length (line (e .entry x) (path (m .walks) h)) ≤ length out₀
+    all-room =
+        omega (arith, room, ap length whole-is, length-append (firstLine objects) (lines e [] (whole e)), length-append (firstLine objects) (m .done), m .placed .count, walks-room (m .walks) h)
+
+    pub line-fits : at + lineLength (entryAt img i) p ≤ length out
+    line-fits = omega (arith, all-room, walks-line (m .walks) h i q, placed-length (m .placed))
+
+    -- the parent's path is read from the last line's
+    text-here : before p (drop from out) ++ printName (name (entryAt img i)) ≡ path (m .walks) h
+    unfolding pathOf
+    text-here =
+        rw (walks-entry (m .walks) h i q, before-front p (length (m .text)) (drop from out) (m .text) (walks-parent (m .walks) h) (m .here ∙ sym (take-length (m .text))))
+
+    module _ {out′ : Bytes} {from′ : ℕ} (ef : from′ ≡ at + length (head (entryAt img i)))
+        (eo : out′ ≡ take at out ++ (line (entryAt img i) (before p (drop from out) ++ printName (name (entryAt img i))) ++ drop (at + lineLength (entryAt img i) p) out))
+        {k : ℕ} (ek : k ≡ lineLength (entryAt img i) p) where
+      abbrev l : Bytes
+      l = line (e .entry x) (path (m .walks) h)
+
+      kl : k ≡ length l
+      kl = ek ∙ walks-line (m .walks) h i q
+
+      line-placed : Placed out₀ ((firstLine objects ++ m .done) ++ l) out′ (at + k)
+      line-placed =
+          placed-behind (m .placed) l all-room kl
+          (eo ∙ rw (text-here, ← ek, walks-entry (m .walks) h i q))
+
+      pub writing-more : {w′ : List ℕ} (n′ : ℕ) → pairs w′ n′ ≡ turned e x p (pairs w (n - 1)) → Wrote w w′ 0 (2 * countOf d)
+          → Writing d img objects out₀ w₀ w′ n′ out′ (at + k) from′
+      unfolding over
+      writing-more n′ s r =
+          let v = walks-more (m .walks) h n′ s r in
+          let a = firstLine objects ++ m .done in
+          let f : from′ ≡ length a + length (head (e .entry x)) = rw (← m .placed .count, ← walks-entry (m .walks) h i q) ef in
+          record {
+            count = _;
+            text = path (m .walks) h;
+            done = m .done ++ l;
+            walks = v;
+            placed = rw (← append-assoc (firstLine objects) (m .done) l) line-placed;
+            here = rw (line-placed .bytes, f) (path-here a (e .entry x) (path (m .walks) h) (drop (length (a ++ l)) out₀));
+            behind = omega (arith, f, kl, m .placed .count, length-line (e .entry x) (path (m .walks) h));
+          }

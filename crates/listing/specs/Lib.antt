@@ -1,0 +1,3 @@
+-- What the functions on the listing leave, beside `format`.
+pub mod Lines
+pub mod Walks
