@@ -52,6 +52,11 @@ unit-most u = go (plain u)
     go true = omega arith
     go false = omega arith
 
+pub name-most : (n : Name) → length (printName n) ≤ 5 * length n
+unfolding printName
+name-most [] = omega arith
+name-most (u ∷ us) = omega (arith, length-append (printUnit u) (printName us), unit-most u, name-most us)
+
 -- ---- a unit, written
 
 pub plain-byte : (u : ℕ) → plain u ≡ true → u ≤ 0x7E
