@@ -19,7 +19,7 @@ use Rattle.format.specs.Rules.Streams.{streamChain, streamRight, streamRules}
 use Rattle.theory.proofs.Tests.{below-at}
 use Rattle.kinds.specs.Sizes.{geometryOf}
 use Rattle.reading.specs.Streams.{streamBytes}
-use Rattle.reading.proofs.Spaces.{sectors-stand, minis-stand}
+use Rattle.spaces.proofs.Stands.{sectors-stand, minis-stand}
 use Rattle.reading.proofs.StreamBytes.{stream-length}
 use Rattle.volume.specs.declared.Volume.{Volume as Opened}
 use Rattle.cfb.specs.Inside.{Open}

@@ -1,0 +1,4 @@
+-- Laws for units of either kind.
+pub mod Walks
+pub mod Places
+pub mod Stands
