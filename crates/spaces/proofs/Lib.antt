@@ -2,3 +2,4 @@
 pub mod Walks
 pub mod Places
 pub mod Stands
+pub mod Listed
