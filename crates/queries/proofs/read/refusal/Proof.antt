@@ -1,8 +1,8 @@
 use borrow.Author.Needs.{needs}
 use mathlib.Core.Path.{sym, ap}
-use Rattle.cfb.specs.Replies.{refusalOf}
-use Rattle.cfb.proofs.reads.refusal.Statement.{statement}
-use Rattle.cfb.proofs.reads.refusal.Tie as tie
+use Rattle.queries.specs.Replies.{refusalOf}
+use Rattle.queries.proofs.read.refusal.Statement.{statement}
+use Rattle.queries.proofs.read.refusal.Tie as tie
 
 pub refusal-spec : {M : Type 1} → statement M
 refusal-spec =

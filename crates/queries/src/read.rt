@@ -1,18 +1,20 @@
-// Reads on an opened volume: the bytes of the stream that a path leads to, from a place on.
+// Reads: the bytes of the stream that a path leads to, from a place on.
 ghost use mathlib.Core.Path.{_≡_};
 ghost use mathlib.Core.Bool.{true};
+ghost use mathlib.Core.List.{[]};
 ghost use Prim.Native.Nat.{_+_, _≤_, _<_, min};
 ghost use lib.ListN.{length};
 ghost use Rattle.format.specs.Basics.Bytes.{part};
 ghost use Rattle.format.specs.Layout.Entry.{isStream, size as sizeOf};
 ghost use Rattle.format.specs.Layout.Volume.{volume as volumeOf};
 ghost use Rattle.format.specs.Layout.Stream.{contents};
+ghost use Rattle.format.specs.Calls.Call.{read as readCall};
 ghost use Rattle.kinds.specs.Sizes.{geometryOf};
-ghost use Rattle.cfb.specs.Inside.{Open, readIn, readOut};
-ghost use Rattle.cfb.specs.Replies.{refusalOf, readReply};
-use super::finding::Find;
-use super::finding::Object;
-use super::finding::find_in;
+ghost use Rattle.queries.specs.Inside.{Open, replyIn, outIn};
+ghost use Rattle.queries.specs.Replies.{refusalOf, readReply};
+use super::find::Find;
+use super::find::Object;
+use super::find::find_in;
 use directory::place;
 use entries::start;
 use kinds::Answer;
@@ -76,8 +78,8 @@ pub fn read_in(
     out: &mut [u8],
 ) -> Read
     requires { ⌜ Open v (now img) (now work) ⌝ }
-    ensures { λ r. ⌜ readReply r ≡ readIn (volumeOf (geometryOf (v .tables .geometry)) (now (img .entry))) (now (path .entry)) offset (length (now (out .entry))) ⌝ }
-    ensures { λ _. ⌜ now (out .exit) ≡ readOut (volumeOf (geometryOf (v .tables .geometry)) (now (img .entry))) (now (img .entry)) (now (path .entry)) offset (now (out .entry)) ⌝ }
+    ensures { λ r. ⌜ readReply r ≡ replyIn (geometryOf (v .tables .geometry)) (volumeOf (geometryOf (v .tables .geometry)) (now (img .entry))) (readCall (now (path .entry)) offset (now (out .entry)) []) ⌝ }
+    ensures { λ _. ⌜ now (out .exit) ≡ outIn (geometryOf (v .tables .geometry)) (volumeOf (geometryOf (v .tables .geometry)) (now (img .entry))) (now (img .entry)) (readCall (now (path .entry)) offset (now (out .entry)) []) ⌝ }
 {
     let f = find_in(path, img, work, v);
     let Find::Entry(e) = f else {

@@ -1,8 +1,8 @@
 use borrow.Author.Needs.{needs}
 use native.Mathlib.Omega.{arith}
 use Rattle.directory.proofs.Places.{placed, place-inside, entry-is}
-use Rattle.cfb.proofs.finding.object_at.Statement.{statement}
-use Rattle.cfb.proofs.finding.object_at.Tie as tie
+use Rattle.queries.proofs.find.object_at.Statement.{statement}
+use Rattle.queries.proofs.find.object_at.Tie as tie
 
 pub object-at-spec : {M : Type 1} → statement M
 object-at-spec =

@@ -22,7 +22,7 @@ use Rattle.reading.specs.Streams.{streamBytes}
 use Rattle.reading.proofs.Spaces.{sectors-stand, minis-stand}
 use Rattle.reading.proofs.StreamBytes.{stream-length}
 use Rattle.volume.specs.declared.Volume.{Volume as Opened}
-use Rattle.cfb.specs.Inside.{Open}
+use Rattle.queries.specs.Inside.{Open}
 
 module _ (g : Geometry) (img : Bytes) (x n s : ℕ) (e : n ≡ size (volume g img .directory .entry x)) (b : s ≡ start (volume g img .directory .entry x)) where
   contents-by : (sp : Space) → spaceFor (volume g img) n ≡ sp → streamBytes sp img n s ≡ contents (volume g img) img x

@@ -1,11 +1,11 @@
-// Finds on an opened volume: the entry that a path leads to, with its type and size.
+// Finds: the entry that a path leads to, with its type and size.
 ghost use mathlib.Core.Path.{_≡_};
 ghost use Prim.Native.Nat.{_<_};
 ghost use Rattle.format.specs.Layout.Entry.{kind as kindOf, size as sizeOf};
 ghost use Rattle.format.specs.Layout.Volume.{volume as volumeOf};
 ghost use Rattle.kinds.specs.Sizes.{geometryOf};
 ghost use Rattle.directory.specs.Listed.{entriesOf, Listed};
-ghost use Rattle.cfb.specs.Inside.{Open, FindRight};
+ghost use Rattle.queries.specs.Inside.{Open, FindRight};
 use directory::Directory;
 use directory::place;
 use entries::kind;

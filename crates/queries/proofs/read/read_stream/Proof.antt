@@ -10,10 +10,10 @@ use Rattle.kinds.specs.Sizes.{geometryOf}
 use Rattle.directory.specs.Listed.{entriesOf}
 use Rattle.directory.proofs.Places.{placed, place-inside}
 use Rattle.owners.proofs.StreamLaws.{entry-read}
-use Rattle.cfb.proofs.Finds.{same-entries, find-asks}
-use Rattle.cfb.proofs.StreamBytes.{small-bytes, small-chain, large-bytes, large-chain}
-use Rattle.cfb.proofs.reads.read_stream.Statement.{statement}
-use Rattle.cfb.proofs.reads.read_stream.Tie as tie
+use Rattle.queries.proofs.Finds.{same-entries, find-asks}
+use Rattle.queries.proofs.StreamBytes.{small-bytes, small-chain, large-bytes, large-chain}
+use Rattle.queries.proofs.read.read_stream.Statement.{statement}
+use Rattle.queries.proofs.read.read_stream.Tie as tie
 
 inside : (c : tie.After-d) → let p = c .before .before .before .before .args in p .e .id .0 < entriesOf (p .v .directory) (p .img .now) .count
 inside c = let p = c .before .before .before .before in subst (λ d. p .args .e .id .0 < d .count) (sym (same-entries (p .pre .0))) (p .pre .1 .0)
