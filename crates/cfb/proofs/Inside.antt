@@ -19,10 +19,10 @@ use Rattle.format.specs.Calls.Paths.{Path}
 use Rattle.format.specs.Calls.SetLength.{crosses, tooFew}
 use Rattle.format.specs.Calls.Listing.{listing}
 use Rattle.format.specs.Calls.Find.{Found, at, refused, answerOf, resolve, resolveStream}
-use Rattle.format.specs.Calls.Call.{Call, validate, find, read, overwrite, setLength, list, workOf, outOf}
+use Rattle.format.specs.Calls.Call.{Call, validate, find, read, overwrite, setLength, list, workOf}
 use Rattle.format.specs.Calls.Answer.{firstOf, target, targetAnswer, beyond, lengthAnswer, answerIn, answer}
-use Rattle.format.specs.Calls.Reply.{onZero, reply}
-use Rattle.format.specs.Calls.Buffers.{workCleared, handedOut, outAfter, workAfter}
+use Rattle.format.specs.Calls.Reply.{reply}
+use Rattle.format.specs.Calls.Buffers.{workCleared, outAfter, workAfter}
 use Rattle.theory.proofs.Refusals.{RefusedLow, resolve-low, resolve-stream-low}
 use Rattle.tables.specs.Work.{Wrote}
 use Rattle.frame.proofs.Accepted.{accepted-kept}
@@ -31,7 +31,7 @@ use Rattle.volume.specs.declared.Volume.{Volume as Place}
 use Rattle.volume.specs.declared.Opened.{Opened}
 use Rattle.volume.specs.declared.Opened.the-variants.{Refused, Ready}
 use Rattle.volume.proofs.Opening.{left-cleared}
-use Rattle.cfb.specs.Inside.{Open, replyIn}
+use Rattle.queries.specs.Inside.{Open, replyIn, outIn}
 use Rattle.cfb.proofs.Calls.{left-is, ready-is}
 
 -- ---- answers after validation
@@ -86,8 +86,8 @@ module _ (g : Geometry) (img : Bytes) (c : Call) (h : verdict g img (length (wor
   unfolding reply replyIn
   reply-in = rw answer-in
 
-  pub out-in : outAfter g img c ≡ onZero (answerIn g (volume g img) c) (handedOut (volume g img) img c) (outOf c)
-  unfolding outAfter
+  pub out-in : outAfter g img c ≡ outIn g (volume g img) img c
+  unfolding outAfter outIn
   out-in = rw answer-in
 
   pub work-in : {w₁ w₂ : List ℕ} → Wrote (workOf c) w₁ 0 (workNeed (length img)) → w₂ ≡ workCleared (workNeed (length img)) w₁ → w₂ ≡ workAfter g img c
@@ -111,4 +111,5 @@ accepted-any g img n h = go (lengthAllowed g (length img)) (leb (workNeed (lengt
 pub ready-open : (g : Geometry) (img : Bytes) (w w₁ : List ℕ) (r : Opened) (o : OpenedRight g img w w₁ r) {v : Place} → r ≡ Ready v → Open v img w₁
 ready-open g img w w₁ r o {v} e =
     let x = ready-is g img w w₁ r o e in
-    record { ready = x .1 .1 .0; groups = rw (x .1 .0) (accepted-kept g img (accepted-any g img (length w) (x .0)) .volume) }
+    let a = accepted-kept g img (accepted-any g img (length w) (x .0)) in
+    record { ready = x .1 .1 .0; groups = rw (x .1 .0) a }

@@ -4,23 +4,22 @@ ghost use Rattle.format.specs.Layout.Geometry.{version3};
 ghost use Prim.Native.Nat.{_≤_, _<_};
 ghost use lib.ListN.{length};
 ghost use Rattle.format.specs.Rules.Length.{workNeed};
-ghost use Rattle.format.specs.Calls.Call.{validate as validateCall, find as findCall, read as readCall};
+ghost use Rattle.format.specs.Calls.Call.{validate as validateCall, find as findCall, read as readCall, list as listCall};
 ghost use Rattle.format.specs.Calls.Reply.{plain, reply};
 ghost use Rattle.format.specs.Calls.Buffers.{workCleared, outAfter, workAfter};
 ghost use Rattle.kinds.specs.Numbers.{numberOf};
-ghost use Rattle.cfb.specs.Replies.{findReply, readReply};
-use finding::Find;
-use finding::find_in;
+ghost use Rattle.queries.specs.Replies.{findReply, readReply, listReply};
 use kinds::Answer;
 use le::zero_first;
-use reads::Read;
-use reads::read_in;
+use queries::find::Find;
+use queries::find::find_in;
+use queries::list::List;
+use queries::list::list_in;
+use queries::read::Read;
+use queries::read::read_in;
 use tables::work_need;
 use volume::Opened;
 use volume::open_volume;
-
-pub mod finding;
-pub mod reads;
 
 // Leaves the work buffer as a call does.
 fn clear(image: &[u8], work: &mut [u32])
@@ -70,6 +69,22 @@ pub fn read(image: &[u8], work: &mut [u32], path: &[u16], offset: u64, out: &mut
         Opened::Refused(a) => Read::Refused(a),
         Opened::Ready(v) => {
             let r = read_in(path, image, work, v, offset, out);
+            clear(image, work);
+            r
+        }
+    }
+}
+
+// A line for each object, in an out buffer that has room for all of them.
+pub fn list(image: &[u8], work: &mut [u32], out: &mut [u8]) -> List
+    ensures { λ r. ⌜ listReply r ≡ reply version3 (now (image .entry)) (listCall (now (out .entry)) (now (work .entry))) ⌝ }
+    ensures { λ _. ⌜ now (out .exit) ≡ outAfter version3 (now (image .entry)) (listCall (now (out .entry)) (now (work .entry))) ⌝ }
+    ensures { λ _. ⌜ now (work .exit) ≡ workAfter version3 (now (image .entry)) (listCall (now (out .entry)) (now (work .entry))) ⌝ }
+{
+    match open_volume(image, work) {
+        Opened::Refused(a) => List::Refused(a),
+        Opened::Ready(v) => {
+            let r = list_in(image, work, v, out);
             clear(image, work);
             r
         }

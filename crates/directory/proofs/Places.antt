@@ -4,13 +4,13 @@ use mathlib.Core.Path.{_≡_, sym, _∙_, ap}
 use mathlib.Core.Bool.{Bool, true}
 use mathlib.Core.List.{List}
 use mathlib.Core.Logic.{inr}
-use native.Mathlib.Nat.{mod-lt, mul-le-mul-right}
+use native.Mathlib.Nat.{mod-lt, mul-le-mul-left, mul-le-mul-right, mul-comm, mul-assoc, add-mul}
 use native.Mathlib.Omega.{arith}
 use lib.ListN.{length}
 use borrow.Author.Tests.{lt-ltb}
 use Rattle.format.specs.Basics.Bytes.{Bytes, part}
 use Rattle.format.specs.Basics.Lists.{allBelow}
-use Rattle.format.specs.Layout.Geometry.{Geometry, placeIn, entriesIn, entryBytes}
+use Rattle.format.specs.Layout.Geometry.{Geometry, sectorCount, placeIn, entriesIn, entryBytes}
 use Rattle.format.specs.Layout.Directory.{Directory, entryPlace, entryCount, entryIn, directoryOf}
 use Rattle.format.specs.Layout.Volume.{directorySectorsOf, directory}
 use Rattle.format.specs.Rules.Entries.{entryRight, entryRules, entryFields}
@@ -36,6 +36,15 @@ module _ {g : Geometry} {img : Bytes} (z : ImageSized g img) where
   pub per-few : entriesIn g ≤ 32
   per-few = omega (arith, per-bytes, z .narrow)
 
+  -- four entries for each 512 bytes, and one sector of slack
+  pub entries-few : (n : ℕ) → n ≤ sectorCount g img → entriesIn g * n ≤ 4 * (length img / 512)
+  entries-few n b =
+      let c : 128 * (entriesIn g * n) ≡ g .sectorBytes * n = sym (mul-assoc 128 (entriesIn g) n) ∙ ap (λ w. w * n) per-bytes in
+      let d = mul-le-mul-left (g .sectorBytes) b in
+      let e = mul-comm (g .sectorBytes) (sectorCount g img) in
+      let f = z .long ∙ add-mul (sectorCount g img) 1 (g .sectorBytes) in
+      omega (arith, c, d, e, f, z .wide)
+
 -- how many entries a sector holds, where only the list is known
 module _ {d : Where} {work : List ℕ} {x : ℕ} (p : Placed d work x) where
   pub placed-some : 4 ≤ entriesIn (geometryOf (d .geometry))
@@ -56,6 +65,9 @@ module _ {d : Where} {img : Bytes} {work : List ℕ} (l : Listed d img work) whe
 
   pub count-few : countOf d < 0x2000_0000
   count-few = omega (arith, mul-le-mul-right (d .sectors) (per-few (l .sized)), l .few, l .sized .few)
+
+  pub count-most : countOf d ≤ 4 * (length img / 512)
+  count-most = entries-few (l .sized) (d .sectors) (l .few)
 
   -- what `count` asks
   pub countable : (d .geometry .bytes ≤ 4096) × (d .sectors < 0x1_0000_0000)
@@ -78,7 +90,7 @@ module _ {d : Where} {img : Bytes} {work : List ℕ} (l : Listed d img work) whe
         let m : x % entriesIn g < entriesIn g = mod-lt x (omega arith) in
         rw (l .here _ inside) (omega (arith, sector-inside (l .sized) _ (l .below _ inside), per-bytes (l .sized), m))
 
-    place-is : entryPlace g (directorySectorsOf g img) x ≡ placeOf d work x
+    pub place-is : entryPlace g (directorySectorsOf g img) x ≡ placeOf d work x
     unfolding entryPlace placeIn entryBytes
     place-is = rw (scale-div 128 (entriesIn g) (per-bytes (l .sized)) (omega arith) x, scale-mod 128 (entriesIn g) (per-bytes (l .sized)) (omega arith) x, l .here _ inside)
 

@@ -4,7 +4,6 @@ use mathlib.Core.Path.{_≡_, sym, _∙_, ap}
 use mathlib.Core.Logic.{_≢_, _⊎_, inl, inr, ⊎-elim}
 use mathlib.Core.Bool.{true, _&&_, Bool·beq}
 use mathlib.Core.List.{List, [], _∷_, _++_}
-use native.Mathlib.Nat.{mul-le-mul-left, mul-comm, mul-assoc, add-mul}
 use native.Mathlib.Decide.{decLt}
 use native.Mathlib.Omega.{arith}
 use lib.Dec.{eqb}
@@ -27,7 +26,7 @@ use Rattle.theory.proofs.Loops.{distinct-once}
 use Rattle.theory.proofs.Tests.{both, below-at, all-at, beq-equal}
 use Rattle.tables.specs.Sized.{ImageSized, F, D}
 use Rattle.tables.specs.Listed.{listPlace}
-use Rattle.directory.proofs.Places.{per-bytes}
+use Rattle.directory.proofs.Places.{entries-few}
 use Rattle.directory.proofs.Sectors.{directory-linked}
 
 -- ---- the cells of a chain
@@ -127,17 +126,6 @@ module _ (g : Geometry) (img : Bytes) where
       pub tables-apart : F img + D img + length (directorySectorsOf g img) ≤ sectorCount g img
       tables-apart = omega (arith, pigeonhole (tables ++ directorySectorsOf g img) (sectorCount g img) below once, length-append tables (directorySectorsOf g img), tables-long)
 
-      -- four entries for each 512 bytes, and one sector of slack
-      entries-few : entriesIn g * n ≤ 4 * (length img / 512)
-      entries-few =
-          let a = tables-apart in
-          let b : n ≤ sectorCount g img = omega arith in
-          let c : 128 * (entriesIn g * n) ≡ g .sectorBytes * n = sym (mul-assoc 128 (entriesIn g) n) ∙ ap (λ w. w * n) (per-bytes z) in
-          let d = mul-le-mul-left (g .sectorBytes) b in
-          let e = mul-comm (g .sectorBytes) (sectorCount g img) in
-          let f = z .long ∙ add-mul (sectorCount g img) 1 (g .sectorBytes) in
-          omega (arith, c, d, e, f, z .wide)
-
       -- the directory's list, three numbers for each entry, and one more
       pub walk-room : length (directorySectorsOf g img) + 3 * (entriesIn g * length (directorySectorsOf g img)) + 1 ≤ listPlace img
-      walk-room = omega (arith, entries-few, tables-apart, z .many)
+      walk-room = let a = tables-apart in omega (arith, entries-few z n (omega arith), a, z .many)

@@ -1,3 +1,1 @@
--- Laws for the functions that look into the trees.
-pub mod Descents
-pub mod Listings
+-- The search for a name needs no laws of its own: those of `theory` are enough.

@@ -1,3 +1,2 @@
--- What the functions that look into the trees require and ensure, beside `format`.
+-- What the function that looks into the trees requires and ensures, beside `format`.
 pub mod Children
-pub mod Listing

@@ -1,0 +1,82 @@
+-- The steps of a read, by what the find found.
+use Prim.Native.Nat.{ℕ, _-_, _≤_, _<_, min}
+use mathlib.Core.Path.{_≡_, sym, _∙_, ap, subst}
+use mathlib.Core.Logic.{_≢_}
+use mathlib.Core.Bool.{true, false}
+use mathlib.Core.List.{[], _++_}
+use native.Mathlib.Omega.{arith}
+use lib.ListN.{length, drop}
+use borrow.Author.Tests.{eq-eqb, ne-eqb}
+use Rattle.format.specs.Basics.Bytes.{Bytes, part}
+use Rattle.format.specs.Layout.Geometry.{Geometry}
+use Rattle.format.specs.Layout.Entry.{isStream, kind, size}
+use Rattle.format.specs.Layout.Volume.{Volume}
+use Rattle.format.specs.Layout.Stream.{streamSize, contents}
+use Rattle.format.specs.Calls.Paths.{Path}
+use Rattle.format.specs.Calls.Read.{readCount, readBytes, over}
+use Rattle.format.specs.Calls.Call.{Call, read}
+use Rattle.format.specs.Calls.Answer.{target, targetAnswer, answerIn}
+use Rattle.format.specs.Calls.Reply.{plain, counted}
+use Rattle.kinds.specs.Numbers.{numberOf}
+use Rattle.kinds.specs.declared.Answer.{Answer}
+use Rattle.queries.specs.Inside.{FindRight, replyIn, outIn}
+use Rattle.queries.specs.Replies.{refusalOf}
+use Rattle.queries.specs.declared.find.Object.{Object}
+use Rattle.queries.specs.declared.find.Find.{Find}
+use Rattle.queries.specs.declared.find.Find.the-variants.{Entry, Refused}
+use Rattle.queries.proofs.Finds.{refused-late}
+use Rattle.queries.proofs.ReadAnswers.{target-none, target-some, target-refused, answer-refused, answer-beyond, answer-done, read-refused, read-done, out-done}
+
+module _ (g : Geometry) (v : Volume) (img : Bytes) (path : Path) (offset : ℕ) (out : Bytes) where
+  abbrev call : Call
+  call = read path offset out []
+
+  -- no entry
+  pub read-stopped : (f : Find) {a n : Answer} → FindRight v path f → f ≡ Refused a → n ≡ refusalOf f → (plain (numberOf n) ≡ replyIn g v call) × (out ≡ outIn g v img call)
+  read-stopped f {a} {n} h e k =
+      let r : FindRight v path (Refused a) = subst (λ u. FindRight v path u) e h in
+      let l = refused-late v path (numberOf a) r in
+      let z : n ≡ a = k ∙ ap refusalOf e in
+      rw z (read-refused v path g offset out img (numberOf a) (answer-refused v path g offset out (numberOf a) (target-refused v path (numberOf a) r) (omega arith)) (omega arith))
+
+  module _ (e : Object) (h : FindRight v path (Entry e)) where
+    -- a storage, or the root
+    pub read-not-stream : e .kind ≢ 2 → (plain 23 ≡ replyIn g v call) × (out ≡ outIn g v img call)
+    read-not-stream k =
+        let s : isStream (v .directory .entry (e .id .0)) ≡ false = ne-eqb (kind (v .directory .entry (e .id .0))) 2 (λ z. k (h .1 .1 .0 ∙ z)) in
+        read-refused v path g offset out img 23 (answer-refused v path g offset out 23 (target-none v path (e .id .0) (h .0) s) (omega arith)) (omega arith)
+
+    module _ (k : e .kind ≡ 2) where
+      pub is-stream : isStream (v .directory .entry (e .id .0)) ≡ true
+      is-stream = eq-eqb (kind (v .directory .entry (e .id .0))) 2 (sym (h .1 .1 .0) ∙ k)
+
+      there : (targetAnswer v path ≡ 0) × (target v path ≡ e .id .0)
+      there = target-some v path (e .id .0) (h .0) is-stream
+
+      size-is : streamSize v (target v path) ≡ e .size
+      unfolding streamSize
+      size-is = ap (λ x. size (v .directory .entry x)) (there .1) ∙ sym (h .1 .1 .1)
+
+      pub read-beyond : e .size < offset → (plain 24 ≡ replyIn g v call) × (out ≡ outIn g v img call)
+      read-beyond l = read-refused v path g offset out img 24 (answer-beyond v path g offset out (there .0) (omega (arith, size-is))) (omega arith)
+
+      module _ (l : offset ≤ e .size) (n : ℕ) (m : n ≡ min (e .size - offset) (length out)) where
+        done : answerIn g v call ≡ 0
+        done = answer-done v path g offset out (there .0) (omega (arith, size-is))
+
+        count-is : n ≡ readCount (streamSize v (target v path)) offset (length out)
+        unfolding readCount
+        count-is = rw size-is m
+
+        pub read-count : counted n ≡ replyIn g v call
+        read-count = read-done v path g offset out n done count-is
+
+        bytes-are : length (contents v img (e .id .0)) ≡ e .size → part (contents v img (e .id .0)) offset n ≡ readBytes (contents v img (target v path)) offset (length out)
+        unfolding readBytes readCount
+        bytes-are c = rw (there .1, c) (ap (part (contents v img (e .id .0)) offset) m)
+
+        pub read-whole : (new : Bytes) → length (contents v img (e .id .0)) ≡ e .size → length new ≡ n → new ≡ part (contents v img (e .id .0)) offset n → new ++ drop n out ≡ outIn g v img call
+        unfolding over
+        read-whole new c q p =
+            let y : new ≡ readBytes (contents v img (target v path)) offset (length out) = p ∙ bytes-are c in
+            subst (λ i. new ++ drop i out ≡ outIn g v img call) q (out-done v path g offset out img new done y)

@@ -1,0 +1,66 @@
+// Finds: the entry that a path leads to, with its type and size.
+ghost use mathlib.Core.Path.{_≡_};
+ghost use Prim.Native.Nat.{_<_};
+ghost use Rattle.format.specs.Layout.Entry.{kind as kindOf, size as sizeOf};
+ghost use Rattle.format.specs.Layout.Volume.{volume as volumeOf};
+ghost use Rattle.kinds.specs.Sizes.{geometryOf};
+ghost use Rattle.directory.specs.Listed.{entriesOf, Listed};
+ghost use Rattle.queries.specs.Replies.{refusalOf};
+ghost use Rattle.queries.specs.Inside.{Open, FindRight};
+use directory::Directory;
+use directory::place;
+use entries::kind;
+use entries::size;
+use kinds::Answer;
+use kinds::EntryId;
+use paths::Found;
+use paths::find_entry;
+use volume::Volume;
+
+// An entry: its number, its type and its size.
+pub struct Object {
+    pub id: EntryId,
+    pub kind: u8,
+    pub size: u64,
+}
+
+pub enum Find {
+    Entry(Object),
+    Refused(Answer),
+}
+
+// The entry of a number.
+fn object_at(img: &[u8], work: &[u32], d: Directory, x: EntryId) -> Object
+    requires { ⌜ Listed d (now img) (now work) ⌝ }
+    requires { ⌜ x .0 < entriesOf d (now img) .count ⌝ }
+    ensures { λ r. ⌜ r ≡ record { id = x; kind = kindOf (entriesOf d (now (img .entry)) .entry (x .0)); size = sizeOf (entriesOf d (now (img .entry)) .entry (x .0)) } ⌝ }
+{
+    let p = place(work, d, x);
+    Object {
+        id: x,
+        kind: kind(img, p),
+        size: size(img, p),
+    }
+}
+
+// The entry that a path leads to, or the refusal.
+pub fn find_in(path: &[u16], img: &[u8], work: &[u32], v: Volume) -> Find
+    requires { ⌜ Open v (now img) (now work) ⌝ }
+    ensures { λ r. ⌜ FindRight (volumeOf (geometryOf (v .tables .geometry)) (now (img .entry))) (now (path .entry)) r ⌝ }
+{
+    let d = v.directory;
+    match find_entry(path, img, work, d) {
+        Found::At(x) => Find::Entry(object_at(img, work, d, x)),
+        Found::Refused(a) => Find::Refused(a),
+    }
+}
+
+// The answer of a find that found no entry.
+pub fn refusal(f: Find) -> Answer
+    ensures { λ r. ⌜ r ≡ refusalOf f ⌝ }
+{
+    match f {
+        Find::Entry(_) => Answer::Done,
+        Find::Refused(a) => a,
+    }
+}
