@@ -1,11 +1,11 @@
-//! harness SEED [COUNT]            all cases, COUNT of them random
-//! harness SEED only KIND NUMBER   one case again: KIND is fixed, small or large
+//! harness SEED [IMAGES [CALLS]]   all cases: so many random images to validate, so many random calls
+//! harness SEED only KIND NUMBER   one case again: KIND is fixed, small, large, calls or deep
 
-use cfb_tests::cases::{Case, fixed, large, small::Cases};
+use cfb_tests::cases::{Case, calls::Calls, deep, fixed, large, small::Cases};
 use cfb_tests::compare::Tally;
 
 const LARGE_IMAGES: u64 = 12;
-/// So many random cases use every break.
+/// So many random cases use every break, and get every answer.
 const ENOUGH: u64 = 100_000;
 
 fn main() {
@@ -16,17 +16,17 @@ fn main() {
     let tally = if only {
         one(seed, words.get(2).map_or("", String::as_str), number(3).expect("the case's number"))
     } else {
-        all(seed, number(1).unwrap_or(300_000))
+        all(seed, number(1).unwrap_or(300_000), number(2).unwrap_or(100_000))
     };
     println!("{} passed, {} failed", tally.passed, tally.failed);
     std::process::exit((tally.failed > 0) as i32);
 }
 
-fn all(seed: u64, count: u64) -> Tally {
+fn all(seed: u64, images: u64, calls: u64) -> Tally {
     let mut tally = Tally::new();
     let mut cases = Cases::new(seed);
     each_fixed(&mut |number, case| tally.run(&format!("fixed {number}"), &case));
-    for number in 0..count {
+    for number in 0..images {
         let case = cases.case(number);
         tally.run(&format!("seed {seed} small {number}"), &case);
     }
@@ -34,7 +34,13 @@ fn all(seed: u64, count: u64) -> Tally {
     for image in 0..LARGE_IMAGES {
         large::run(&mut cases, seed, image, &mut large_ran);
     }
-    report(&mut tally, &cases, count);
+    let mut random_calls = Calls::new(seed);
+    for number in 0..calls {
+        let case = random_calls.case(number);
+        tally.run(&format!("seed {seed} calls {number}"), &case);
+    }
+    deep::run(seed, &mut |number, case| tally.run(&format!("seed {seed} deep {number}"), &case));
+    report(&mut tally, &cases, images, calls);
     tally
 }
 
@@ -44,32 +50,34 @@ fn each_fixed(then: &mut dyn FnMut(u64, Case)) {
     }
 }
 
-/// How often each answer came; in a long run a rule that was never broken counts as a failure.
-fn report(tally: &mut Tally, cases: &Cases, count: u64) {
-    for (answer, times) in &tally.answers {
-        println!("answer {answer}: {times} images");
-    }
-    let unused = if count >= ENOUGH { cases.unused() } else { Vec::new() };
+/// In a long run a rule that was never broken and an answer that never came count as failures.
+fn report(tally: &mut Tally, cases: &Cases, images: u64, calls: u64) {
+    tally.report();
     println!("{} kinds of change, the rarest used {} times", cases.used.len(), cases.used.iter().min().unwrap_or(&0));
-    for rule in &unused {
-        println!("FAILED never used: {rule}");
+    if images >= ENOUGH {
+        for rule in cases.unused() {
+            tally.fail("never used", rule);
+        }
     }
-    tally.failed += unused.len() as u64;
+    if calls >= ENOUGH {
+        tally.ask_for_every_answer();
+    }
 }
 
 fn one(seed: u64, kind: &str, number: u64) -> Tally {
     let mut tally = Tally::new();
-    let mut cases = Cases::new(seed);
     let mut wanted = |made: u64, case: Case| {
         if made == number {
-            println!("{kind} {number}: {}, {} bytes, work {}", case.kind, case.image.len(), case.work_len);
+            println!("{kind} {number}: {}", case.description());
             tally.run(&format!("seed {seed} {kind} {number}"), &case);
         }
     };
     match kind {
         "fixed" => each_fixed(&mut wanted),
-        "large" => large::run(&mut cases, seed, number / 10, &mut wanted),
-        _ => wanted(number, cases.case(number)),
+        "large" => large::run(&mut Cases::new(seed), seed, number / 10, &mut wanted),
+        "calls" => wanted(number, Calls::new(seed).case(number)),
+        "deep" => deep::run(seed, &mut wanted),
+        _ => wanted(number, Cases::new(seed).case(number)),
     }
     tally
 }

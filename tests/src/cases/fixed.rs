@@ -59,5 +59,5 @@ fn broken_with_short_work(cases: &mut Vec<Case>, mut image: Vec<u8>) {
 }
 
 fn case(kind: &str, image: &[u8], work_len: usize, expected: u32) -> Case {
-    Case { kind: kind.into(), image: image.to_vec(), work_len, expected: Some(expected) }
+    Case::new(kind, image.to_vec(), work_len, Some(expected))
 }

@@ -1,0 +1,50 @@
+//! The bytes of a stream, and where they lie in the image.
+
+use crate::number::*;
+use crate::volume::Volume;
+use std::ops::Range;
+
+pub struct Stream {
+    pub size: u64,
+    /// The bytes of a unit: 64 below the cutoff, else 512.
+    pub unit: u64,
+    /// The byte place of each unit of the chain.
+    pub places: Vec<usize>,
+}
+
+impl Stream {
+    pub fn of(volume: &Volume, entry: usize) -> Stream {
+        let entry = volume.directory.entry(entry);
+        let (start, size) = (entry.start(), entry.size());
+        if size < CUTOFF {
+            let places = volume.mini.chains.units(start).map(|m| mini_sector_place(volume, m)).collect();
+            Stream { size, unit: MINI_SECTOR, places }
+        } else {
+            let places = volume.sectors.units(start).map(sector_place).collect();
+            Stream { size, unit: SECTOR as u64, places }
+        }
+    }
+
+    /// The places in the image of the chain's bytes from here to there, piece by piece.
+    pub fn pieces(&self, from: u64, to: u64) -> impl Iterator<Item = Range<usize>> + '_ {
+        self.places.iter().enumerate().filter_map(move |(i, &place)| {
+            let first = i as u64 * self.unit;
+            let (low, high) = (from.max(first), to.min(first + self.unit));
+            (low < high).then(|| place + (low - first) as usize..place + (high - first) as usize)
+        })
+    }
+
+    /// The stream's bytes from here to there.
+    pub fn bytes(&self, image: &[u8], from: u64, to: u64) -> Vec<u8> {
+        self.pieces(from, to).flat_map(|piece| &image[piece]).copied().collect()
+    }
+}
+
+pub fn sector_place(s: u32) -> usize {
+    (s as usize + 1) * SECTOR
+}
+
+/// Eight mini sectors lie in each sector of the mini stream.
+pub fn mini_sector_place(volume: &Volume, m: u32) -> usize {
+    sector_place(volume.mini.stream[m as usize / 8]) + m as usize % 8 * MINI_SECTOR as usize
+}
