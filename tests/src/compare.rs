@@ -1,8 +1,11 @@
 //! Runs cases and counts what passes.
 
-use crate::calls::{ANSWERS, perform};
+use crate::calls::{ANSWERS, Outcome, perform};
 use crate::cases::Case;
+use crate::effects;
+use crate::model::Model;
 use std::collections::BTreeMap;
+use std::rc::Rc;
 
 #[derive(Default)]
 pub struct Tally {
@@ -19,17 +22,21 @@ impl Tally {
         Tally { trace: std::env::var_os("CFB_TRACE").is_some(), ..Tally::default() }
     }
 
-    /// Runs one case; `name` says how to run it again.
-    pub fn run(&mut self, name: &str, case: &Case) {
+    /// Runs one case; `name` says how to run it again. What the call leaves behind, if nothing is wrong.
+    pub fn run(&mut self, name: &str, case: &Case) -> Option<After> {
         if self.trace {
             eprintln!("{name}: {}, {}", case.call.name(), case.kind);
         }
         match check(case) {
-            Ok(answer) => {
+            Ok((answer, after)) => {
                 self.passed += 1;
                 *self.answers.entry((case.call.name(), answer)).or_default() += 1;
+                Some(after)
             }
-            Err(fault) => self.fail(name, &format!("{fault}; {}", case.description())),
+            Err(fault) => {
+                self.fail(name, &format!("{fault}; {}", case.description()));
+                None
+            }
         }
     }
 
@@ -40,8 +47,13 @@ impl Tally {
         }
     }
 
-    /// How often each answer came.
+    /// How often each answer came, and what was not asked of the library.
     pub fn report(&self) {
+        if cfg!(not(feature = "library")) {
+            println!("not compared with the library: every call");
+        } else if cfg!(not(feature = "edits")) {
+            println!("not compared with the library: overwrite, set_len");
+        }
         for (call, _) in ANSWERS {
             let of_call = self.answers.iter().filter(|((name, _), _)| name == call);
             let counts: Vec<String> = of_call.map(|((_, answer), times)| format!("{answer}: {times}")).collect();
@@ -61,29 +73,38 @@ impl Tally {
     }
 }
 
+/// The image and its rows after a call.
+pub struct After {
+    pub image: Vec<u8>,
+    pub model: Option<Rc<Model>>,
+}
+
 /// The answer, or what is wrong: the papers, the rows and the library must all agree with the independent calls.
-fn check(case: &Case) -> Result<u32, String> {
+fn check(case: &Case) -> Result<(u32, After), String> {
     let mut image = case.image.clone();
     let outcome = perform(&case.call, &mut image, case.work_len);
     let answer = outcome.answer;
     if let Some(expected) = case.expected.filter(|&expected| expected != answer) {
         return Err(format!("independent {answer}, by the papers {expected}"));
     }
-    if let Some(rows) = &case.model {
-        let mut model = rows.as_ref().clone();
-        let by_rows = model.perform(&case.call, case.work_len);
-        if by_rows != outcome {
-            return Err(format!(
-                "independent {answer} {:?}, by the rows {} {:?}",
-                outcome.values, by_rows.answer, by_rows.values
-            ));
-        }
-        model.holds_of(&image)?;
-    }
+    let model = case.model.as_ref().map(|rows| by_rows(rows, case, &outcome, &image)).transpose()?;
     #[cfg(feature = "library")]
     {
         let mut noise = crate::random::Random::of(case.image.len() as u64, case.work_len as u64);
         crate::library::check(&case.call, &case.image, case.work_len, &outcome, &image, &mut noise)?;
     }
-    Ok(answer)
+    Ok((answer, After { image, model }))
+}
+
+/// The rows after the call, which must give the same outcome and be what the image holds.
+fn by_rows(rows: &Model, case: &Case, outcome: &Outcome, image: &[u8]) -> Result<Rc<Model>, String> {
+    let mut model = rows.clone();
+    let due = model.perform(&case.call, case.work_len);
+    if due != *outcome {
+        let (answer, values) = (outcome.answer, outcome.values);
+        return Err(format!("independent {answer} {values:?}, by the rows {} {:?}", due.answer, due.values));
+    }
+    model.holds_of(image)?;
+    effects::check(&case.call, outcome.answer, &case.image, image)?;
+    Ok(Rc::new(model))
 }

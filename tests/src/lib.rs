@@ -6,6 +6,7 @@ pub mod calls;
 pub mod cases;
 pub mod compare;
 pub mod draw;
+pub mod effects;
 pub mod images;
 pub mod model;
 pub mod number;

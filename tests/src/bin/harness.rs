@@ -1,7 +1,7 @@
-//! harness SEED [IMAGES [CALLS]]   all cases: so many random images to validate, so many random calls
-//! harness SEED only KIND NUMBER   one case again: KIND is fixed, small, large, calls or deep
+//! harness SEED [IMAGES [CALLS [LISTS]]]   all cases: random images to validate, random calls, random lists of calls
+//! harness SEED only KIND NUMBER           one case again: KIND is fixed, small, large, calls, deep or lists
 
-use cfb_tests::cases::{Case, calls::Calls, deep, fixed, large, small::Cases};
+use cfb_tests::cases::{Case, calls::Calls, deep, fixed, large, lists, small::Cases};
 use cfb_tests::compare::Tally;
 
 const LARGE_IMAGES: u64 = 12;
@@ -16,21 +16,21 @@ fn main() {
     let tally = if only {
         one(seed, words.get(2).map_or("", String::as_str), number(3).expect("the case's number"))
     } else {
-        all(seed, number(1).unwrap_or(300_000), number(2).unwrap_or(100_000))
+        all(seed, number(1).unwrap_or(300_000), number(2).unwrap_or(100_000), number(3).unwrap_or(10_000))
     };
     println!("{} passed, {} failed", tally.passed, tally.failed);
     std::process::exit((tally.failed > 0) as i32);
 }
 
-fn all(seed: u64, images: u64, calls: u64) -> Tally {
+fn all(seed: u64, images: u64, calls: u64, list_count: u64) -> Tally {
     let mut tally = Tally::new();
     let mut cases = Cases::new(seed);
-    each_fixed(&mut |number, case| tally.run(&format!("fixed {number}"), &case));
+    each_fixed(&mut |number, case| drop(tally.run(&format!("fixed {number}"), &case)));
     for number in 0..images {
         let case = cases.case(number);
         tally.run(&format!("seed {seed} small {number}"), &case);
     }
-    let mut large_ran = |number, case: Case| tally.run(&format!("seed {seed} large {number}"), &case);
+    let mut large_ran = |number, case: Case| drop(tally.run(&format!("seed {seed} large {number}"), &case));
     for image in 0..LARGE_IMAGES {
         large::run(&mut cases, seed, image, &mut large_ran);
     }
@@ -39,7 +39,10 @@ fn all(seed: u64, images: u64, calls: u64) -> Tally {
         let case = random_calls.case(number);
         tally.run(&format!("seed {seed} calls {number}"), &case);
     }
-    deep::run(seed, &mut |number, case| tally.run(&format!("seed {seed} deep {number}"), &case));
+    deep::run(seed, &mut |number, case| drop(tally.run(&format!("seed {seed} deep {number}"), &case)));
+    for number in 0..list_count {
+        lists::run(seed, number, false, &mut tally);
+    }
     report(&mut tally, &cases, images, calls);
     tally
 }
@@ -66,6 +69,10 @@ fn report(tally: &mut Tally, cases: &Cases, images: u64, calls: u64) {
 
 fn one(seed: u64, kind: &str, number: u64) -> Tally {
     let mut tally = Tally::new();
+    if kind == "lists" {
+        lists::run(seed, number, true, &mut tally);
+        return tally;
+    }
     let mut wanted = |made: u64, case: Case| {
         if made == number {
             println!("{kind} {number}: {}", case.description());

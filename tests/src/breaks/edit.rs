@@ -2,7 +2,6 @@
 
 use crate::images::Sample;
 use crate::images::layout::Node;
-use crate::images::places::sector_place;
 use crate::images::write::is_large;
 use crate::number::*;
 use crate::random::Random;

@@ -7,20 +7,26 @@ use std::ops::Range;
 pub struct Stream {
     pub size: u64,
     /// The bytes of a unit: 64 below the cutoff, else 512.
-    pub unit: u64,
+    unit: u64,
     /// The byte place of each unit of the chain.
-    pub places: Vec<usize>,
+    places: Vec<usize>,
 }
 
 impl Stream {
     pub fn of(volume: &Volume, entry: usize) -> Stream {
         let entry = volume.directory.entry(entry);
-        let (start, size) = (entry.start(), entry.size());
+        let chains = if entry.size() < CUTOFF { &volume.mini.chains } else { &volume.sectors };
+        let chain: Vec<u32> = chains.units(entry.start()).collect();
+        Stream::of_chain(volume, entry.size(), &chain)
+    }
+
+    /// A stream of this size in these units.
+    pub fn of_chain(volume: &Volume, size: u64, chain: &[u32]) -> Stream {
         if size < CUTOFF {
-            let places = volume.mini.chains.units(start).map(|m| mini_sector_place(volume, m)).collect();
+            let places = chain.iter().map(|&m| mini_sector_place(volume, m)).collect();
             Stream { size, unit: MINI_SECTOR, places }
         } else {
-            let places = volume.sectors.units(start).map(sector_place).collect();
+            let places = chain.iter().map(|&s| sector_place(s)).collect();
             Stream { size, unit: SECTOR as u64, places }
         }
     }
@@ -40,11 +46,7 @@ impl Stream {
     }
 }
 
-pub fn sector_place(s: u32) -> usize {
-    (s as usize + 1) * SECTOR
-}
-
 /// Eight mini sectors lie in each sector of the mini stream.
-pub fn mini_sector_place(volume: &Volume, m: u32) -> usize {
+fn mini_sector_place(volume: &Volume, m: u32) -> usize {
     sector_place(volume.mini.stream[m as usize / 8]) + m as usize % 8 * MINI_SECTOR as usize
 }

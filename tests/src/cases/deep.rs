@@ -1,12 +1,13 @@
 //! Large images: storages each inside the one before, whose listing is longer than any buffer; and many streams.
 
 use super::Case;
-use super::large::{MOST_OBJECTS, many_streams, nested};
+use super::large::{MOST, MOST_OBJECTS, many_streams, nested};
 use crate::calls::{Call, list};
 use crate::draw;
-use crate::images::Sample;
-use crate::images::plan::Fill;
-use crate::model::Model;
+use crate::images::plan::{Fill, Order, Plan};
+use crate::images::{Sample, names};
+use crate::model::{Model, room::need};
+use crate::number::SECTOR;
 use crate::random::Random;
 use crate::volume::{Volume, work_needed};
 use std::rc::Rc;
@@ -28,6 +29,7 @@ pub fn run(seed: u64, then: &mut dyn FnMut(u64, Case)) {
     for (count, sizes) in [(5_000, [1, 64, 65, 200, 0]), (40, [130_000, 4096, 513, 200_001, 4095])] {
         streams(count, &sizes, &mut r).into_iter().for_each(&mut next);
     }
+    fills(&mut r).into_iter().for_each(&mut next);
 }
 
 fn on(image: &[u8], call: Call, expected: u32) -> Case {
@@ -59,8 +61,7 @@ fn lists(image: &[u8]) -> Vec<Case> {
 }
 
 fn streams(count: usize, sizes: &[u32], r: &mut Random) -> Vec<Case> {
-    let mut plan = many_streams(count, sizes);
-    plan.fill = Fill::Noise;
+    let plan = Plan { fill: Fill::Noise, ..many_streams(count, sizes) };
     let sample = Sample::build(&plan, r);
     let model = Rc::new(Model::of(&sample));
     let case = |_| {
@@ -69,4 +70,22 @@ fn streams(count: usize, sizes: &[u32], r: &mut Random) -> Vec<Case> {
         Case { call, model: Some(model.clone()), ..case }
     };
     (0..20).map(case).collect()
+}
+
+/// A stream grown to all free sectors of the largest image, or one more, and cut.
+fn fills(r: &mut Random) -> Vec<Case> {
+    let path = names::of("log");
+    let mut cases = Vec::new();
+    for size in [0, 4_096, 8_000_000] {
+        let mut plan = Plan { fill: Fill::Noise, sectors: Some(MOST), order: Order::Scattered, ..Plan::bare() };
+        plan.add(0, path.clone(), Some(size));
+        let sample = Sample::build(&plan, r);
+        let model = Rc::new(Model::of(&sample));
+        let most = (model.free().sectors + need(size as u64).sectors) * SECTOR as u64;
+        for (length, answer) in [(most, 0), (most + 1, 26), (most - 511, 0), (4_100, 0), (0, 0)] {
+            let case = on(&sample.image, Call::SetLength { path: path.clone(), length }, answer);
+            cases.push(Case { model: Some(model.clone()), ..case });
+        }
+    }
+    cases
 }

@@ -1,7 +1,7 @@
-//! Cases on each side of the lines that the papers draw for lengths.
+//! Cases on each side of the lines that the papers draw for lengths, and the papers' own.
 
-use super::Case;
 use super::large::MOST;
+use super::{Case, papers};
 use crate::images::Sample;
 use crate::images::plan::Plan;
 use crate::number::SECTOR;
@@ -23,6 +23,7 @@ pub fn cases() -> Vec<Case> {
         works(&mut cases, image);
     }
     broken_with_short_work(&mut cases, smallest);
+    cases.extend(papers::cases());
     cases
 }
 

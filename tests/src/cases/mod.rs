@@ -4,7 +4,9 @@ pub mod calls;
 pub mod deep;
 pub mod fixed;
 pub mod large;
+pub mod lists;
 pub mod mutate;
+pub mod papers;
 pub mod small;
 
 use crate::calls::Call;

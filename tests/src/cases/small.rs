@@ -85,7 +85,7 @@ impl Cases {
 }
 
 /// Mostly exactly enough, often more, sometimes too few.
-fn work_len(needed: usize, r: &mut Random) -> usize {
+pub fn work_len(needed: usize, r: &mut Random) -> usize {
     match r.below(40) {
         0 => 0,
         1 => needed.saturating_sub(1),

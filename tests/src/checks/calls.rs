@@ -1,19 +1,13 @@
-//! The papers' values for find, read and list.
+//! The papers' values for find, read, list and the edits.
 
 use crate::calls::{Call, Outcome, perform};
+use crate::cases::papers::{self, site};
+use crate::compare::Tally;
 use crate::images::{Sample, names, plan::*};
 use crate::model::Model;
+use crate::number::sector_place;
 use crate::random::Random;
 use crate::volume::work_needed;
-
-/// A storage Site with streams log (5,000 bytes) and Jets (70).
-fn site() -> Sample {
-    let mut plan = Plan { fill: Fill::Noise, spare_minis: 3, ..Plan::bare() };
-    let site = plan.add(0, names::of("Site"), None);
-    plan.add(site, names::of("log"), Some(5_000));
-    plan.add(site, names::of("Jets"), Some(70));
-    Sample::build(&plan, &mut Random::of(0, 0))
-}
 
 /// What the independent call and the rows both give.
 fn on(sample: &Sample, call: Call) -> Outcome {
@@ -71,4 +65,33 @@ fn reads_of_the_papers() {
     assert_eq!(read("Site/Jets", u64::MAX, 4), (24, 0));
     assert_eq!(read("Site", 9, 4), (23, 0));
     assert_eq!(read("", 9, 4), (23, 0));
+}
+
+/// Calls, rows and properties agree on the papers' cases, and on the answers that the papers give.
+#[test]
+fn cases_of_the_papers() {
+    let mut tally = Tally::new();
+    for (number, case) in papers::cases().iter().enumerate() {
+        assert!(tally.run(&format!("case {number}"), case).is_some());
+    }
+}
+
+/// Growing wipes what a cut left behind, up to the end of the chain; cutting changes no data byte.
+#[test]
+fn stale_bytes_are_wiped_by_growth_alone() {
+    let mut image = site().image;
+    let mut set_length = |length| {
+        let call = Call::SetLength { path: names::of("Site/Jets"), length };
+        let work_len = work_needed(image.len());
+        assert_eq!(perform(&call, &mut image, work_len).answer, 0);
+        image.clone()
+    };
+    let cut = set_length(3);
+    let first = site();
+    let place = |m: u32| sector_place(first.layout.mini_stream[0]) + 64 * m as usize;
+    let units = &first.layout.nodes[3].units;
+    assert_eq!(cut[place(units[0])..][..64], first.image[place(units[0])..][..64]);
+    let grown = set_length(4);
+    assert_eq!(grown[place(units[0])..][..3], cut[place(units[0])..][..3]);
+    assert_eq!(grown[place(units[0])..][3..64], [0; 61]);
 }

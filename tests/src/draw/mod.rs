@@ -9,11 +9,13 @@ use crate::random::Random;
 
 /// A call on an image that holds these rows.
 pub fn call(model: &Model, r: &mut Random) -> Call {
-    match r.below(16) {
+    match r.below(32) {
         0 => Call::Validate,
-        1..6 => Call::Find { path: paths::path(model, r) },
-        6..13 => read(model, r),
-        _ => list(model, r),
+        1..5 => Call::Find { path: paths::path(model, r) },
+        5..10 => read(model, r),
+        10..13 => list(model, r),
+        13..20 => overwrite(model, r),
+        _ => set_length(model, r),
     }
 }
 
@@ -29,6 +31,21 @@ fn list(model: &Model, r: &mut Random) -> Call {
     let need = model.listing().len();
     let out = numbers::out_len(need as u64, r);
     Call::List { out: noise(out, r) }
+}
+
+fn overwrite(model: &Model, r: &mut Random) -> Call {
+    let path = paths::path(model, r);
+    let size = size(model, &path, r);
+    let offset = numbers::offset(size, r);
+    let count = numbers::write_len(size, offset, r);
+    Call::Overwrite { path, offset, bytes: noise(count, r) }
+}
+
+fn set_length(model: &Model, r: &mut Random) -> Call {
+    let path = paths::path(model, r);
+    let size = size(model, &path, r);
+    let length = numbers::length(size, model.free(), r);
+    Call::SetLength { path, length }
 }
 
 /// The length of the stream at this path, or any where there is none.

@@ -8,13 +8,13 @@ const SLASH: u16 = b'/' as u16;
 
 pub fn path(model: &Model, r: &mut Random) -> Vec<u16> {
     match r.below(32) {
-        0..13 => of(&stream(model, r)),
-        13..16 => of(&object(model, r)),
-        16..20 => recased(&of(&stream(model, r)), r),
-        20 => Vec::new(),
-        21..24 => absent(model, r),
-        24..26 => through_stream(model, r),
-        26 => changed(&of(&object(model, r)), r),
+        0..18 => of(&stream(model, r)),
+        18..20 => of(&object(model, r)),
+        20..24 => recased(&of(&stream(model, r)), r),
+        24 => Vec::new(),
+        25..27 => absent(model, r),
+        27 => through_stream(model, r),
+        28 => changed(&of(&object(model, r)), r),
         _ => badly_formed(model, r),
     }
 }

@@ -25,7 +25,7 @@ pub fn check(
     let mut image = Lent::new(image, random.index(16), || random.byte());
     let mut work = Lent::new(&first_work, 16, || random.word());
     let mut out = Lent::new(call.out(), random.index(16), || random.byte());
-    let (answer, values) = functions::call(&given, image.part(), work.part(), out.part());
+    let Some((answer, values)) = functions::call(&given, image.part(), work.part(), out.part()) else { return Ok(()) };
     if answer != expected.answer {
         return Err(format!("library {answer}, independent {}", expected.answer));
     }

@@ -1,9 +1,10 @@
 //! What the papers say of calls, worked out from the first image's layout and the calls alone: one row for each object,
 //! a stream's with its bytes. Nothing here looks at an image after the first.
 
+mod edits;
 mod holds;
 mod lines;
-mod room;
+pub mod room;
 
 use crate::calls::{Call, Outcome};
 use crate::images::Sample;
@@ -72,6 +73,8 @@ impl Model {
                 let text = self.listing();
                 if text.len() > out.len() { Err(27) } else { Ok([put(out, &text), 0, 0]) }
             }
+            Call::Overwrite { path, offset, bytes } => self.overwrite(path, *offset, bytes),
+            Call::SetLength { path, length } => self.set_length(path, *length),
         }
     }
 
