@@ -28,9 +28,9 @@ impl Tally {
             eprintln!("{name}: {}, {}", case.call.name(), case.kind);
         }
         match check(case) {
-            Ok((answer, after)) => {
+            Ok(after) => {
                 self.passed += 1;
-                *self.answers.entry((case.call.name(), answer)).or_default() += 1;
+                *self.answers.entry((case.call.name(), after.answer)).or_default() += 1;
                 Some(after)
             }
             Err(fault) => {
@@ -73,14 +73,15 @@ impl Tally {
     }
 }
 
-/// The image and its rows after a call.
+/// The answer of a call, the image and its rows after it.
 pub struct After {
+    pub answer: u32,
     pub image: Vec<u8>,
     pub model: Option<Rc<Model>>,
 }
 
-/// The answer, or what is wrong: the papers, the rows and the library must all agree with the independent calls.
-fn check(case: &Case) -> Result<(u32, After), String> {
+/// What the call leaves behind, or what is wrong: the papers, the rows and the library must all agree with the independent calls.
+fn check(case: &Case) -> Result<After, String> {
     let mut image = case.image.clone();
     let outcome = perform(&case.call, &mut image, case.work_len);
     let answer = outcome.answer;
@@ -93,7 +94,7 @@ fn check(case: &Case) -> Result<(u32, After), String> {
         let mut noise = crate::random::Random::of(case.image.len() as u64, case.work_len as u64);
         crate::library::check(&case.call, &case.image, case.work_len, &outcome, &image, &mut noise)?;
     }
-    Ok((answer, After { image, model }))
+    Ok(After { answer, image, model })
 }
 
 /// The rows after the call, which must give the same outcome and be what the image holds.

@@ -5,8 +5,10 @@ use cfb_tests::cases::{Case, calls::Calls, deep, fixed, large, lists, small::Cas
 use cfb_tests::compare::Tally;
 
 const LARGE_IMAGES: u64 = 12;
-/// So many random cases use every break, and get every answer.
+/// So many random images use every break.
 const ENOUGH: u64 = 100_000;
+/// So many random calls get every answer.
+const ENOUGH_CALLS: u64 = 20_000;
 
 fn main() {
     let words: Vec<String> = std::env::args().skip(1).collect();
@@ -62,7 +64,7 @@ fn report(tally: &mut Tally, cases: &Cases, images: u64, calls: u64) {
             tally.fail("never used", rule);
         }
     }
-    if calls >= ENOUGH {
+    if calls >= ENOUGH_CALLS {
         tally.ask_for_every_answer();
     }
 }

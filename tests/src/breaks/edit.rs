@@ -16,6 +16,12 @@ pub const CHILD: usize = 76;
 pub const START: usize = 116;
 pub const SIZE: usize = 120;
 
+/// A break that is one number at one place.
+pub fn put(s: &mut Sample, at: usize, value: u32) -> Option<()> {
+    s.put(at, value);
+    Some(())
+}
+
 /// One of these values that is not the right one.
 pub fn wrong(random: &mut Random, right: u32, values: &[u32]) -> u32 {
     let others: Vec<u32> = values.iter().copied().filter(|&value| value != right).collect();

@@ -13,7 +13,7 @@ use std::rc::Rc;
 /// The calls of a list.
 const CALLS: usize = 20;
 
-/// Runs one list, up to the first call that fails; `shown` names each call.
+/// Runs one list, up to the first call that fails; `shown` prints each call and its answer.
 pub fn run(seed: u64, number: u64, shown: bool, tally: &mut Tally) {
     let mut r = Random::of(seed.rotate_left(16), number);
     let plan = if r.one_in(5) { random_plan::plan(&mut r) } else { random_plan::scarce(&mut r) };
@@ -29,6 +29,9 @@ pub fn run(seed: u64, number: u64, shown: bool, tally: &mut Tally) {
             println!("{name}: {}", case.description());
         }
         let Some(after) = tally.run(&name, &case) else { return };
+        if shown {
+            println!("  answered {}", after.answer);
+        }
         image = after.image;
         model = after.model.expect("a case with rows leaves rows");
     }

@@ -1,6 +1,6 @@
 //! The papers' values for find, read, list and the edits.
 
-use crate::calls::{Call, Outcome, perform};
+use crate::calls::{ANSWERS, Call, Outcome, perform};
 use crate::cases::papers::{self, site};
 use crate::compare::Tally;
 use crate::images::{Sample, names, plan::*};
@@ -94,4 +94,15 @@ fn stale_bytes_are_wiped_by_growth_alone() {
     let grown = set_length(4);
     assert_eq!(grown[place(units[0])..][..3], cut[place(units[0])..][..3]);
     assert_eq!(grown[place(units[0])..][3..64], [0; 61]);
+}
+
+/// A run that had only the papers' cases lacks answers, and counts each as a failure.
+#[test]
+fn a_missing_answer_is_a_failure() {
+    let mut tally = Tally::new();
+    papers::cases().iter().for_each(|case| drop(tally.run("papers", case)));
+    tally.ask_for_every_answer();
+    let given = 2 + 2 + 3; // 0 and 27 of list, 0 and 24 of overwrite, 0, 25 and 26 of set_len
+    let all: usize = ANSWERS.iter().map(|(_, answers)| answers.len()).sum();
+    assert_eq!(tally.failed as usize, all - given);
 }
