@@ -45,7 +45,7 @@ module _ (sp : Space) (us : List ℕ) (offset : ℕ) (bytes img₀ : Bytes) wher
         -- the bytes that are left are this run and what follows it
         run : drop i bytes ≡ part bytes i r ++ drop (i + r) bytes
         unfolding part
-        run = sym (take-append-drop r (drop i bytes) ∙ refl) ∙ ap (λ t. take r (drop i bytes) ++ t) (drop-drop r i bytes)
+        run = sym (take-append-drop r (drop i bytes)) ∙ ap (λ t. take r (drop i bytes) ++ t) (drop-drop r i bytes)
 
         run-put : putChain sp us img (offset + i) (drop i bytes) ≡ putChain sp us (putBytes img (sp .unitPlace (getD us k 0) + o) (part bytes i r)) (offset + (i + r)) (drop (i + r) bytes)
         unfolding putBytes

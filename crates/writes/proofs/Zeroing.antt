@@ -2,7 +2,7 @@
 use Prim.Native.Nat.{ℕ, _+_, _-_, _*_, _/_, _%_, _≤_, _<_}
 use mathlib.Core.Path.{_≡_, refl, sym, _∙_, ap}
 use mathlib.Core.List.{List, _++_}
-use native.Mathlib.Nat.{div-add-mod', mod-lt, mul-le-mul-right, add-mul, one-mul}
+use native.Mathlib.Nat.{div-add-mod', mod-lt, mul-le-mul-right, add-mul}
 use native.Mathlib.Omega.{arith}
 use lib.ListN.{length, getD, take, drop, replicate, length-replicate, replicate-append-replicate}
 use lib.Seq.{sets, length-sets, getD-take, length-take-le}

@@ -2,7 +2,7 @@
 // Places come from the lists in the work buffer alone: no cell is read while cells change.
 ghost use mathlib.Core.Path.{_≡_};
 ghost use Prim.Native.Nat.{_+_, _-_, _*_, _≤_, _<_, min};
-ghost use lib.ListN.{length, getD, take, drop};
+ghost use lib.ListN.{length, take, drop};
 ghost use Rattle.format.specs.Basics.Bytes.{part, putBytes, put32, put64};
 ghost use Rattle.format.specs.Layout.Chain.{startOf};
 ghost use Rattle.format.specs.Layout.Entry.{startField, sizeField};

@@ -1,6 +1,5 @@
 use borrow.Author.Needs.{needs}
 use Prim.Native.Nat.{_+_}
-use native.Mathlib.Omega.{arith}
 use Rattle.writes.proofs.Cells.{next-unit, next-none}
 use Rattle.writes.proofs.next_of.Statement.{statement}
 use Rattle.writes.proofs.next_of.Tie as tie
