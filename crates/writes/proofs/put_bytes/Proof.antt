@@ -50,7 +50,7 @@ put-bytes-spec =
     (λ c κs. search needs)  -- unit-bytes-requires
     (λ c. some c)  -- div-k
     (λ c. some c)  -- rem-o
-    (λ c. let p = c .before .before .before .before in rw (sized c) (putting-start _ _ (p .args .offset) (p .args .bytes .now) (p .args .img .now) (p .pre .0 .some)))  -- loop-holds
+    (λ c. let p = c .before .before .before .before in rw (sized c) (putting-start (listedSpace (p .args .v) (p .args .work .now) (p .args .kind)) (take (p .args .n) (p .args .work .now)) (p .args .offset) (p .args .bytes .now) (p .args .img .now) (p .pre .0 .some)))  -- loop-holds
     (λ c. omega (arith, below c, c .before .before .before .before .before .before .pre .0 .room))  -- mul-t15
     (λ c. omega (arith, below (c .before), c .before .before .before .before .before .before .before .pre .0 .room))  -- shared-slice-read-t17
     (λ c κs. c .before .before .before .before .before .before .before .pre .0 .units (c .before .before .loop .k) (below (c .before)))  -- unit-place-requires

@@ -38,7 +38,7 @@ zero-from-spec =
     (λ c κs. search needs)  -- unit-bytes-requires
     (λ c. some c)  -- div-k
     (λ c. some c)  -- rem-o
-    (λ c. let p = c .before .before .before in rw (sized c) (zeroing-start _ _ (p .args .from) (p .args .img .now) (p .pre .0 .some)))  -- loop-holds
+    (λ c. let p = c .before .before .before in rw (sized c) (zeroing-start (listedSpace (p .args .v) (p .args .work .now) (p .args .kind)) (take (p .args .n) (p .args .work .now)) (p .args .from) (p .args .img .now) (p .pre .0 .some)))  -- loop-holds
     (λ c. let r = c .before .before .before .before .before .pre .0 .room in omega arith)  -- mul-t14
     (λ c. let r = c .before .before .before .before .before .before .pre .0 .room in omega arith)  -- shared-slice-read-t16
     (λ c κs. c .before .before .before .before .before .before .pre .0 .units (c .before .before .loop .k) (c .before .loop-test .taken))  -- unit-place-requires
