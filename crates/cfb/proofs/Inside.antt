@@ -26,7 +26,6 @@ use Rattle.format.specs.Calls.Buffers.{workCleared, outAfter, workAfter}
 use Rattle.theory.proofs.Refusals.{RefusedLow, resolve-low, resolve-stream-low}
 use Rattle.tables.specs.Work.{Wrote}
 use Rattle.frame.proofs.Accepted.{accepted-kept}
-use Rattle.frame.proofs.Lengths.{allowed-short}
 use Rattle.volume.specs.Opened.{OpenedRight}
 use Rattle.volume.specs.declared.Volume.{Volume as Place}
 use Rattle.volume.specs.declared.Opened.{Opened}
@@ -113,4 +112,4 @@ pub ready-open : (g : Geometry) (img : Bytes) (w w₁ : List ℕ) (r : Opened) (
 ready-open g img w w₁ r o {v} e =
     let x = ready-is g img w w₁ r o e in
     let a = accepted-kept g img (accepted-any g img (length w) (x .0)) in
-    record { ready = x .1 .1 .0; groups = rw (x .1 .0) (a .volume); short = allowed-short g img (a .allowed) }
+    record { ready = x .1 .1 .0; groups = rw (x .1 .0) a }

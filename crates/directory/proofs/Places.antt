@@ -90,7 +90,7 @@ module _ {d : Where} {img : Bytes} {work : List ℕ} (l : Listed d img work) whe
         let m : x % entriesIn g < entriesIn g = mod-lt x (omega arith) in
         rw (l .here _ inside) (omega (arith, sector-inside (l .sized) _ (l .below _ inside), per-bytes (l .sized), m))
 
-    place-is : entryPlace g (directorySectorsOf g img) x ≡ placeOf d work x
+    pub place-is : entryPlace g (directorySectorsOf g img) x ≡ placeOf d work x
     unfolding entryPlace placeIn entryBytes
     place-is = rw (scale-div 128 (entriesIn g) (per-bytes (l .sized)) (omega arith) x, scale-mod 128 (entriesIn g) (per-bytes (l .sized)) (omega arith) x, l .here _ inside)
 

@@ -20,6 +20,7 @@ pub mod Writing
 pub mod Entry
 pub mod Edited
 pub mod Crossing
+pub mod LengthUnits
 pub mod Change
 pub mod SectorChange
 pub mod MiniChange

@@ -35,7 +35,7 @@ use Rattle.history.proofs.Filled.{length-contents, frame-sized, Sized}
 use Rattle.history.proofs.Counting.{inside-forest}
 use Rattle.history.proofs.Rows.{rows-changed}
 use Rattle.history.proofs.Finding.{is-stream, is-inside, hit-is-found, found-hit-everywhere}
-use Rattle.history.proofs.Lengths.{sides-uncrossed, old-units-length}
+use Rattle.frame.proofs.LengthUnits.{sides-uncrossed, old-units-length}
 use Rattle.history.proofs.Resized.{resize-changed, resize-contents}
 use Rattle.history.proofs.EditStep.{edit-step}
 use Rattle.frame.proofs.EntryFacts.{root-plain}
@@ -126,7 +126,7 @@ module _ (g : Geometry) (pos : 0 < g .sectorBytes) (fr : Frame g) (img : Bytes) 
     enough =
         elim (sides .1) [
           | inr z ↦ omega (arith, ap (λ n. roundUp n (spaceOf v side .unit)) z, round-zero (spaceOf v side .unit) (good .unit side))
-          | inl h ↦ needs-in-space g img old new side h needs-fit (length (streamUnits v e)) (old-units-length v img good sized e new inside stream within)
+          | inl h ↦ needs-in-space g img old new side h needs-fit (length (streamUnits v e)) (old-units-length v good e new inside stream within)
         ]
 
     differ-step : new ≢ old → Step g img (resized v img e new) (lengthRows p new (rowsOf g img))

@@ -1,7 +1,7 @@
--- A change of length on a good volume: which units the stream gets, in which space, and what its bytes are then.
+-- A change of length on a good volume: what the stream's bytes are then.
 use Prim.Native.Nat.{ℕ, _+_, _*_, _≤_, _<_, max}
 use mathlib.Core.Path.{_≡_, refl, sym, ap, _∙_, subst}
-use mathlib.Core.Logic.{_⊎_, inl, inr}
+use mathlib.Core.Logic.{inl, inr}
 use mathlib.Core.Bool.{Bool, true, false, cond, _&&_, Bool·beq}
 use mathlib.Core.List.{List, [], _∷_, _++_}
 use native.Mathlib.Omega.{arith}
@@ -28,46 +28,9 @@ use Rattle.theory.proofs.Edits.{target-length, target-is}
 use Rattle.theory.proofs.RoundUp.{round-enough, round-zero, round-mono}
 use Rattle.theory.proofs.Tests.{clash, neither}
 use Rattle.frame.specs.Good.{spaceOf, unitsOf, Good}
+use Rattle.frame.proofs.LengthUnits.{sides-uncrossed, old-side, old-units-linked, old-units-length, new-units-are, new-units-length}
 use Rattle.history.proofs.Filled.{Sized, contents-read}
 use Rattle.history.proofs.Sides.{cond-side}
-
--- two lengths that do not cross lie in the space of the greater, or are 0
-pub sides-uncrossed : (old new : ℕ) → crosses old new ≡ false →
-    ((ltb old cutoff ≡ ltb (max old new) cutoff) ⊎ (old ≡ 0)) × ((ltb new cutoff ≡ ltb (max old new) cutoff) ⊎ (new ≡ 0))
-unfolding crosses small cutoff
-sides-uncrossed old new h =
-    let a = neither (leb 1 old && ltb old 4096 && leb 4096 new) (leb 4096 old && (leb 1 new && ltb new 4096)) h .0 in
-    let b = neither (leb 1 old && ltb old 4096 && leb 4096 new) (leb 4096 old && (leb 1 new && ltb new 4096)) h .1 in
-    elim (decLt old 4096) [
-      | yes p ↦
-          elim (decLt new 4096) [
-            | yes q ↦
-                (inl (lt-ltb old 4096 p ∙ sym (lt-ltb (max old new) 4096 (omega arith))), inl (lt-ltb new 4096 q ∙ sym (lt-ltb (max old new) 4096 (omega arith))))
-            | no q ↦ (
-              elim (ℕ-discrete old 0) [
-                | yes z ↦ inr z
-                | no z ↦ absurd (clash (rw (le-leb 1 old (omega arith), lt-ltb old 4096 p, le-leb 4096 new (omega arith))) a)
-              ],
-              inl (le-ltb new 4096 (omega arith) ∙ sym (le-ltb (max old new) 4096 (omega arith))),
-            )
-          ]
-      | no p ↦ (
-        inl (le-ltb old 4096 (omega arith) ∙ sym (le-ltb (max old new) 4096 (omega arith))),
-        elim (decLt new 4096) [
-          | no q ↦ inl (le-ltb new 4096 (omega arith) ∙ sym (le-ltb (max old new) 4096 (omega arith)))
-          | yes q ↦
-              elim (ℕ-discrete new 0) [
-                | yes z ↦ inr z
-                | no z ↦ absurd (clash (rw (le-leb 4096 old (omega arith), le-leb 1 new (omega arith), lt-ltb new 4096 q)) b)
-              ]
-        ],
-      )
-    ]
-
-new-units-in : (v : Volume) (e new : ℕ) → newUnits v e new ≡ take (roundUp new (spaceOf v (ltb (max (streamSize v e) new) cutoff) .unit))
-    (streamUnits v e ++ freeUnits (spaceOf v (ltb (max (streamSize v e) new) cutoff)))
-unfolding newUnits editSpace spaceFor
-new-units-in v e new = refl
 
 module _ (v : Volume) (img : Bytes) (o : Good v) (sized : Sized v img) (e new : ℕ) (inside : e < v .directory .count) (stream : isStream (v .directory .entry e) ≡ true)
     (within : crosses (streamSize v e) new ≡ false) where
@@ -83,79 +46,38 @@ module _ (v : Volume) (img : Bytes) (o : Good v) (sized : Sized v img) (e new : 
   abbrev us : List ℕ
   us = streamUnits v e
 
-  sides : ((ltb old cutoff ≡ side) ⊎ (old ≡ 0)) × ((ltb new cutoff ≡ side) ⊎ (new ≡ 0))
-  sides = sides-uncrossed old new within
-
-  no-units : old ≡ 0 → us ≡ []
-  no-units z =
-      let c = o .chains e inside stream in
-      let k : length us ≡ 0 = c .long ∙ ap (λ n. roundUp n (spaceOf v (ltb old cutoff) .unit)) z
-      ∙ round-zero (spaceOf v (ltb old cutoff) .unit) (o .unit (ltb old cutoff)) in
-      go us k
-    where
-      go : (xs : List ℕ) → length xs ≡ 0 → xs ≡ []
-      go [] h = refl
-      go (x ∷ xs) h = absurd (omega arith)
-
-  old-side : (ltb old cutoff ≡ side) ⊎ (us ≡ [])
-  old-side = elim (sides .0) [ inl h ↦ inl h | inr z ↦ inr (no-units z) ]
-
   -- the old units, by space
   pub old-units : (b : Bool) → unitsOf v b e ≡ cond (Bool·beq b side) us []
   unfolding unitsOf
-  old-units b = rw stream (cond-side b side (ltb old cutoff) us old-side)
-
-  us-linked : Linked (sp .cell) (sp .limit) us
-  us-linked =
-      elim old-side [
-        | inl h ↦ subst (λ b. Linked (spaceOf v b .cell) (spaceOf v b .limit) us) h (o .chains e inside stream .linked)
-        | inr z ↦ rw z tt
-      ]
-
-  pub old-units-length : length us ≡ roundUp old (sp .unit)
-  old-units-length =
-      elim (sides .0) [
-        | inl h ↦ subst (λ b. length us ≡ roundUp old (spaceOf v b .unit)) h (o .chains e inside stream .long)
-        | inr z ↦ ap length (no-units z) ∙ sym (ap (λ n. roundUp n (sp .unit)) z ∙ round-zero (sp .unit) (o .unit side))
-      ]
-
-  new-units-are : newUnits v e new ≡ take (roundUp new (sp .unit)) (us ++ freeBelow (sp .cell) (sp .limit))
-  unfolding freeUnits
-  new-units-are = new-units-in v e new
-
-  pub new-units-become : MayBecome (sp .limit) (sp .cell) us (newUnits v e new)
-  new-units-become = rw new-units-are (resized-becomes (sp .cell) (sp .limit) (o .lim side) us us-linked (roundUp new (sp .unit)))
+  old-units b = rw stream (cond-side b side (ltb old cutoff) us (old-side v o e new inside stream within))
 
   module _ (enough : roundUp new (sp .unit) ≤ length us + length (freeUnits sp)) where
-    pub new-units-length : length (newUnits v e new) ≡ roundUp new (sp .unit)
-    new-units-length = ap length (new-units-in v e new) ∙ length-take-le (roundUp new (sp .unit)) (us ++ freeUnits sp) (rw (length-append us (freeUnits sp)) enough)
-
     pub new-units-none : new ≡ 0 → newUnits v e new ≡ []
-    new-units-none z = new-units-are ∙ ap (λ n. take n (us ++ freeBelow (sp .cell) (sp .limit))) (ap (λ n. roundUp n (sp .unit)) z ∙ round-zero (sp .unit) (o .unit side))
+    new-units-none z = new-units-are v o e new inside stream within ∙ ap (λ n. take n (us ++ freeBelow (sp .cell) (sp .limit))) (ap (λ n. roundUp n (sp .unit)) z ∙ round-zero (sp .unit) (o .unit side))
 
     us-full : (s : ℕ) → 0 < count s us → length (block sp img s) ≡ sp .unit
-    us-full s q = sized side s (linked-below (sp .cell) (sp .limit) us us-linked s q)
+    us-full s q = sized side s (linked-below (sp .cell) (sp .limit) us (old-units-linked v o e new inside stream within) s q)
 
     pub new-content-length : length (target (sp .unit) (block sp img) us (newUnits v e new) old new) ≡ length (newUnits v e new) * sp .unit
     new-content-length =
-        subst (λ ws. length (target (sp .unit) (block sp img) us ws old new) ≡ length ws * sp .unit) (sym new-units-are)
+        subst (λ ws. length (target (sp .unit) (block sp img) us ws old new) ≡ length ws * sp .unit) (sym (new-units-are v o e new inside stream within))
         (target-length (sp .unit) (block sp img) us (freeBelow (sp .cell) (sp .limit)) us-full old new (roundUp new (sp .unit))
-        (rw old-units-length (round-enough old (sp .unit) (o .unit side))) (round-enough new (sp .unit) (o .unit side))
-        (λ s q. sized side s (resized-becomes (sp .cell) (sp .limit) (o .lim side) us us-linked (roundUp new (sp .unit)) .from s q .0)))
+        (rw (old-units-length v o e new inside stream within) (round-enough old (sp .unit) (o .unit side))) (round-enough new (sp .unit) (o .unit side))
+        (λ s q. sized side s (resized-becomes (sp .cell) (sp .limit) (o .lim side) us (old-units-linked v o e new inside stream within) (roundUp new (sp .unit)) .from s q .0)))
 
     -- the bytes after: cut or filled up
     pub new-content-fits : ltb new cutoff ≡ side → take new (target (sp .unit) (block sp img) us (newUnits v e new) old new) ≡ fit new (contents v img e)
     new-content-fits same =
-        subst (λ ws. take new (target (sp .unit) (block sp img) us ws old new) ≡ fit new (take old (laid (block sp img) us))) (sym new-units-are)
+        subst (λ ws. take new (target (sp .unit) (block sp img) us ws old new) ≡ fit new (take old (laid (block sp img) us))) (sym (new-units-are v o e new inside stream within))
         (target-is (sp .unit) (block sp img) us (freeBelow (sp .cell) (sp .limit)) us-full old new (roundUp new (sp .unit))
-        (rw old-units-length (round-enough old (sp .unit) (o .unit side))) (round-enough new (sp .unit) (o .unit side))
-        (ap length (sym new-units-are) ∙ new-units-length) (λ h. rw old-units-length (round-mono new old (sp .unit) (o .unit side) h)))
+        (rw (old-units-length v o e new inside stream within) (round-enough old (sp .unit) (o .unit side))) (round-enough new (sp .unit) (o .unit side))
+        (ap length (sym (new-units-are v o e new inside stream within)) ∙ new-units-length v o e new inside stream within enough) (λ h. rw (old-units-length v o e new inside stream within) (round-mono new old (sp .unit) (o .unit side) h)))
         ∙ ap (fit new) (sym old-bytes)
       where
         old-bytes : contents v img e ≡ take old (laid (block sp img) us)
         old-bytes =
             contents-read v img e old us refl refl
-            ∙ elim (sides .0) [
+            ∙ elim (sides-uncrossed old new within .0) [
               | inl h ↦ ap (λ b. take old (laid (block (spaceOf v b) img) us)) h
               | inr z ↦ rw z
             ]

@@ -27,7 +27,8 @@ use Rattle.frame.specs.Good.{spaceOf, systemOf, Good}
 use Rattle.frame.proofs.Good.{accepted-good}
 use Rattle.history.specs.Changed.{Changed}
 use Rattle.history.proofs.Filled.{Sized, edited-contents, frame-sized}
-use Rattle.history.proofs.Lengths.{sides-uncrossed, old-units, new-units-become, new-units-length, new-content-length, new-content-fits, new-units-none}
+use Rattle.frame.proofs.LengthUnits.{sides-uncrossed, new-units-become, new-units-length}
+use Rattle.history.proofs.Lengths.{old-units, new-content-length, new-content-fits, new-units-none}
 use Rattle.history.proofs.Sides.{becomes-side, cond-beq-false, cond-nil, full-side, refilled-side, cond-beq-true}
 use Rattle.history.specs.Step.{resizedBytes}
 
@@ -71,7 +72,7 @@ module _ (g : Geometry) (pos : 0 < g .sectorBytes) (fr : Frame g) (img : Bytes) 
     sides = sides-uncrossed old new (may .within)
 
     long : length newUs ≡ roundUp new (spaceOf v side .unit)
-    long = new-units-length v img good sized e new (may .inside) (may .stream) (may .within) enough
+    long = new-units-length v good e new (may .inside) (may .stream) (may .within) enough
 
     no-units : new ≡ 0 → newUs ≡ []
     no-units = new-units-none v img good sized e new (may .inside) (may .stream) (may .within) enough
@@ -128,7 +129,7 @@ module _ (g : Geometry) (pos : 0 < g .sectorBytes) (fr : Frame g) (img : Bytes) 
           bytes = λ b. refilled-side (spaceOf v b) (spaceOf (volume g (resized v img e new)) b) img (resized v img e new) (systemOf v b) newUs
               (target (spaceOf v b .unit) (block (spaceOf v b) img) us newUs old new) (Bool·beq b side) (new-bytes b);
           becomes = λ b. rw (old-units v img good sized e new (may .inside) (may .stream) (may .within) b)
-              (becomes-side v us newUs b side (new-units-become v img good sized e new (may .inside) (may .stream) (may .within)));
+              (becomes-side v us newUs b side (new-units-become v good e new (may .inside) (may .stream) (may .within)));
           full = λ b. full-side v newUs (λ b. target (spaceOf v b .unit) (block (spaceOf v b) img) us newUs old new) b side
               (new-content-length v img good sized e new (may .inside) (may .stream) (may .within) enough);
           need = ap length units-here ∙ long ∙ need-here;

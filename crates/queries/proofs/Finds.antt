@@ -62,7 +62,7 @@ module _ {v : Opened} {img : Bytes} {w : List ℕ} (o : Open v img w) where
   unfolding volume
   find-asks =
       let e = sym (same-entries o) in
-      (o .ready .lists .mini .directory, (subst (λ d. entryRules d ≡ true) e (o .groups .entries), subst (λ d. treeRules d ≡ true) e (o .groups .trees)))
+      (o .ready .lists .mini .directory, (subst (λ d. entryRules d ≡ true) e (o .groups .volume .entries), subst (λ d. treeRules d ≡ true) e (o .groups .volume .trees)))
 
   module _ (path : Path) (r : Way) (e : foundOf (entriesOf (v .directory) img) r ≡ resolve (entriesOf (v .directory) img) path) where
     says : foundOf (volume g img .directory) r ≡ resolve (volume g img .directory) path

@@ -19,7 +19,7 @@ use Rattle.format.specs.Rules.Streams.{streamChain, streamRight, streamRules}
 use Rattle.theory.proofs.Tests.{below-at}
 use Rattle.kinds.specs.Sizes.{geometryOf}
 use Rattle.reading.specs.Streams.{streamBytes}
-use Rattle.reading.proofs.Spaces.{sectors-stand, minis-stand}
+use Rattle.spaces.proofs.Stands.{sectors-stand, minis-stand}
 use Rattle.reading.proofs.StreamBytes.{stream-length}
 use Rattle.volume.specs.declared.Volume.{Volume as Opened}
 use Rattle.queries.specs.Inside.{Open}
@@ -66,8 +66,8 @@ contents-length {v} {img} o x l i =
     let n = size (volume g img .directory .entry x) in
     let s = start (volume g img .directory .entry x) in
     elim (decLt n 4096) [
-      | yes h ↦ ap length (sym (small-bytes g img x n s refl refl h)) ∙ stream-length img (minis-stand (o .ready)) n s (small-chain g img x n s refl refl h (o .groups .chains) l i)
+      | yes h ↦ ap length (sym (small-bytes g img x n s refl refl h)) ∙ stream-length img (minis-stand (o .ready)) n s (small-chain g img x n s refl refl h (o .groups .volume .chains) l i)
       | no h ↦
           let k : 4096 ≤ n = omega arith in
-          ap length (sym (large-bytes g img x n s refl refl k)) ∙ stream-length img (sectors-stand (o .ready)) n s (large-chain g img x n s refl refl k (o .groups .chains) l i)
+          ap length (sym (large-bytes g img x n s refl refl k)) ∙ stream-length img (sectors-stand (o .ready)) n s (large-chain g img x n s refl refl k (o .groups .volume .chains) l i)
     ]

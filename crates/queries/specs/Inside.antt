@@ -17,17 +17,16 @@ use Rattle.format.specs.Calls.Buffers.{handedOut}
 use Rattle.kinds.specs.Sizes.{geometryOf}
 use Rattle.kinds.specs.Numbers.{numberOf}
 use Rattle.theory.specs.TreeFind.{reached}
-use Rattle.frame.specs.Groups.{VolumeGroups}
+use Rattle.frame.specs.Groups.{ImageGroups}
 use Rattle.volume.specs.Opened.{Readied}
 use Rattle.volume.specs.declared.Volume.{Volume as Opened}
 use Rattle.queries.specs.declared.find.Find.{Find}
 use Rattle.queries.specs.declared.find.Find.the-variants.{Entry, Refused}
 
--- the lists stand in the work buffer, and the image keeps every group and is short enough for every sum to fit
+-- the lists stand in the work buffer, and the image keeps every group
 pub record Open (v : Opened) (img : Bytes) (work : List ℕ) : Type 0 where
   pub ready : Readied v img work
-  pub groups : VolumeGroups (volume (geometryOf (v .tables .geometry)) img)
-  pub short : length img ≤ 0x400_0000
+  pub groups : ImageGroups (geometryOf (v .tables .geometry)) img
 
 -- the reply after validation
 unfoldable pub replyIn : Geometry → Volume → Call → Reply

@@ -5,6 +5,7 @@ ghost use Rattle.format.specs.Layout.Entry.{kind as kindOf, size as sizeOf};
 ghost use Rattle.format.specs.Layout.Volume.{volume as volumeOf};
 ghost use Rattle.kinds.specs.Sizes.{geometryOf};
 ghost use Rattle.directory.specs.Listed.{entriesOf, Listed};
+ghost use Rattle.queries.specs.Replies.{refusalOf};
 ghost use Rattle.queries.specs.Inside.{Open, FindRight};
 use directory::Directory;
 use directory::place;
@@ -51,5 +52,15 @@ pub fn find_in(path: &[u16], img: &[u8], work: &[u32], v: Volume) -> Find
     match find_entry(path, img, work, d) {
         Found::At(x) => Find::Entry(object_at(img, work, d, x)),
         Found::Refused(a) => Find::Refused(a),
+    }
+}
+
+// The answer of a find that found no entry.
+pub fn refusal(f: Find) -> Answer
+    ensures { λ r. ⌜ r ≡ refusalOf f ⌝ }
+{
+    match f {
+        Find::Entry(_) => Answer::Done,
+        Find::Refused(a) => a,
     }
 }

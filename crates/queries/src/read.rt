@@ -11,10 +11,11 @@ ghost use Rattle.format.specs.Layout.Stream.{contents};
 ghost use Rattle.format.specs.Calls.Call.{read as readCall};
 ghost use Rattle.kinds.specs.Sizes.{geometryOf};
 ghost use Rattle.queries.specs.Inside.{Open, replyIn, outIn};
-ghost use Rattle.queries.specs.Replies.{refusalOf, readReply};
+ghost use Rattle.queries.specs.Replies.{readReply};
 use super::find::Find;
 use super::find::Object;
 use super::find::find_in;
+use super::find::refusal;
 use directory::place;
 use entries::start;
 use kinds::Answer;
@@ -29,18 +30,8 @@ pub enum Read {
     Refused(Answer),
 }
 
-// The answer of a find that found no entry.
-fn refusal(f: Find) -> Answer
-    ensures { λ r. ⌜ r ≡ refusalOf f ⌝ }
-{
-    match f {
-        Find::Entry(_) => Answer::Done,
-        Find::Refused(a) => a,
-    }
-}
-
 // The lesser of two counts.
-fn least(a: usize, b: usize) -> usize
+pub fn least(a: usize, b: usize) -> usize
     ensures { λ r. ⌜ r ≡ min a b ⌝ }
 {
     if a < b {

@@ -19,7 +19,7 @@ use Rattle.frame.proofs.Blocks.{Units, block-length}
 use Rattle.minis.proofs.Sectors.{unit-below}
 use Rattle.reading.specs.Streams.{streamBytes}
 use Rattle.reading.proofs.Parts.{part-at, part-equal, run-div, run-mod}
-use Rattle.reading.proofs.Walks.{unit-next}
+use Rattle.spaces.proofs.Walks.{unit-next}
 
 module _ {sp : Space} (img : Bytes) (t : Units sp (length img)) (n s : ℕ) (c : chainFor sp n s ≡ true) where
   units-long : length (unitsFor sp n s) ≡ roundUp n (sp .unit)

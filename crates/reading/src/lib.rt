@@ -17,6 +17,7 @@ use kinds::MiniSector;
 use kinds::Sector;
 use le::copy;
 use minis::mini_cell;
+use spaces::mini_place;
 use tables::cell_at;
 use volume::Volume;
 
@@ -113,19 +114,6 @@ fn mini_after(
         i += 1;
     }
     m
-}
-
-// The byte where a mini sector starts, by the list of the mini stream's sectors.
-pub fn mini_place(img: &[u8], work: &[u32], v: Volume, m: MiniSector) -> usize
-    requires { ⌜ Readied v (now img) (now work) ⌝ }
-    requires { ⌜ m .0 < miniSpace (geometryOf (v .tables .geometry)) (now img) .limit ⌝ }
-    ensures { λ r. ⌜ r ≡ miniSpace (geometryOf (v .tables .geometry)) (now (img .entry)) .unitPlace (m .0) ⌝ }
-{
-    let t = v.tables;
-    let g = t.geometry;
-    let list = v.stream;
-    let i = 64 * m.index();
-    Sector(work[list + i / g.bytes]).place(g) + i % g.bytes
 }
 
 // Reads from a stream of mini sectors.

@@ -54,4 +54,6 @@ module _ {t : Tables} {d : Directory} {m : Minis} {img : Bytes} {w : List ℕ} (
       record {
         lists = lists-kept x l (omega (arith, stream-fits));
         stream = rw (z, ← units-are) y;
+        before = omega arith;
+        room = omega (arith, many, stream-short g img (l .mini .fat .sized) (l .mini .stream), l .room);
       }

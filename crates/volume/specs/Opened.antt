@@ -1,5 +1,5 @@
 -- What a stage leaves: a refusal with the number of the first broken group, or an opened volume.
-use Prim.Native.Nat.{ℕ, _≤_}
+use Prim.Native.Nat.{ℕ, _*_, _/_, _≤_}
 use mathlib.Core.Path.{_≡_}
 use mathlib.Core.Logic.{_≢_}
 use mathlib.Core.Bool.{Bool, cond, _||_}
@@ -25,10 +25,12 @@ use Rattle.volume.specs.declared.Volume.{Volume}
 use Rattle.volume.specs.declared.Opened.{Opened}
 use Rattle.volume.specs.declared.Opened.the-variants.{Refused, Ready}
 
--- every list stands in the work buffer, that of the mini stream's sectors first
+-- every list stands in the work buffer, that of the mini stream's sectors first; before it there is room to list every unit of a kind
 pub record Readied (v : Volume) (img : Bytes) (work : List ℕ) : Type 0 where
   pub lists : ListsStand (v .tables) (v .directory) (v .minis) img work
   pub stream : Holds work (v .stream) (length (miniStreamSectors (geometryOf (v .tables .geometry)) img)) (unitAt (miniStreamSectors (geometryOf (v .tables .geometry)) img))
+  pub before : v .stream ≤ v .minis .list
+  pub room : 8 * (length img / 512) ≤ v .stream
 
 -- a stage that answers `want`
 abbrev pub Outcome : Sizes → Bytes → ℕ → List ℕ → Opened → Type 0

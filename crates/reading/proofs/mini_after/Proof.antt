@@ -7,8 +7,8 @@ use Rattle.format.specs.Layout.Chain.{units}
 use Rattle.format.specs.Layout.Volume.{miniSpace}
 use Rattle.kinds.specs.Sizes.{geometryOf}
 use Rattle.minis.proofs.Sectors.{unit-below}
-use Rattle.reading.proofs.Walks.{unit-first, unit-next}
-use Rattle.reading.proofs.Spaces.{mini-cell, minis-same}
+use Rattle.spaces.proofs.Walks.{unit-first, unit-next}
+use Rattle.spaces.proofs.Stands.{mini-cell, minis-same}
 use Rattle.reading.proofs.mini_after.Statement.{statement}
 use Rattle.reading.proofs.mini_after.Tie as tie
 

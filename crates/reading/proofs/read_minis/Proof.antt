@@ -8,7 +8,7 @@ use Rattle.format.specs.Layout.Space.{chainFor, unitsFor}
 use Rattle.format.specs.Layout.Volume.{miniSpace}
 use Rattle.theory.proofs.RoundUp.{round-lt}
 use Rattle.kinds.specs.Sizes.{geometryOf}
-use Rattle.reading.proofs.Spaces.{minis-stand, minis-same, mini-cell}
+use Rattle.spaces.proofs.Stands.{minis-stand, minis-same, mini-cell}
 use Rattle.reading.proofs.Reading.{Reading, ReadingFrom, none-read, reading-start, reading-below, reading-inner, reading-room, reading-more, reading-step, reading-done}
 use Rattle.reading.proofs.read_minis.Statement.{statement}
 use Rattle.reading.proofs.read_minis.Tie as tie

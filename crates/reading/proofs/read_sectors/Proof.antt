@@ -5,7 +5,7 @@ use Rattle.format.specs.Layout.Space.{chainFor, unitsFor}
 use Rattle.format.specs.Layout.Tables.{sectorSpace}
 use Rattle.theory.proofs.RoundUp.{round-lt}
 use Rattle.kinds.specs.Sizes.{geometryOf}
-use Rattle.reading.proofs.Spaces.{sectors-stand, sector-cell}
+use Rattle.spaces.proofs.Stands.{sectors-stand, sector-cell}
 use Rattle.reading.proofs.Reading.{Reading, ReadingFrom, none-read, reading-start, reading-below, reading-inner, reading-room, reading-more, reading-step, reading-done}
 use Rattle.reading.proofs.read_sectors.Statement.{statement}
 use Rattle.reading.proofs.read_sectors.Tie as tie

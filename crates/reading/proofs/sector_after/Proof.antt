@@ -7,8 +7,8 @@ use Rattle.format.specs.Layout.Chain.{units}
 use Rattle.format.specs.Layout.Tables.{fatCell}
 use Rattle.kinds.specs.Sizes.{geometryOf}
 use Rattle.minis.proofs.Sectors.{unit-below}
-use Rattle.reading.proofs.Walks.{unit-first, unit-next}
-use Rattle.reading.proofs.Spaces.{sector-cell}
+use Rattle.spaces.proofs.Walks.{unit-first, unit-next}
+use Rattle.spaces.proofs.Stands.{sector-cell}
 use Rattle.reading.proofs.sector_after.Statement.{statement}
 use Rattle.reading.proofs.sector_after.Tie as tie
 

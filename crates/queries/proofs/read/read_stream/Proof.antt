@@ -32,14 +32,14 @@ read-stream-spec =
     (λ c κs. omega (arith, c .place .ensures, place-inside (find-asks (c .before .before .before .before .before .pre .0) .0) _ (inside (c .before))))  -- start-requires
     (λ c κs.
     let p = c .before .before .before .before .before .before .before .before in
-    (p .pre .0 .ready, (small-chain _ _ (p .args .e .id .0) _ _ (p .pre .1 .1 .1 .0) (begun (c .before .before)) (c .before .if1 .taken) (p .pre .0 .groups .chains) (p .pre .1 .0) (p .pre .1 .1 .0), p .pre .1 .1 .1 .1)))  -- read-minis-requires
+    (p .pre .0 .ready, (small-chain _ _ (p .args .e .id .0) _ _ (p .pre .1 .1 .1 .0) (begun (c .before .before)) (c .before .if1 .taken) (p .pre .0 .groups .volume .chains) (p .pre .1 .0) (p .pre .1 .1 .0), p .pre .1 .1 .1 .1)))  -- read-minis-requires
     (λ c. search needs)  -- same-length
     (λ c.
     let p = c .before .before .before .before .before .before .before .before .before .before .before in
     c .before .before .read-minis .ensures ∙ ap (λ l. part l (p .args .offset) (length (p .args .out .now))) (small-bytes _ _ (p .args .e .id .0) _ _ (p .pre .1 .1 .1 .0) (begun (c .before .before .before .before .before)) (c .before .before .before .before .if1 .taken)))  -- returns
     (λ c κs.
     let p = c .before .before .before .before .before .before .before .before in
-    (p .pre .0 .ready, (large-chain _ _ (p .args .e .id .0) _ _ (p .pre .1 .1 .1 .0) (begun (c .before .before)) (c .before .if1 .left) (p .pre .0 .groups .chains) (p .pre .1 .0) (p .pre .1 .1 .0), p .pre .1 .1 .1 .1)))  -- read-sectors-requires
+    (p .pre .0 .ready, (large-chain _ _ (p .args .e .id .0) _ _ (p .pre .1 .1 .1 .0) (begun (c .before .before)) (c .before .if1 .left) (p .pre .0 .groups .volume .chains) (p .pre .1 .0) (p .pre .1 .1 .0), p .pre .1 .1 .1 .1)))  -- read-sectors-requires
     (λ c. search needs)  -- same-length-2
     (λ c.
     let p = c .before .before .before .before .before .before .before .before .before .before .before in

@@ -6,9 +6,9 @@ use native.Mathlib.Omega.{arith}
 use mir.Syntax.{w64}
 use mir.Val.{Fits}
 use lib.ListN.{length}
-use Rattle.reading.proofs.Spaces.{mini-listed, listed-inside, mini-place-is}
-use Rattle.reading.proofs.mini_place.Statement.{statement}
-use Rattle.reading.proofs.mini_place.Tie as tie
+use Rattle.spaces.proofs.Stands.{mini-listed, listed-inside, mini-place-is}
+use Rattle.spaces.proofs.mini_place.Statement.{statement}
+use Rattle.spaces.proofs.mini_place.Tie as tie
 
 listed : (c : tie.After-index) → let p = c .before .before .before .before .before in p .args .v .stream + 64 * c .index .result / p .args .v .tables .geometry .bytes < length (p .args .work .now)
 listed c = let p = c .before .before .before .before .before in rw (c .index .ensures) (mini-listed (p .pre .0) (p .args .m .0) (p .pre .1))

@@ -1,0 +1,3 @@
+-- Laws for edits.
+pub mod SamePlaces
+pub mod Needs

@@ -1,0 +1,2 @@
+-- What edits are stated with, beside `format`.
+pub mod Rewritten

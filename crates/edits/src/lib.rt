@@ -1,0 +1,1 @@
+// Edits of an opened volume: bytes put into a stream, and a stream's length changed.

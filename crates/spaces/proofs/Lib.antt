@@ -1,0 +1,5 @@
+-- Laws for units of either kind.
+pub mod Walks
+pub mod Places
+pub mod Stands
+pub mod Listed

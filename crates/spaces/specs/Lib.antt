@@ -1,0 +1,2 @@
+-- What is said of units of either kind, beside `format`.
+pub mod Spaces

@@ -1,0 +1,6 @@
+-- Laws for lists of units.
+pub mod Limits
+pub mod Searching
+pub mod Picks
+pub mod Picking
+pub mod Listing
