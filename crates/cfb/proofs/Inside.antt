@@ -22,7 +22,7 @@ use Rattle.format.specs.Calls.Find.{Found, at, refused, answerOf, resolve, reso
 use Rattle.format.specs.Calls.Call.{Call, validate, find, read, overwrite, setLength, list, workOf}
 use Rattle.format.specs.Calls.Answer.{firstOf, target, targetAnswer, beyond, lengthAnswer, answerIn, answer}
 use Rattle.format.specs.Calls.Reply.{reply}
-use Rattle.format.specs.Calls.Buffers.{workCleared, outAfter, workAfter}
+use Rattle.format.specs.Calls.Buffers.{workCleared, imageAfter, outAfter, workAfter}
 use Rattle.theory.proofs.Refusals.{RefusedLow, resolve-low, resolve-stream-low}
 use Rattle.tables.specs.Work.{Wrote}
 use Rattle.frame.proofs.Accepted.{accepted-kept}
@@ -32,6 +32,7 @@ use Rattle.volume.specs.declared.Opened.{Opened}
 use Rattle.volume.specs.declared.Opened.the-variants.{Refused, Ready}
 use Rattle.volume.proofs.Opening.{left-cleared}
 use Rattle.queries.specs.Inside.{Open, replyIn, outIn}
+use Rattle.edits.specs.Images.{imageIn}
 use Rattle.cfb.proofs.Calls.{left-is, ready-is}
 
 -- ---- answers after validation
@@ -89,6 +90,10 @@ module _ (g : Geometry) (img : Bytes) (c : Call) (h : verdict g img (length (wor
   pub out-in : outAfter g img c ≡ outIn g (volume g img) img c
   unfolding outAfter outIn
   out-in = rw answer-in
+
+  pub image-in : imageAfter g img c ≡ imageIn g (volume g img) img c
+  unfolding imageAfter imageIn
+  image-in = rw answer-in
 
   pub work-in : {w₁ w₂ : List ℕ} → Wrote (workOf c) w₁ 0 (workNeed (length img)) → w₂ ≡ workCleared (workNeed (length img)) w₁ → w₂ ≡ workAfter g img c
   work-in r e =

@@ -1,6 +1,6 @@
 -- A call on an image that validation opened: its reply and its buffers are those of what comes after validation.
 use Prim.Native.Nat.{ℕ}
-use mathlib.Core.Path.{_≡_, refl, sym}
+use mathlib.Core.Path.{_≡_, refl, sym, _∙_, ap}
 use mathlib.Core.List.{List, []}
 use lib.ListN.{length}
 use Rattle.format.specs.Basics.Bytes.{Bytes}
@@ -9,10 +9,10 @@ use Rattle.format.specs.Layout.Volume.{Volume, volume}
 use Rattle.format.specs.Rules.Length.{workNeed}
 use Rattle.format.specs.Rules.Verdict.{verdict}
 use Rattle.format.specs.Calls.Paths.{Path}
-use Rattle.format.specs.Calls.Call.{Call, find, read, list, workOf, outOf}
+use Rattle.format.specs.Calls.Call.{Call, find, read, overwrite, setLength, list, workOf, outOf}
 use Rattle.format.specs.Calls.Answer.{answerIn}
-use Rattle.format.specs.Calls.Reply.{done, reply}
-use Rattle.format.specs.Calls.Buffers.{workCleared, handedOut, outAfter, workAfter}
+use Rattle.format.specs.Calls.Reply.{plain, done, reply}
+use Rattle.format.specs.Calls.Buffers.{workCleared, edited, handedOut, imageAfter, outAfter, workAfter}
 use Rattle.kinds.specs.Sizes.{geometryOf}
 use Rattle.tables.specs.Work.{Wrote}
 use Rattle.tables.proofs.WorkLaws.{wrote-two}
@@ -21,8 +21,9 @@ use Rattle.volume.specs.declared.Volume.{Volume as Place}
 use Rattle.volume.specs.declared.Opened.{Opened}
 use Rattle.volume.specs.declared.Opened.the-variants.{Ready}
 use Rattle.queries.specs.Inside.{replyIn, outIn}
-use Rattle.cfb.proofs.Calls.{ready-is}
-use Rattle.cfb.proofs.Inside.{reply-in, out-in, work-in}
+use Rattle.edits.specs.Images.{imageIn}
+use Rattle.cfb.proofs.Calls.{ready-is, plain-either}
+use Rattle.cfb.proofs.Inside.{reply-in, image-in, out-in, work-in}
 
 -- ---- any call
 
@@ -39,6 +40,9 @@ module _ (g : Geometry) (img : Bytes) (call : Call) (w₁ : List ℕ) (r : Opene
   pub ready-out : outIn (geometryOf (v .tables .geometry)) (volume (geometryOf (v .tables .geometry)) img) img call ≡ outAfter g img call
   ready-out = rw same (sym (out-in g img call zero))
 
+  pub ready-image : imageIn (geometryOf (v .tables .geometry)) (volume (geometryOf (v .tables .geometry)) img) img call ≡ imageAfter g img call
+  ready-image = rw same (sym (image-in g img call zero))
+
   pub ready-work : {w₂ w₃ : List ℕ} → Wrote w₁ w₂ 0 (workNeed (length img)) → w₃ ≡ workCleared (workNeed (length img)) w₂ → w₃ ≡ workAfter g img call
   ready-work k c = work-in g img call zero (wrote-two (ready-is g img (workOf call) w₁ r o e .1 .1 .1 .1) k) c
 
@@ -48,6 +52,17 @@ module _ (g : Geometry) (v : Volume) (img : Bytes) (work : List ℕ) where
   pub find-any : (path : Path) → replyIn g v (find path []) ≡ replyIn g v (find path work)
   unfolding replyIn answerIn done
   find-any path = refl
+
+  -- an edit gives no value, so its reply is its answer
+  pub overwrite-any : (path : Path) (offset : ℕ) (bytes : Bytes) {n : ℕ} → n ≡ answerIn g v (overwrite path offset bytes [])
+      → (plain n ≡ replyIn g v (overwrite path offset bytes work)) × (imageIn g v img (overwrite path offset bytes []) ≡ imageIn g v img (overwrite path offset bytes work))
+  unfolding replyIn imageIn answerIn done edited
+  overwrite-any path offset bytes h = (ap plain h ∙ sym (plain-either _), refl)
+
+  pub length-any : (path : Path) (new : ℕ) {n : ℕ} → n ≡ answerIn g v (setLength path new [])
+      → (plain n ≡ replyIn g v (setLength path new work)) × (imageIn g v img (setLength path new []) ≡ imageIn g v img (setLength path new work))
+  unfolding replyIn imageIn answerIn done edited
+  length-any path new h = (ap plain h ∙ sym (plain-either _), refl)
 
   module _ (out : Bytes) where
     pub read-any : (path : Path) (offset : ℕ) → (replyIn g v (read path offset out []) ≡ replyIn g v (read path offset out work)) × (outIn g v img (read path offset out []) ≡ outIn g v img (read path offset out work))

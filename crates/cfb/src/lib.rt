@@ -4,11 +4,13 @@ ghost use Rattle.format.specs.Layout.Geometry.{version3};
 ghost use Prim.Native.Nat.{_≤_, _<_};
 ghost use lib.ListN.{length};
 ghost use Rattle.format.specs.Rules.Length.{workNeed};
-ghost use Rattle.format.specs.Calls.Call.{validate as validateCall, find as findCall, read as readCall, list as listCall};
+ghost use Rattle.format.specs.Calls.Call.{validate as validateCall, find as findCall, read as readCall, overwrite as overwriteCall, setLength as lengthCall, list as listCall};
 ghost use Rattle.format.specs.Calls.Reply.{plain, reply};
-ghost use Rattle.format.specs.Calls.Buffers.{workCleared, outAfter, workAfter};
+ghost use Rattle.format.specs.Calls.Buffers.{workCleared, imageAfter, outAfter, workAfter};
 ghost use Rattle.kinds.specs.Numbers.{numberOf};
 ghost use Rattle.queries.specs.Replies.{findReply, readReply, listReply};
+use edits::overwrite::overwrite_in;
+use edits::resize::set_length_in;
 use kinds::Answer;
 use le::zero_first;
 use queries::find::Find;
@@ -69,6 +71,44 @@ pub fn read(image: &[u8], work: &mut [u32], path: &[u16], offset: u64, out: &mut
         Opened::Refused(a) => Read::Refused(a),
         Opened::Ready(v) => {
             let r = read_in(path, image, work, v, offset, out);
+            clear(image, work);
+            r
+        }
+    }
+}
+
+// Puts bytes into the stream that a path leads to, from an offset on. They have to end within the stream.
+pub fn overwrite(
+    image: &mut [u8],
+    work: &mut [u32],
+    path: &[u16],
+    offset: u64,
+    bytes: &[u8],
+) -> Answer
+    ensures { λ r. ⌜ plain (numberOf r) ≡ reply version3 (now (image .entry)) (overwriteCall (now (path .entry)) offset (now (bytes .entry)) (now (work .entry))) ⌝ }
+    ensures { λ _. ⌜ now (image .exit) ≡ imageAfter version3 (now (image .entry)) (overwriteCall (now (path .entry)) offset (now (bytes .entry)) (now (work .entry))) ⌝ }
+    ensures { λ _. ⌜ now (work .exit) ≡ workAfter version3 (now (image .entry)) (overwriteCall (now (path .entry)) offset (now (bytes .entry)) (now (work .entry))) ⌝ }
+{
+    match open_volume(image, work) {
+        Opened::Refused(a) => a,
+        Opened::Ready(v) => {
+            let r = overwrite_in(path, image, work, v, offset, bytes);
+            clear(image, work);
+            r
+        }
+    }
+}
+
+// Gives the stream that a path leads to another length: cut there, or with zero bytes up to there.
+pub fn set_length(image: &mut [u8], work: &mut [u32], path: &[u16], length: u64) -> Answer
+    ensures { λ r. ⌜ plain (numberOf r) ≡ reply version3 (now (image .entry)) (lengthCall (now (path .entry)) length (now (work .entry))) ⌝ }
+    ensures { λ _. ⌜ now (image .exit) ≡ imageAfter version3 (now (image .entry)) (lengthCall (now (path .entry)) length (now (work .entry))) ⌝ }
+    ensures { λ _. ⌜ now (work .exit) ≡ workAfter version3 (now (image .entry)) (lengthCall (now (path .entry)) length (now (work .entry))) ⌝ }
+{
+    match open_volume(image, work) {
+        Opened::Refused(a) => a,
+        Opened::Ready(v) => {
+            let r = set_length_in(path, image, work, v, length);
             clear(image, work);
             r
         }

@@ -1,12 +1,14 @@
 // The public calls for C. A slice passes as a pointer and a length; an answer is 01's number, and values go out through pointers.
 ghost use mathlib.Core.Path.{_≡_};
 ghost use Rattle.format.specs.Layout.Geometry.{version3};
-ghost use Rattle.format.specs.Calls.Call.{validate as validateCall, find as findCall, read as readCall, list as listCall};
+ghost use Rattle.format.specs.Calls.Call.{validate as validateCall, find as findCall, read as readCall, overwrite as overwriteCall, setLength as lengthCall, list as listCall};
 ghost use Rattle.format.specs.Calls.Reply.{plain, reply};
-ghost use Rattle.format.specs.Calls.Buffers.{outAfter, workAfter};
+ghost use Rattle.format.specs.Calls.Buffers.{imageAfter, outAfter, workAfter};
 use cfb::find;
 use cfb::list;
+use cfb::overwrite;
 use cfb::read;
+use cfb::set_length;
 use cfb::validate;
 use kinds::number;
 use queries::find::Find;
@@ -72,6 +74,30 @@ pub extern "C" fn cfb_read(
             number(a)
         }
     }
+}
+
+#[no_mangle]
+pub extern "C" fn cfb_overwrite(
+    image: &mut [u8],
+    work: &mut [u32],
+    path: &[u16],
+    offset: u64,
+    bytes: &[u8],
+) -> u32
+    ensures { λ r. ⌜ plain r ≡ reply version3 (now (image .entry)) (overwriteCall (now (path .entry)) offset (now (bytes .entry)) (now (work .entry))) ⌝ }
+    ensures { λ _. ⌜ now (image .exit) ≡ imageAfter version3 (now (image .entry)) (overwriteCall (now (path .entry)) offset (now (bytes .entry)) (now (work .entry))) ⌝ }
+    ensures { λ _. ⌜ now (work .exit) ≡ workAfter version3 (now (image .entry)) (overwriteCall (now (path .entry)) offset (now (bytes .entry)) (now (work .entry))) ⌝ }
+{
+    number(overwrite(image, work, path, offset, bytes))
+}
+
+#[no_mangle]
+pub extern "C" fn cfb_set_len(image: &mut [u8], work: &mut [u32], path: &[u16], new_len: u64) -> u32
+    ensures { λ r. ⌜ plain r ≡ reply version3 (now (image .entry)) (lengthCall (now (path .entry)) «new_len» (now (work .entry))) ⌝ }
+    ensures { λ _. ⌜ now (image .exit) ≡ imageAfter version3 (now (image .entry)) (lengthCall (now (path .entry)) «new_len» (now (work .entry))) ⌝ }
+    ensures { λ _. ⌜ now (work .exit) ≡ workAfter version3 (now (image .entry)) (lengthCall (now (path .entry)) «new_len» (now (work .entry))) ⌝ }
+{
+    number(set_length(image, work, path, new_len))
 }
 
 #[no_mangle]
