@@ -4,9 +4,10 @@
  * elements as its length says (where the length is 0, to anything but NULL; where it has no length, to one), and what the
  * pointers of one call point to must not overlap.
  *
- * Every call looks at the whole image first and answers as cfb_validate does where it breaks a rule. The image is only read.
- * After answers 1 and 2 the work buffer is as it was; after any other its first CFB_WORK_NEED(image_len) numbers are zero
- * and the rest is as it was. After any answer but 0 an out buffer is as it was, and every count, entry, type and size is 0.
+ * Every call looks at the whole image first and answers as cfb_validate does where it breaks a rule. Only cfb_overwrite and
+ * cfb_set_len change the image. After answers 1 and 2 the work buffer is as it was; after any other its first
+ * CFB_WORK_NEED(image_len) numbers are zero and the rest is as it was. After any answer but 0 the image and an out buffer are
+ * as they were, and every count, entry, type and size is 0.
  *
  * A path is given in 16-bit units (UTF-16, in the machine's byte order) with their number, and no zero behind them. Its names
  * are parted by '/', with none at either end; the empty path is the root. Small and capital letters a to z are the same.
@@ -38,7 +39,9 @@ extern "C" {
 #define CFB_NOT_FOUND 21u          /* a storage on the way has no child of that name */
 #define CFB_STREAM_ON_THE_WAY 22u  /* a stream stands where a storage is needed */
 #define CFB_NOT_A_STREAM 23u       /* the path ends at a storage or the root, and a stream is needed */
-#define CFB_BEYOND 24u             /* the offset is above the stream's length */
+#define CFB_BEYOND 24u             /* a read would start, or a write end, behind the stream's end */
+#define CFB_CROSSES 25u            /* the length would go from 1..4095 to 4096 or more, or back */
+#define CFB_TOO_FEW_FREE 26u       /* there are too few free sectors, or mini sectors */
 #define CFB_OUT_TOO_SHORT 27u      /* the listing is longer than the out buffer */
 
 /* Types of an entry. */
@@ -64,6 +67,17 @@ uint32_t cfb_find(const uint8_t *image, size_t image_len, uint32_t *work, size_t
  * gives 0 bytes. Answers 20 to 24. */
 uint32_t cfb_read(const uint8_t *image, size_t image_len, uint32_t *work, size_t work_len, const uint16_t *path,
                   size_t path_len, uint64_t offset, uint8_t *out, size_t out_len, uint64_t *count);
+
+/* Puts bytes into a stream from an offset on. They have to end within it: offset + bytes_len, however large, is at most its
+ * length. Nothing else of the image changes. Answers 20 to 24. */
+uint32_t cfb_overwrite(uint8_t *image, size_t image_len, uint32_t *work, size_t work_len, const uint16_t *path,
+                       size_t path_len, uint64_t offset, const uint8_t *bytes, size_t bytes_len);
+
+/* Gives a stream another length. A shorter one keeps its first bytes, a longer one has zero bytes behind the old ones. The
+ * lowest free units are taken, and what a stream no longer needs becomes free; other streams stay as they are. The same length
+ * again changes nothing. Answers 20 to 23, 25 and 26. */
+uint32_t cfb_set_len(uint8_t *image, size_t image_len, uint32_t *work, size_t work_len, const uint16_t *path, size_t path_len,
+                     uint64_t new_len);
 
 /* Writes a listing of all streams and storages to the out buffer, and its length to count; the out buffer's bytes behind it
  * stay. No zero is put behind it. The first line has the number of objects, and each other line one object, a storage before
