@@ -1,32 +1,24 @@
 -- What the program writes, by the answer of its one call.
 use mathlib.Core.Path.{_≡_, refl, ap, sym, _∙_}
-use mathlib.Core.Bool.{cond}
-use mathlib.Core.List.{List, _++_}
-use Prim.Native.Nat.{ℕ, zero, suc, _+_, _≤_, _<_}
+use mathlib.Core.List.{List}
+use Prim.Native.Nat.{ℕ, zero, suc, _≤_, _<_}
 use native.Mathlib.Decide.{decLt}
 use native.Mathlib.Omega.{arith}
 use borrow.Author.Tests.{lt-ltb, le-ltb}
-use lib.Dec.{ltb}
-use lib.ListN.{length, take, drop, replicate, length-append, length-take, length-replicate}
+use lib.ListN.{length, take, drop, replicate, length-append, length-replicate}
 use lib.Seq.{take-all, take-append-seam, length-take-le}
 use Rattle.format.specs.Basics.Bytes.{Bytes}
 use Rattle.format.specs.Layout.Geometry.{Geometry}
 use Rattle.format.specs.Layout.Directory.{Directory}
 use Rattle.format.specs.Layout.Volume.{volume}
 use Rattle.format.specs.Rules.Length.{workNeed}
-use Rattle.format.specs.Rules.Verdict.{verdict}
 use Rattle.format.specs.Calls.Read.{over}
 use Rattle.format.specs.Calls.Listing.{firstLine, listing}
 use Rattle.format.specs.Calls.Call.{list, workOf, outOf}
-use Rattle.format.specs.Calls.Answer.{firstOf, answerIn, answer}
-use Rattle.format.specs.Calls.Reply.{Reply, plain, counted, onZero, done, reply}
+use Rattle.format.specs.Calls.Answer.{answerIn, answer}
+use Rattle.format.specs.Calls.Reply.{plain, counted, onZero, done, reply}
 use Rattle.format.specs.Calls.Buffers.{handedOut, outAfter}
 use Rattle.format.specs.Calls.Program.{programCapacity, refusedLine, programCall, programOutput}
-use Rattle.kinds.specs.declared.Answer.{Answer}
-use Rattle.kinds.specs.Numbers.{numberOf}
-use Rattle.queries.specs.Replies.{listReply}
-use Rattle.queries.specs.declared.list.List.{List as Listing}
-use Rattle.queries.specs.declared.list.List.the-variants.{Done, Refused}
 
 -- ---- the bytes at the front
 

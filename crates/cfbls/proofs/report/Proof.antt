@@ -1,6 +1,6 @@
 use borrow.Author.Needs.{needs}
 use native.Mathlib.Omega.{arith}
-use mathlib.Core.Path.{sym, _∙_}
+use mathlib.Core.Path.{sym}
 use Rattle.format.specs.Layout.Geometry.{version3}
 use Rattle.kinds.specs.Numbers.{numberOf}
 use Rattle.cfbls.proofs.Output.{written, room, output-over, listed, refused}
