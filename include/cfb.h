@@ -1,7 +1,15 @@
 /* Compound files (MS-CFB, version 3): the C interface of a library in which every function is proved.
  *
  * No call requires anything of the bytes that it is given: each call ends and answers. A pointer must point to as many
- * elements as its length says (where the length is 0, to anything but NULL), and the buffers of one call must not overlap.
+ * elements as its length says (where the length is 0, to anything but NULL; where it has no length, to one), and what the
+ * pointers of one call point to must not overlap.
+ *
+ * Every call looks at the whole image first and answers as cfb_validate does where it breaks a rule. The image is only read.
+ * After answers 1 and 2 the work buffer is as it was; after any other its first CFB_WORK_NEED(image_len) numbers are zero
+ * and the rest is as it was. After any answer but 0 an out buffer is as it was, and every count, entry, type and size is 0.
+ *
+ * A path is given in 16-bit units (UTF-16, in the machine's byte order) with their number, and no zero behind them. Its names
+ * are parted by '/', with none at either end; the empty path is the root. Small and capital letters a to z are the same.
  */
 #ifndef CFB_H
 #define CFB_H
@@ -26,14 +34,50 @@ extern "C" {
 #define CFB_MINI 16u
 #define CFB_STREAMS 17u
 #define CFB_OWNERS 18u
+#define CFB_BAD_PATH 20u           /* a name of the path is empty, longer than 31 units, or has a unit 0, '\' or ':' */
+#define CFB_NOT_FOUND 21u          /* a storage on the way has no child of that name */
+#define CFB_STREAM_ON_THE_WAY 22u  /* a stream stands where a storage is needed */
+#define CFB_NOT_A_STREAM 23u       /* the path ends at a storage or the root, and a stream is needed */
+#define CFB_BEYOND 24u             /* the offset is above the stream's length */
+#define CFB_OUT_TOO_SHORT 27u      /* the listing is longer than the out buffer */
+
+/* Types of an entry. */
+#define CFB_STORAGE 1u
+#define CFB_STREAM 2u
+#define CFB_ROOT 5u
 
 /* How many 32-bit numbers the work buffer needs for an image of n bytes. */
 #define CFB_WORK_NEED(n) (13u * ((size_t)(n) / 512u))
 
-/* Whether an image keeps every rule: 0, or the number of the first group that it breaks. The image is only read. After
- * answers 1 and 2 the work buffer is as it was; after any other its first CFB_WORK_NEED(image_len) numbers are zero and the
- * rest is as it was. The time is linear in the image's length, whatever its bytes. */
+/* Whether an image keeps every rule: 0, or the number of the first group that it breaks. The time is linear in the image's
+ * length, whatever its bytes. */
 uint32_t cfb_validate(const uint8_t *image, size_t image_len, uint32_t *work, size_t work_len);
+
+/* The entry that a path leads to: its number in the directory, its type and its size in bytes (of the root, the size of the
+ * stream that holds all small streams; of a storage 0). Answers 20, 21 and 22; of 21 and 22 the first name that fails
+ * decides. */
+uint32_t cfb_find(const uint8_t *image, size_t image_len, uint32_t *work, size_t work_len, const uint16_t *path,
+                  size_t path_len, uint32_t *entry, uint32_t *type, uint64_t *size);
+
+/* Copies the bytes of a stream from an offset on to the out buffer: as many as are left of the stream, and as the buffer
+ * holds. Their number goes to count, and the out buffer's bytes behind them stay. An offset equal to the stream's length
+ * gives 0 bytes. Answers 20 to 24. */
+uint32_t cfb_read(const uint8_t *image, size_t image_len, uint32_t *work, size_t work_len, const uint16_t *path,
+                  size_t path_len, uint64_t offset, uint8_t *out, size_t out_len, uint64_t *count);
+
+/* Writes a listing of all streams and storages to the out buffer, and its length to count; the out buffer's bytes behind it
+ * stay. No zero is put behind it. The first line has the number of objects, and each other line one object, a storage before
+ * all that is below it:
+ *
+ *     objects 3
+ *     D 0 Site
+ *     F 5000 Site/log
+ *     F 70 Site/Jets
+ *
+ * Siblings stand in the order of the file's trees: shorter names first. A unit that is no printable ASCII character prints as
+ * '\' and four digits of base 16. A listing that does not fit answers 27. */
+uint32_t cfb_list(const uint8_t *image, size_t image_len, uint32_t *work, size_t work_len, uint8_t *out, size_t out_len,
+                  uint64_t *count);
 
 #ifdef __cplusplus
 }

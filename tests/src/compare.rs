@@ -1,15 +1,18 @@
 //! Runs cases and counts what passes.
 
+use crate::calls::{ANSWERS, Outcome, perform};
 use crate::cases::Case;
-use crate::volume::validate;
+use crate::effects;
+use crate::model::Model;
 use std::collections::BTreeMap;
+use std::rc::Rc;
 
 #[derive(Default)]
 pub struct Tally {
     pub passed: u64,
     pub failed: u64,
-    /// How many cases had each answer.
-    pub answers: BTreeMap<u32, u64>,
+    /// How often each call had each answer.
+    answers: BTreeMap<(&'static str, u32), u64>,
     /// Name each case before it is run.
     trace: bool,
 }
@@ -19,36 +22,90 @@ impl Tally {
         Tally { trace: std::env::var_os("CFB_TRACE").is_some(), ..Tally::default() }
     }
 
-    /// Runs one case; `name` says how to run it again.
-    pub fn run(&mut self, name: &str, case: &Case) {
+    /// Runs one case; `name` says how to run it again. What the call leaves behind, if nothing is wrong.
+    pub fn run(&mut self, name: &str, case: &Case) -> Option<After> {
         if self.trace {
-            eprintln!("{name}: {}", case.kind);
+            eprintln!("{name}: {}, {}", case.call.name(), case.kind);
         }
-        let answer = validate(&case.image, case.work_len);
-        *self.answers.entry(answer).or_default() += 1;
-        match check(case, answer) {
-            Ok(()) => self.passed += 1,
-            Err(fault) => self.fail(name, case, &fault),
+        match check(case) {
+            Ok(after) => {
+                self.passed += 1;
+                *self.answers.entry((case.call.name(), after.answer)).or_default() += 1;
+                Some(after)
+            }
+            Err(fault) => {
+                self.fail(name, &format!("{fault}; {}", case.description()));
+                None
+            }
         }
     }
 
-    fn fail(&mut self, name: &str, case: &Case, fault: &str) {
+    pub fn fail(&mut self, name: &str, fault: &str) {
         self.failed += 1;
         if self.failed <= 50 {
-            let (bytes, work) = (case.image.len(), case.work_len);
-            println!("FAILED {name}: {fault}; {bytes} bytes, work {work}, {}", case.kind);
+            println!("FAILED {name}: {fault}");
+        }
+    }
+
+    /// How often each answer came, and what was not asked of the library.
+    pub fn report(&self) {
+        if cfg!(not(feature = "library")) {
+            println!("not compared with the library: every call");
+        } else if cfg!(not(feature = "edits")) {
+            println!("not compared with the library: overwrite, set_len");
+        }
+        for (call, _) in ANSWERS {
+            let of_call = self.answers.iter().filter(|((name, _), _)| name == call);
+            let counts: Vec<String> = of_call.map(|((_, answer), times)| format!("{answer}: {times}")).collect();
+            println!("{call:<10}{}", counts.join("  "));
+        }
+    }
+
+    /// An answer that some call never had counts as a failure.
+    pub fn ask_for_every_answer(&mut self) {
+        for (call, answers) in ANSWERS {
+            for answer in *answers {
+                if !self.answers.contains_key(&(*call, *answer)) {
+                    self.fail(call, &format!("never answered {answer}"));
+                }
+            }
         }
     }
 }
 
-fn check(case: &Case, answer: u32) -> Result<(), String> {
+/// The answer of a call, the image and its rows after it.
+pub struct After {
+    pub answer: u32,
+    pub image: Vec<u8>,
+    pub model: Option<Rc<Model>>,
+}
+
+/// What the call leaves behind, or what is wrong: the papers, the rows and the library must all agree with the independent calls.
+fn check(case: &Case) -> Result<After, String> {
+    let mut image = case.image.clone();
+    let outcome = perform(&case.call, &mut image, case.work_len);
+    let answer = outcome.answer;
     if let Some(expected) = case.expected.filter(|&expected| expected != answer) {
         return Err(format!("independent {answer}, by the papers {expected}"));
     }
+    let model = case.model.as_ref().map(|rows| by_rows(rows, case, &outcome, &image)).transpose()?;
     #[cfg(feature = "library")]
     {
         let mut noise = crate::random::Random::of(case.image.len() as u64, case.work_len as u64);
-        crate::library::check(&case.image, case.work_len, answer, &mut noise)?;
+        crate::library::check(&case.call, &case.image, case.work_len, &outcome, &image, &mut noise)?;
     }
-    Ok(())
+    Ok(After { answer, image, model })
+}
+
+/// The rows after the call, which must give the same outcome and be what the image holds.
+fn by_rows(rows: &Model, case: &Case, outcome: &Outcome, image: &[u8]) -> Result<Rc<Model>, String> {
+    let mut model = rows.clone();
+    let due = model.perform(&case.call, case.work_len);
+    if due != *outcome {
+        let (answer, values) = (outcome.answer, outcome.values);
+        return Err(format!("independent {answer} {values:?}, by the rows {} {:?}", due.answer, due.values));
+    }
+    model.holds_of(image)?;
+    effects::check(&case.call, outcome.answer, &case.image, image)?;
+    Ok(Rc::new(model))
 }

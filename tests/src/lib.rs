@@ -2,9 +2,13 @@
 
 pub mod bench;
 pub mod breaks;
+pub mod calls;
 pub mod cases;
 pub mod compare;
+pub mod draw;
+pub mod effects;
 pub mod images;
+pub mod model;
 pub mod number;
 pub mod random;
 pub mod volume;

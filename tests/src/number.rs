@@ -36,10 +36,14 @@ pub fn put_u32(bytes: &mut [u8], at: usize, value: u32) {
     bytes[at..at + 4].copy_from_slice(&value.to_le_bytes());
 }
 
-/// The bytes of sector s; the header lies before sector 0.
+/// Where sector s starts; the header lies before sector 0.
+pub fn sector_place(s: u32) -> usize {
+    (s as usize + 1) * SECTOR
+}
+
+/// The bytes of sector s.
 pub fn sector(image: &[u8], s: u32) -> &[u8] {
-    let at = (s as usize + 1) * SECTOR;
-    &image[at..at + SECTOR]
+    &image[sector_place(s)..][..SECTOR]
 }
 
 /// The bytes of these sectors laid end to end.

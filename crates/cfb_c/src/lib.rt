@@ -1,11 +1,17 @@
-// The public calls for C. A slice passes as a pointer and a length; an answer is 01's number.
+// The public calls for C. A slice passes as a pointer and a length; an answer is 01's number, and values go out through pointers.
 ghost use mathlib.Core.Path.{_≡_};
 ghost use Rattle.format.specs.Layout.Geometry.{version3};
-ghost use Rattle.format.specs.Calls.Call.{validate as validateCall};
+ghost use Rattle.format.specs.Calls.Call.{validate as validateCall, find as findCall, read as readCall, list as listCall};
 ghost use Rattle.format.specs.Calls.Reply.{plain, reply};
-ghost use Rattle.format.specs.Calls.Buffers.{workAfter};
+ghost use Rattle.format.specs.Calls.Buffers.{outAfter, workAfter};
+use cfb::find;
+use cfb::list;
+use cfb::read;
 use cfb::validate;
 use kinds::number;
+use queries::find::Find;
+use queries::list::List;
+use queries::read::Read;
 
 #[no_mangle]
 pub extern "C" fn cfb_validate(image: &[u8], work: &mut [u32]) -> u32
@@ -13,4 +19,75 @@ pub extern "C" fn cfb_validate(image: &[u8], work: &mut [u32]) -> u32
     ensures { λ _. ⌜ now (work .exit) ≡ workAfter version3 (now (image .entry)) (validateCall (now (work .entry))) ⌝ }
 {
     number(validate(image, work))
+}
+
+#[no_mangle]
+pub extern "C" fn cfb_find(
+    image: &[u8],
+    work: &mut [u32],
+    path: &[u16],
+    entry: &mut u32,
+    kind: &mut u32,
+    size: &mut u64,
+) -> u32
+    ensures { λ r. ⌜ record { number = r; entry = now (entry .exit); type = now (kind .exit); size = now (size .exit); count = 0 } ≡ reply version3 (now (image .entry)) (findCall (now (path .entry)) (now (work .entry))) ⌝ }
+    ensures { λ _. ⌜ now (work .exit) ≡ workAfter version3 (now (image .entry)) (findCall (now (path .entry)) (now (work .entry))) ⌝ }
+{
+    match find(image, work, path) {
+        Find::Entry(e) => {
+            *entry = e.id.0;
+            *kind = e.kind as u32;
+            *size = e.size;
+            0
+        }
+        Find::Refused(a) => {
+            *entry = 0;
+            *kind = 0;
+            *size = 0;
+            number(a)
+        }
+    }
+}
+
+#[no_mangle]
+pub extern "C" fn cfb_read(
+    image: &[u8],
+    work: &mut [u32],
+    path: &[u16],
+    offset: u64,
+    out: &mut [u8],
+    count: &mut u64,
+) -> u32
+    ensures { λ r. ⌜ record { number = r; entry = 0; type = 0; size = 0; count = now (count .exit) } ≡ reply version3 (now (image .entry)) (readCall (now (path .entry)) offset (now (out .entry)) (now (work .entry))) ⌝ }
+    ensures { λ _. ⌜ now (out .exit) ≡ outAfter version3 (now (image .entry)) (readCall (now (path .entry)) offset (now (out .entry)) (now (work .entry))) ⌝ }
+    ensures { λ _. ⌜ now (work .exit) ≡ workAfter version3 (now (image .entry)) (readCall (now (path .entry)) offset (now (out .entry)) (now (work .entry))) ⌝ }
+{
+    match read(image, work, path, offset, out) {
+        Read::Done(n) => {
+            *count = n as u64;
+            0
+        }
+        Read::Refused(a) => {
+            *count = 0;
+            number(a)
+        }
+    }
+}
+
+#[no_mangle]
+pub extern "C" fn cfb_list(image: &[u8], work: &mut [u32], out: &mut [u8], count: &mut u64) -> u32
+    ensures { λ r. ⌜ record { number = r; entry = 0; type = 0; size = 0; count = now (count .exit) } ≡ reply version3 (now (image .entry)) (listCall (now (out .entry)) (now (work .entry))) ⌝ }
+    ensures { λ _. ⌜ now (out .exit) ≡ outAfter version3 (now (image .entry)) (listCall (now (out .entry)) (now (work .entry))) ⌝ }
+    ensures { λ _. ⌜ now (work .exit) ≡ workAfter version3 (now (image .entry)) (listCall (now (out .entry)) (now (work .entry))) ⌝ }
+{
+    match list(image, work, out) {
+        List::Done(n) => {
+            *count = n as u64;
+            0
+        }
+        List::Refused(a) => {
+            *count = 0;
+            number(a)
+        }
+    }
 }

@@ -1,3 +1,11 @@
 -- Laws for edits.
 pub mod SamePlaces
 pub mod Needs
+pub mod Streams
+pub mod Writables
+pub mod Targets
+pub mod Overwrites
+pub mod Rewriting
+pub mod Gathering
+pub mod LengthAnswers
+pub mod Resizes

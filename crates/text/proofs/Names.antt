@@ -13,7 +13,7 @@ use Rattle.format.specs.Calls.Text.{printUnit, printName}
 use Rattle.entries.specs.Entry.{entryAt, NamedAt}
 use Rattle.entries.proofs.NameLaws.{name-length, name-unit}
 use Rattle.text.proofs.Over.{over-none, over-length, over-lent}
-use Rattle.text.proofs.Units.{print-append, print-more, print-most}
+use Rattle.text.proofs.Units.{print-append, print-more, name-most}
 
 -- a unit as it is read
 pub unit-is : (e : Bytes) (i : ℕ) {u : ℕ} → i < length (name e) → u ≡ nameUnit e i → u ≡ getD (name e) i 0
@@ -48,7 +48,7 @@ module _ {xs : Name} {i k : ℕ} (p : Printed xs i k) where
   printed-end h = p .count ∙ ap (λ (l : Name). length (printName l)) (take-all i xs h)
 
   pub printed-most : k ≤ 5 * length xs
-  printed-most = omega (arith, p .count, front-most xs i, print-most xs)
+  printed-most = omega (arith, p .count, front-most xs i, name-most xs)
 
 -- ---- and they are written
 

@@ -52,11 +52,6 @@ unit-most u = go (plain u)
     go true = omega arith
     go false = omega arith
 
-pub name-most : (n : Name) → length (printName n) ≤ 5 * length n
-unfolding printName
-name-most [] = omega arith
-name-most (u ∷ us) = omega (arith, length-append (printUnit u) (printName us), unit-most u, name-most us)
-
 -- ---- a unit, written
 
 pub plain-byte : (u : ℕ) → plain u ≡ true → u ≤ 0x7E
@@ -91,7 +86,7 @@ print-one u = append-nil (printUnit u)
 pub print-more : (xs : Name) (i : ℕ) → i < length xs → printName (take (i + 1) xs) ≡ printName (take i xs) ++ printUnit (getD xs i 0)
 print-more xs i h = rw (add-one i, take-suc xs i 0 h) (print-append (take i xs) (getD xs i 0 ∷ []) ∙ ap (λ (l : Bytes). printName (take i xs) ++ l) (print-one (getD xs i 0)))
 
-pub print-most : (xs : Name) → length (printName xs) ≤ 5 * length xs
+pub name-most : (n : Name) → length (printName n) ≤ 5 * length n
 unfolding printName
-print-most [] = omega arith
-print-most (x ∷ xs) = omega (arith, length-append (printUnit x) (printName xs), unit-most x, print-most xs)
+name-most [] = omega arith
+name-most (u ∷ us) = omega (arith, length-append (printUnit u) (printName us), unit-most u, name-most us)

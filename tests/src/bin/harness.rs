@@ -1,12 +1,14 @@
-//! harness SEED [COUNT]            all cases, COUNT of them random
-//! harness SEED only KIND NUMBER   one case again: KIND is fixed, small or large
+//! harness SEED [IMAGES [CALLS [LISTS]]]   all cases: random images to validate, random calls, random lists of calls
+//! harness SEED only KIND NUMBER           one case again: KIND is fixed, small, large, calls, deep or lists
 
-use cfb_tests::cases::{Case, fixed, large, small::Cases};
+use cfb_tests::cases::{Case, calls::Calls, deep, fixed, large, lists, small::Cases};
 use cfb_tests::compare::Tally;
 
 const LARGE_IMAGES: u64 = 12;
-/// So many random cases use every break.
+/// So many random images use every break.
 const ENOUGH: u64 = 100_000;
+/// So many random calls get every answer.
+const ENOUGH_CALLS: u64 = 20_000;
 
 fn main() {
     let words: Vec<String> = std::env::args().skip(1).collect();
@@ -16,25 +18,34 @@ fn main() {
     let tally = if only {
         one(seed, words.get(2).map_or("", String::as_str), number(3).expect("the case's number"))
     } else {
-        all(seed, number(1).unwrap_or(300_000))
+        all(seed, number(1).unwrap_or(300_000), number(2).unwrap_or(100_000), number(3).unwrap_or(10_000))
     };
     println!("{} passed, {} failed", tally.passed, tally.failed);
     std::process::exit((tally.failed > 0) as i32);
 }
 
-fn all(seed: u64, count: u64) -> Tally {
+fn all(seed: u64, images: u64, calls: u64, list_count: u64) -> Tally {
     let mut tally = Tally::new();
     let mut cases = Cases::new(seed);
-    each_fixed(&mut |number, case| tally.run(&format!("fixed {number}"), &case));
-    for number in 0..count {
+    each_fixed(&mut |number, case| drop(tally.run(&format!("fixed {number}"), &case)));
+    for number in 0..images {
         let case = cases.case(number);
         tally.run(&format!("seed {seed} small {number}"), &case);
     }
-    let mut large_ran = |number, case: Case| tally.run(&format!("seed {seed} large {number}"), &case);
+    let mut large_ran = |number, case: Case| drop(tally.run(&format!("seed {seed} large {number}"), &case));
     for image in 0..LARGE_IMAGES {
         large::run(&mut cases, seed, image, &mut large_ran);
     }
-    report(&mut tally, &cases, count);
+    let mut random_calls = Calls::new(seed);
+    for number in 0..calls {
+        let case = random_calls.case(number);
+        tally.run(&format!("seed {seed} calls {number}"), &case);
+    }
+    deep::run(seed, &mut |number, case| drop(tally.run(&format!("seed {seed} deep {number}"), &case)));
+    for number in 0..list_count {
+        lists::run(seed, number, false, &mut tally);
+    }
+    report(&mut tally, &cases, images, calls);
     tally
 }
 
@@ -44,32 +55,38 @@ fn each_fixed(then: &mut dyn FnMut(u64, Case)) {
     }
 }
 
-/// How often each answer came; in a long run a rule that was never broken counts as a failure.
-fn report(tally: &mut Tally, cases: &Cases, count: u64) {
-    for (answer, times) in &tally.answers {
-        println!("answer {answer}: {times} images");
-    }
-    let unused = if count >= ENOUGH { cases.unused() } else { Vec::new() };
+/// In a long run a rule that was never broken and an answer that never came count as failures.
+fn report(tally: &mut Tally, cases: &Cases, images: u64, calls: u64) {
+    tally.report();
     println!("{} kinds of change, the rarest used {} times", cases.used.len(), cases.used.iter().min().unwrap_or(&0));
-    for rule in &unused {
-        println!("FAILED never used: {rule}");
+    if images >= ENOUGH {
+        for rule in cases.unused() {
+            tally.fail("never used", rule);
+        }
     }
-    tally.failed += unused.len() as u64;
+    if calls >= ENOUGH_CALLS {
+        tally.ask_for_every_answer();
+    }
 }
 
 fn one(seed: u64, kind: &str, number: u64) -> Tally {
     let mut tally = Tally::new();
-    let mut cases = Cases::new(seed);
+    if kind == "lists" {
+        lists::run(seed, number, true, &mut tally);
+        return tally;
+    }
     let mut wanted = |made: u64, case: Case| {
         if made == number {
-            println!("{kind} {number}: {}, {} bytes, work {}", case.kind, case.image.len(), case.work_len);
+            println!("{kind} {number}: {}", case.description());
             tally.run(&format!("seed {seed} {kind} {number}"), &case);
         }
     };
     match kind {
         "fixed" => each_fixed(&mut wanted),
-        "large" => large::run(&mut cases, seed, number / 10, &mut wanted),
-        _ => wanted(number, cases.case(number)),
+        "large" => large::run(&mut Cases::new(seed), seed, number / 10, &mut wanted),
+        "calls" => wanted(number, Calls::new(seed).case(number)),
+        "deep" => deep::run(seed, &mut wanted),
+        _ => wanted(number, Cases::new(seed).case(number)),
     }
     tally
 }

@@ -2,7 +2,6 @@
 
 use crate::images::Sample;
 use crate::images::layout::Node;
-use crate::images::places::sector_place;
 use crate::images::write::is_large;
 use crate::number::*;
 use crate::random::Random;
@@ -16,6 +15,12 @@ pub const RIGHT: usize = 72;
 pub const CHILD: usize = 76;
 pub const START: usize = 116;
 pub const SIZE: usize = 120;
+
+/// A break that is one number at one place.
+pub fn put(s: &mut Sample, at: usize, value: u32) -> Option<()> {
+    s.put(at, value);
+    Some(())
+}
 
 /// One of these values that is not the right one.
 pub fn wrong(random: &mut Random, right: u32, values: &[u32]) -> u32 {

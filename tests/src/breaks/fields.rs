@@ -24,43 +24,25 @@ pub const BREAKS: &[Break] = &[
     rule(14, "colour neither red nor black", colour),
     rule(14, "root: sibling", |s, r| {
         let v = entry_number(s, r);
-        put(s, 0, r.pick(&[LEFT, RIGHT]), v)
+        set(s, 0, r.pick(&[LEFT, RIGHT]), v)
     }),
-    rule(14, "root: created", |s, r| field(s, r, Some(0), 100, 108)),
+    rule(14, "root: created", |s, r| field(s, r, the_root, 100, 108)),
     rule(14, "stream: child", |s, r| {
         let v = entry_number(s, r);
         let e = s.stream(r)?.entry;
-        put(s, e, CHILD, v)
+        set(s, e, CHILD, v)
     }),
-    rule(14, "stream: CLSID", |s, r| {
-        let e = a_stream(s, r);
-        field(s, r, e, 80, 96)
-    }),
-    rule(14, "stream: created", |s, r| {
-        let e = a_stream(s, r);
-        field(s, r, e, 100, 108)
-    }),
-    rule(14, "stream: modified", |s, r| {
-        let e = a_stream(s, r);
-        field(s, r, e, 108, 116)
-    }),
-    rule(14, "storage: start", |s, r| {
-        let e = a_storage(s, r);
-        field(s, r, e, 116, 120)
-    }),
+    rule(14, "stream: CLSID", |s, r| field(s, r, a_stream, 80, 96)),
+    rule(14, "stream: created", |s, r| field(s, r, a_stream, 100, 108)),
+    rule(14, "stream: modified", |s, r| field(s, r, a_stream, 108, 116)),
+    rule(14, "storage: start", |s, r| field(s, r, a_storage, 116, 120)),
     rule(14, "storage: start end of chain", |s, r| {
         let e = a_storage(s, r)?;
-        put(s, e, START, END)
+        set(s, e, START, END)
     }),
-    rule(14, "storage: size", |s, r| {
-        let e = a_storage(s, r);
-        field(s, r, e, 120, 128)
-    }),
-    rule(14, "root: upper half of the size", |s, r| field(s, r, Some(0), 124, 128)),
-    rule(14, "stream: upper half of the size", |s, r| {
-        let e = a_stream(s, r);
-        field(s, r, e, 124, 128)
-    }),
+    rule(14, "storage: size", |s, r| field(s, r, a_storage, 120, 128)),
+    rule(14, "root: upper half of the size", |s, r| field(s, r, the_root, 124, 128)),
+    rule(14, "stream: upper half of the size", |s, r| field(s, r, a_stream, 124, 128)),
     rule(14, "name bytes odd", odd),
     rule(14, "name bytes 2 with an empty name", empty_name),
     rule(14, "name bytes outside 4 to 64", name_bytes),
@@ -69,6 +51,17 @@ pub const BREAKS: &[Break] = &[
     rule(14, "name: zero before the last unit", two_zeros),
     rule(14, "name: / \\ or :", |s, r| unit(s, r, any_unit, &[0x2F, 0x5C, 0x3A])),
 ];
+
+/// Chooses an entry, if the image has one.
+type Choice = fn(&Sample, &mut Random) -> Option<u32>;
+
+fn the_root(_: &Sample, _: &mut Random) -> Option<u32> {
+    Some(0)
+}
+
+fn a_blank(s: &Sample, r: &mut Random) -> Option<u32> {
+    r.some(&s.layout.blanks).copied()
+}
 
 fn a_stream(s: &Sample, r: &mut Random) -> Option<u32> {
     s.stream(r).map(|node| node.entry)
@@ -95,14 +88,14 @@ fn byte(s: &mut Sample, entry: u32, at: usize, value: u8) -> Option<()> {
     Some(())
 }
 
-fn put(s: &mut Sample, entry: u32, at: usize, value: u32) -> Option<()> {
+fn set(s: &mut Sample, entry: u32, at: usize, value: u32) -> Option<()> {
     s.set_field(entry, at, value);
     Some(())
 }
 
 /// One byte of a field that must be zero is not.
-fn field(s: &mut Sample, r: &mut Random, entry: Option<u32>, from: usize, to: usize) -> Option<()> {
-    let at = s.layout.entry(entry?);
+fn field(s: &mut Sample, r: &mut Random, choice: Choice, from: usize, to: usize) -> Option<()> {
+    let at = s.layout.entry(choice(s, r)?);
     s.spoil(r, at + from, at + to)
 }
 
@@ -112,15 +105,14 @@ fn another_root(s: &mut Sample, r: &mut Random) -> Option<()> {
 }
 
 fn blank_byte(s: &mut Sample, r: &mut Random, parts: &[(usize, usize)]) -> Option<()> {
-    let blank = r.some(&s.layout.blanks).copied();
     let (from, to) = r.pick(parts);
-    field(s, r, blank, from, to)
+    field(s, r, a_blank, from, to)
 }
 
 fn blank_link(s: &mut Sample, r: &mut Random) -> Option<()> {
-    let &blank = r.some(&s.layout.blanks)?;
+    let blank = a_blank(s, r)?;
     let value = entry_number(s, r);
-    put(s, blank, r.pick(&[LEFT, RIGHT, CHILD]), value)
+    set(s, blank, r.pick(&[LEFT, RIGHT, CHILD]), value)
 }
 
 /// Of an object or the root.

@@ -3,7 +3,6 @@
 use super::edit::*;
 use super::{Break, rule};
 use crate::images::Sample;
-use crate::images::places::sector_place;
 use crate::number::*;
 use crate::random::Random;
 

@@ -14,18 +14,9 @@ pub const BREAKS: &[Break] = &[
         let v = no_chain(s, r);
         put(s, 60, v)
     }),
-    rule(16, "mini FAT: one sector too many", |s, r| {
-        let part = s.layout.mini_fat.clone();
-        longer(s, r, &part)
-    }),
-    rule(16, "mini FAT: broken off", |s, r| {
-        let part = s.layout.mini_fat.clone();
-        broken(s, r, &part)
-    }),
-    rule(16, "mini FAT: ring", |s, r| {
-        let part = s.layout.mini_fat.clone();
-        ring(s, r, &part)
-    }),
+    rule(16, "mini FAT: one sector too many", |s, r| longer(s, r, mini_fat)),
+    rule(16, "mini FAT: broken off", |s, r| broken(s, r, mini_fat)),
+    rule(16, "mini FAT: ring", |s, r| ring(s, r, mini_fat)),
     rule(16, "mini FAT: 128 x M below K", too_few_cells),
     rule(16, "root: size not a multiple of 64", odd_size),
     rule(16, "root: size a sector off", size_off),
@@ -39,27 +30,13 @@ pub const BREAKS: &[Break] = &[
         let v = no_chain(s, r);
         root(s, START, v)
     }),
-    rule(16, "mini stream: one sector too many", |s, r| {
-        let part = s.layout.mini_stream.clone();
-        longer(s, r, &part)
-    }),
-    rule(16, "mini stream: broken off", |s, r| {
-        let part = s.layout.mini_stream.clone();
-        broken(s, r, &part)
-    }),
-    rule(16, "mini stream: ring", |s, r| {
-        let part = s.layout.mini_stream.clone();
-        ring(s, r, &part)
-    }),
+    rule(16, "mini stream: one sector too many", |s, r| longer(s, r, mini_stream)),
+    rule(16, "mini stream: broken off", |s, r| broken(s, r, mini_stream)),
+    rule(16, "mini stream: ring", |s, r| ring(s, r, mini_stream)),
     rule(16, "mini cell below K neither number, end nor free", wrong_cell),
     rule(16, "mini cell from K on not free", cell_past),
     rule(16, "first mini cell from K on not free", first_cell_past),
 ];
-
-fn put(s: &mut Sample, at: usize, value: u32) -> Option<()> {
-    s.put(at, value);
-    Some(())
-}
 
 fn root(s: &mut Sample, field: usize, value: u32) -> Option<()> {
     s.set_field(0, field, value);
@@ -88,26 +65,39 @@ pub fn no_chain(s: &Sample, r: &mut Random) -> u32 {
     r.pick(&[END, FREE, FATSECT, DIFSECT, n, n + 1, 0x0080_0000, free, fat, *s.layout.difat.first().unwrap_or(&n)])
 }
 
+/// A chain of the system, in order.
+type Part = fn(&Sample) -> Vec<u32>;
+
+fn mini_fat(s: &Sample) -> Vec<u32> {
+    s.layout.mini_fat.clone()
+}
+
+fn mini_stream(s: &Sample) -> Vec<u32> {
+    s.layout.mini_stream.clone()
+}
+
 /// A free sector more at the end.
-fn longer(s: &mut Sample, r: &mut Random, part: &[u32]) -> Option<()> {
-    let &last = part.last()?;
+fn longer(s: &mut Sample, r: &mut Random, part: Part) -> Option<()> {
+    let &last = part(s).last()?;
     let more = s.ended_sector(r)?;
     s.set_cell(last, more);
     Some(())
 }
 
 /// One cell of the chain is free, or leads to a sector without a chain, or ends it too early.
-fn broken(s: &mut Sample, r: &mut Random, part: &[u32]) -> Option<()> {
-    let &at = r.some(part)?;
+fn broken(s: &mut Sample, r: &mut Random, part: Part) -> Option<()> {
+    let part = part(s);
+    let &at = r.some(&part)?;
     let fat = r.pick(&s.layout.fat);
     let value = if Some(&at) == part.last() { r.pick(&[FREE, fat]) } else { r.pick(&[FREE, END, fat]) };
     s.set_cell(at, value);
     Some(())
 }
 
-fn ring(s: &mut Sample, r: &mut Random, part: &[u32]) -> Option<()> {
+fn ring(s: &mut Sample, r: &mut Random, part: Part) -> Option<()> {
+    let part = part(s);
     let &last = part.last()?;
-    s.set_cell(last, r.pick(part));
+    s.set_cell(last, r.pick(&part));
     Some(())
 }
 

@@ -23,22 +23,10 @@ pub const BREAKS: &[Break] = &[
     rule(17, "small stream: start at no chain", small_start),
     rule(17, "large stream: a unit too many", large_longer),
     rule(17, "small stream: a unit too many", small_longer),
-    rule(17, "large stream: broken off", |s, r| {
-        let node = s.large(r)?;
-        broken(s, r, &node)
-    }),
-    rule(17, "small stream: broken off", |s, r| {
-        let node = s.small(r)?;
-        broken(s, r, &node)
-    }),
-    rule(17, "large stream: ring", |s, r| {
-        let node = s.large(r)?;
-        ring(s, r, &node)
-    }),
-    rule(17, "small stream: ring", |s, r| {
-        let node = s.small(r)?;
-        ring(s, r, &node)
-    }),
+    rule(17, "large stream: broken off", |s, r| broken(s, r, Sample::large)),
+    rule(17, "small stream: broken off", |s, r| broken(s, r, Sample::small)),
+    rule(17, "large stream: ring", |s, r| ring(s, r, Sample::large)),
+    rule(17, "small stream: ring", |s, r| ring(s, r, Sample::small)),
     rule(17, "large stream: runs into a table sector", into_table),
     rule(17, "large stream: size a unit off", large_size),
     rule(17, "small stream: size a unit off", small_size),
@@ -87,17 +75,22 @@ fn small_longer(s: &mut Sample, r: &mut Random) -> Option<()> {
     Some(())
 }
 
+/// Chooses a stream, if the image has one.
+type Choice = fn(&Sample, &mut Random) -> Option<Node>;
+
 /// One cell is free, or ends the chain too early.
-fn broken(s: &mut Sample, r: &mut Random, node: &Node) -> Option<()> {
+fn broken(s: &mut Sample, r: &mut Random, choice: Choice) -> Option<()> {
+    let node = choice(s, r)?;
     let &at = r.some(&node.units)?;
     let value = if Some(&at) == node.units.last() { FREE } else { r.pick(&[FREE, END]) };
-    s.set_unit(is_large(node), at, value);
+    s.set_unit(is_large(&node), at, value);
     Some(())
 }
 
-fn ring(s: &mut Sample, r: &mut Random, node: &Node) -> Option<()> {
+fn ring(s: &mut Sample, r: &mut Random, choice: Choice) -> Option<()> {
+    let node = choice(s, r)?;
     let back = r.pick(&node.units);
-    s.set_unit(is_large(node), *node.units.last()?, back);
+    s.set_unit(is_large(&node), *node.units.last()?, back);
     Some(())
 }
 

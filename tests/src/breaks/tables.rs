@@ -1,6 +1,6 @@
 //! Group 11: the counts of table sectors, where they lie, and their marks in the FAT.
 
-use super::edit::wrong;
+use super::edit::{put, wrong};
 use super::{Break, rule};
 use crate::images::Sample;
 use crate::number::*;
@@ -39,11 +39,6 @@ pub const BREAKS: &[Break] = &[
     rule(11, "FAT sector without FATSECT", fat_unmarked),
     rule(11, "DIFAT sector without DIFSECT", difat_unmarked),
 ];
-
-fn put(s: &mut Sample, at: usize, value: u32) -> Option<()> {
-    s.put(at, value);
-    Some(())
-}
 
 /// Where the FAT has no cell to spare, one more sector.
 fn too_few_cells(s: &mut Sample, r: &mut Random) -> Option<()> {

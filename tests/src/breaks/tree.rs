@@ -11,7 +11,7 @@ use crate::random::Random;
 pub const BREAKS: &[Break] = &[
     rule(15, "tree: a field names entry 0", |s, r| {
         let at = open_field(s, r)?;
-        link(s, at, 0)
+        put(s, at, 0)
     }),
     rule(15, "tree: a field names no entry", names_outside),
     rule(15, "tree: a field names a blank entry", names_blank),
@@ -29,11 +29,6 @@ pub const BREAKS: &[Break] = &[
     rule(15, "tree: ordered by letters before length", letters_first),
     rule(15, "tree: a-z taken as themselves", unfolded_order),
 ];
-
-fn link(s: &mut Sample, at: usize, value: u32) -> Option<()> {
-    s.put(at, value);
-    Some(())
-}
 
 /// The places of all links that group 15 judges.
 fn fields(s: &Sample) -> Vec<usize> {
@@ -61,19 +56,19 @@ fn used_field(s: &Sample, r: &mut Random) -> Option<usize> {
 fn names_outside(s: &mut Sample, r: &mut Random) -> Option<()> {
     let at = open_field(s, r)?;
     let count = s.layout.entry_count();
-    link(s, at, r.pick(&[count, count + 1, END, 0xFFFF_FFFA, 0x8000_0000, 0x0200_0000, 0x0001_0000]))
+    put(s, at, r.pick(&[count, count + 1, END, 0xFFFF_FFFA, 0x8000_0000, 0x0200_0000, 0x0001_0000]))
 }
 
 fn names_blank(s: &mut Sample, r: &mut Random) -> Option<()> {
     let at = open_field(s, r)?;
     let &blank = r.some(&s.layout.blanks)?;
-    link(s, at, blank)
+    put(s, at, blank)
 }
 
 fn names_twice(s: &mut Sample, r: &mut Random) -> Option<()> {
     let at = open_field(s, r)?;
     let again = s.object(r)?.entry;
-    link(s, at, again)
+    put(s, at, again)
 }
 
 fn names_itself(s: &mut Sample, r: &mut Random) -> Option<()> {
@@ -85,7 +80,7 @@ fn names_itself(s: &mut Sample, r: &mut Random) -> Option<()> {
 
 fn cut_off(s: &mut Sample, r: &mut Random) -> Option<()> {
     let at = used_field(s, r)?;
-    link(s, at, NOSTREAM)
+    put(s, at, NOSTREAM)
 }
 
 /// The field that names this entry.

@@ -1,7 +1,7 @@
-//! Cases on each side of the lines that the papers draw for lengths.
+//! Cases on each side of the lines that the papers draw for lengths, and the papers' own.
 
-use super::Case;
 use super::large::MOST;
+use super::{Case, papers};
 use crate::images::Sample;
 use crate::images::plan::Plan;
 use crate::number::SECTOR;
@@ -23,6 +23,7 @@ pub fn cases() -> Vec<Case> {
         works(&mut cases, image);
     }
     broken_with_short_work(&mut cases, smallest);
+    cases.extend(papers::cases());
     cases
 }
 
@@ -59,5 +60,5 @@ fn broken_with_short_work(cases: &mut Vec<Case>, mut image: Vec<u8>) {
 }
 
 fn case(kind: &str, image: &[u8], work_len: usize, expected: u32) -> Case {
-    Case { kind: kind.into(), image: image.to_vec(), work_len, expected: Some(expected) }
+    Case::new(kind, image.to_vec(), work_len, Some(expected))
 }

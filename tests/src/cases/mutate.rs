@@ -1,7 +1,6 @@
 //! Random changes whose answer is not known beforehand.
 
 use crate::images::Sample;
-use crate::images::places::sector_place;
 use crate::number::*;
 use crate::random::Random;
 

@@ -85,7 +85,7 @@ impl Cases {
 }
 
 /// Mostly exactly enough, often more, sometimes too few.
-fn work_len(needed: usize, r: &mut Random) -> usize {
+pub fn work_len(needed: usize, r: &mut Random) -> usize {
     match r.below(40) {
         0 => 0,
         1 => needed.saturating_sub(1),
@@ -104,7 +104,7 @@ fn case(kind: &str, s: Sample, expected: Option<u32>, r: &mut Random) -> Case {
         true if work_len < needed => Some(2),
         true => expected,
     };
-    Case { kind: kind.to_string(), image: s.image, work_len, expected }
+    Case::new(kind, s.image, work_len, expected)
 }
 
 fn wrong_length(mut s: Sample, r: &mut Random) -> Case {

@@ -1,5 +1,6 @@
-//! Checks of the independent validator itself: the papers' values, and plainer ways to the same answers.
+//! Checks of the independent parts themselves: the papers' values, and plainer ways to the same answers.
 
+mod calls;
 mod plain_owners;
 mod plain_tree;
 
@@ -53,7 +54,7 @@ fn order_of_the_papers() {
         plan.add(0, names::of("between"), None);
         plan.add(2, names::of(b), Some(0));
         let sample = Sample::build(&plan, &mut Random::of(0, 0));
-        let volume = Volume::open(&sample.image).ok().expect("a valid image");
+        let volume = Volume::open(&sample.image).expect("a valid image");
         volume.directory.entry(1).name_order(&volume.directory.entry(3))
     };
     assert_eq!(order("log", "Jets"), Ordering::Less);

@@ -3,10 +3,6 @@
 use super::layout::Layout;
 use crate::number::*;
 
-pub fn sector_place(s: u32) -> usize {
-    (s as usize + 1) * SECTOR
-}
-
 impl Layout {
     /// The FAT's cell of this number, which may lie from N on.
     pub fn cell(&self, s: u32) -> usize {

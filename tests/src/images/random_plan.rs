@@ -23,6 +23,20 @@ pub fn plan(random: &mut Random) -> Plan {
     plan
 }
 
+/// Few objects, a stream among them, and few free units of both kinds: length changes find just enough, or too few.
+pub fn scarce(random: &mut Random) -> Plan {
+    let mut plan = Plan::bare();
+    while plan.objects.iter().all(|object| object.size.is_none()) {
+        plan = free_choices(random);
+        let (most, room) = (random.pick(&[1, 2, 4, 8]), random.pick(&[0, 6 << 10, 12 << 10, 24 << 10]));
+        objects(&mut plan, random, most, room);
+    }
+    plan.free = random.pick(&[0, 1, 2, 5, 7, 8, 9, 10, 16, 24]);
+    plan.spare_minis = random.pick(&[0, 1, 2, 3, 8, 20, 63, 64, 70, 140]);
+    plan.fill = random.pick(&[Fill::Noise, Fill::Noise, Fill::Noise, Fill::Byte(0xFF)]);
+    plan
+}
+
 /// Everything but the objects.
 fn free_choices(random: &mut Random) -> Plan {
     Plan {

@@ -1,7 +1,6 @@
 //! The bytes of a layout.
 
 use super::layout::{Layout, Node};
-use super::places::sector_place;
 use super::plan::Fill;
 use crate::number::*;
 use crate::random::Random;

@@ -36,18 +36,16 @@ pub fn length_allowed(image_len: usize) -> bool {
     image_len.is_multiple_of(SECTOR) && (1_536..=8_388_608).contains(&image_len)
 }
 
-/// 0, or the lowest number that applies: 1, 2, or the first group that the image breaks.
+/// 0, or the lowest number that applies.
 pub fn validate(image: &[u8], work_len: usize) -> u32 {
-    if !length_allowed(image.len()) {
-        return 1;
-    }
-    if work_len < work_needed(image.len()) {
-        return 2;
-    }
-    match Volume::open(image) {
-        Ok(_) => 0,
-        Err(group) => group,
-    }
+    admit(image, work_len).err().unwrap_or(0)
+}
+
+/// The volume of an image, or the lowest number that applies: 1, 2, or the first group that the image breaks.
+pub fn admit(image: &[u8], work_len: usize) -> Result<Volume<'_>, u32> {
+    held(length_allowed(image.len()), 1)?;
+    held(work_len >= work_needed(image.len()), 2)?;
+    Volume::open(image)
 }
 
 impl<'a> Volume<'a> {

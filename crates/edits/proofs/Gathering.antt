@@ -1,0 +1,102 @@
+-- A chain's units listed, and free ones behind them: whether there are enough, and what stands in the work buffer.
+use Prim.Native.Nat.{ℕ, zero, suc, _+_, _*_, _/_, _≤_, _<_, min}
+use mathlib.Core.Path.{_≡_, refl, sym, _∙_, ap, subst}
+use mathlib.Core.Bool.{Bool, true, false, not}
+use mathlib.Core.List.{List, [], _∷_, _++_}
+use native.Mathlib.Omega.{arith}
+use native.Mathlib.Decide.{decLt}
+use lib.Dec.{ltb, eqb}
+use lib.ListN.{length, getD, take}
+use lib.Seq.{take-take, take-append-le, take-all}
+use borrow.Author.Tests.{lt-ltb, le-ltb, eq-eqb, ne-eqb, eqb-true}
+use Rattle.format.specs.Basics.Bytes.{Bytes}
+use Rattle.format.specs.Layout.Chain.{chain, units, startOf, freeBelow}
+use Rattle.format.specs.Layout.Space.{Space, freeUnits}
+use Rattle.format.specs.Rules.Length.{workNeed}
+use Rattle.theory.proofs.Chains.{chain-linked, chain-short, length-units}
+use Rattle.theory.proofs.FreeUnits.{pool-short}
+use Rattle.tables.specs.Work.{Wrote}
+use Rattle.tables.proofs.WorkLaws.{wrote-wider, wrote-two}
+use Rattle.volume.specs.Opened.{Readied}
+use Rattle.volume.specs.declared.Volume.{Volume as Opened}
+use Rattle.volume.proofs.ListsKept.{ready-kept}
+use Rattle.spaces.specs.Spaces.{spaceOf}
+use Rattle.spaces.specs.declared.Kind.{Kind}
+use Rattle.unitlists.proofs.Limits.{limit-room, limit-end}
+use Rattle.edits.specs.Streams.{volumeIn}
+
+-- the first of the first n
+pub first-taken : (w : List ℕ) (n : ℕ) → (n ≡ 0 → ⊥) → n ≤ length w → getD w 0 0 ≡ startOf (take n w)
+first-taken w zero z h = absurd (z refl)
+first-taken [] (suc n) z h = absurd (omega arith)
+first-taken (x ∷ w) (suc n) z h = refl
+
+-- ---- the work buffer
+
+module _ {v : Opened} {img : Bytes} {w : List ℕ} (r : Readied v img w) where
+  -- the lists end within what is ours
+  stream-within : v .stream ≤ workNeed (length img)
+  unfolding workNeed
+  stream-within = omega (arith, r .before, r .lists .before, r .lists .mini .before, r .lists .mini .within)
+
+  -- units of a kind are listed before them
+  pub gathered-wrote : (kind : Kind) (n : ℕ) {w₀ w₁ : List ℕ} → n ≤ spaceOf kind (volumeIn v img) .limit → Wrote w₀ w₁ 0 n → Wrote w₀ w₁ 0 (v .stream)
+  gathered-wrote kind n h q = wrote-wider 0 (v .stream) q (omega arith) (omega (arith, h, limit-room r kind))
+
+  pub gathered-ready : {w₁ : List ℕ} → Wrote w w₁ 0 (v .stream) → Readied v img w₁
+  gathered-ready q = ready-kept q (omega arith) r
+
+  pub gathered-within : {w₁ : List ℕ} → Wrote w w₁ 0 (v .stream) → Wrote w w₁ 0 (workNeed (length img))
+  gathered-within q = wrote-wider 0 (workNeed (length img)) q (omega arith) (omega (arith, stream-within))
+
+  -- ---- a chain of the units of a kind
+
+  module _ (kind : Kind) (old f : ℕ) (c : chain (spaceOf kind (volumeIn v img) .cell) (spaceOf kind (volumeIn v img) .limit) old f ≡ true) where
+    abbrev sp : Space
+    sp = spaceOf kind (volumeIn v img)
+
+    abbrev us : List ℕ
+    us = units (sp .cell) old f
+
+    long : length us ≡ old
+    long = length-units (sp .cell) old f
+
+    pub old-short : old ≤ sp .limit
+    old-short = chain-short (sp .cell) (sp .limit) (limit-end r kind) old f c
+
+    -- own and free units are no more than there are
+    pool : old + length (freeUnits sp) ≤ sp .limit
+    unfolding freeUnits
+    pool = omega (arith, long, pool-short (sp .cell) (sp .limit) (limit-end r kind) us (chain-linked (sp .cell) (sp .limit) old f c .0))
+
+    pub needs-more : (need : ℕ) → sp .limit < need → false ≡ not (ltb (old + length (freeUnits sp)) need)
+    needs-more need h = sym (ap not (lt-ltb (old + length (freeUnits sp)) need (omega (arith, pool))))
+
+    module _ (w₁ : List ℕ) (own : take old w₁ ≡ us) where
+      -- no more than the chain has
+      pub own-enough : (need : ℕ) → need ≤ old → true ≡ not (ltb (old + length (freeUnits sp)) need)
+      own-enough need h = sym (ap not (le-ltb (old + length (freeUnits sp)) need (omega arith)))
+
+      pub own-first : (need : ℕ) → need ≤ old → take need w₁ ≡ take need (us ++ freeUnits sp)
+      own-first need h = sym (take-take need old w₁ h) ∙ ap (take need) own ∙ sym (take-append-le need us (freeUnits sp) (omega (arith, long)))
+
+      -- free ones too
+      module _ (w₂ : List ℕ) (need m : ℕ) (l : old ≤ need) (k : m ≡ min need (old + length (freeUnits sp))) (e : take m w₂ ≡ take need (take old w₁ ++ freeUnits sp)) where
+        pub free-enough : eqb m need ≡ not (ltb (old + length (freeUnits sp)) need)
+        free-enough =
+            elim (decLt (old + length (freeUnits sp)) need) [
+              | yes h ↦ ne-eqb m need (omega (arith, k)) ∙ sym (ap not (lt-ltb (old + length (freeUnits sp)) need h))
+              | no h ↦ eq-eqb m need (omega (arith, k)) ∙ sym (ap not (le-ltb (old + length (freeUnits sp)) need (omega arith)))
+            ]
+
+        listed : take m w₂ ≡ take need (us ++ freeUnits sp)
+        listed = e ∙ ap (λ l. take need (l ++ freeUnits sp)) own
+
+        pub own-still : take old w₂ ≡ us
+        own-still =
+            let z : old ≤ m = omega (arith, k) in
+            sym (take-take old m w₂ z) ∙ ap (take old) listed ∙ take-take old need (us ++ freeUnits sp) l ∙ take-append-le old us (freeUnits sp) (omega (arith, long))
+            ∙ take-all old us (omega (arith, long))
+
+        pub all-listed : eqb m need ≡ true → take need w₂ ≡ take need (us ++ freeUnits sp)
+        all-listed h = subst (λ n. take n w₂ ≡ take need (us ++ freeUnits sp)) (eqb-true m need h) listed

@@ -1,0 +1,67 @@
+-- Changes of length: the answer and the image, by what the find found.
+use Prim.Native.Nat.{ℕ, zero, suc, _+_, _≤_, _<_}
+use mathlib.Core.Path.{_≡_, refl, sym, _∙_, ap, ap₂}
+use mathlib.Core.Logic.{_≢_}
+use mathlib.Core.Bool.{Bool, true, false, cond, _||_}
+use mathlib.Core.List.{[]}
+use native.Mathlib.Omega.{arith}
+use lib.Dec.{ltb, eqb}
+use lib.ListN.{length}
+use borrow.Author.Tests.{eq-eqb, le-ltb}
+use Rattle.format.specs.Basics.Bytes.{Bytes}
+use Rattle.format.specs.Layout.Geometry.{Geometry}
+use Rattle.format.specs.Layout.Need.{miniNeed, sectorNeed}
+use Rattle.format.specs.Layout.Space.{freeUnits}
+use Rattle.format.specs.Layout.Volume.{Volume}
+use Rattle.format.specs.Layout.Stream.{streamSize}
+use Rattle.format.specs.Calls.Paths.{Path}
+use Rattle.format.specs.Calls.Call.{Call, setLength}
+use Rattle.format.specs.Calls.SetLength.{crosses, tooFew, resized}
+use Rattle.format.specs.Calls.Answer.{firstOf, target, targetAnswer, lengthAnswer, answerIn}
+use Rattle.format.specs.Calls.Reply.{onZero}
+use Rattle.format.specs.Calls.Buffers.{edited}
+use Rattle.edits.specs.Images.{imageIn}
+use Rattle.edits.proofs.Streams.{same-uncrossed}
+use Rattle.edits.proofs.Targets.{image-refused, image-done, first-refused}
+
+-- the same length needs no room
+same-enough : (g : Geometry) (s m n : ℕ) → tooFew g s m n n ≡ false
+unfolding tooFew
+same-enough g s m n = rw (le-ltb (sectorNeed g n + s) (sectorNeed g n) (omega arith), le-ltb (miniNeed n + m) (miniNeed n) (omega arith))
+
+same-answer : (g : Geometry) (v : Volume) (n : ℕ) → lengthAnswer g v n n ≡ 0
+unfolding lengthAnswer
+same-answer g v n = rw (same-uncrossed n, same-enough g (length (freeUnits (v .sectors))) (length (freeUnits (v .minis))) n)
+
+module _ (g : Geometry) (v : Volume) (img : Bytes) (path : Path) (new : ℕ) where
+  abbrev call : Call
+  call = setLength path new []
+
+  answer-first : (n : ℕ) → targetAnswer v path ≡ n → n ≢ 0 → answerIn g v call ≡ n
+  unfolding answerIn
+  answer-first n e h = rw e (first-refused n _ h)
+
+  pub length-refused : (n : ℕ) → targetAnswer v path ≡ n → n ≢ 0 → (n ≡ answerIn g v call) × (img ≡ imageIn g v img call)
+  length-refused n e h = let a = answer-first n e h in (sym a, image-refused g v img call n a h)
+
+  module _ (x size : ℕ) (e : (targetAnswer v path ≡ 0) × (target v path ≡ x)) (s : size ≡ streamSize v x) where
+    answer-later : answerIn g v call ≡ lengthAnswer g v size new
+    unfolding answerIn firstOf
+    answer-later = rw (e .0, e .1, s)
+
+    edited-is : edited v img call ≡ resized v img x new
+    unfolding edited
+    edited-is = rw (e .1)
+
+    -- an answer, and the image that it leaves
+    pub length-changed : {r : ℕ} {after : Bytes} → r ≡ lengthAnswer g v size new → after ≡ onZero r (resized v img x new) img → (r ≡ answerIn g v call) × (after ≡ imageIn g v img call)
+    unfolding imageIn
+    length-changed {r} h k = let a : r ≡ answerIn g v call = h ∙ sym answer-later in (a, k ∙ ap₂ (λ n b. onZero n b img) a (sym edited-is))
+
+    pub length-crossed : crosses size new ≡ true → (25 ≡ answerIn g v call) × (img ≡ imageIn g v img call)
+    unfolding lengthAnswer onZero
+    length-crossed h = length-changed (sym (rw h)) refl
+
+    pub length-same : size ≡ new → (0 ≡ answerIn g v call) × (img ≡ imageIn g v img call)
+    unfolding onZero resized
+    length-same z = length-changed (sym (ap (λ n. lengthAnswer g v size n) (sym z) ∙ same-answer g v size)) (sym (rw (eq-eqb new (streamSize v x) (sym z ∙ s))))

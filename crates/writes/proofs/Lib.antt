@@ -1,0 +1,6 @@
+-- Laws for writes.
+pub mod Units
+pub mod Lent
+pub mod Cells
+pub mod Zeroing
+pub mod Putting

@@ -1,0 +1,16 @@
+use borrow.Author.Needs.{needs}
+use Prim.Native.Nat.{_+_}
+use Rattle.writes.proofs.Cells.{next-unit, next-none}
+use Rattle.writes.proofs.next_of.Statement.{statement}
+use Rattle.writes.proofs.next_of.Tie as tie
+
+pub next-of-spec : {M : Type 1} → statement M
+next-of-spec =
+    tie.close
+    (tie.spec
+    (λ c. search needs)  -- add-if1
+    (λ c. search needs)  -- add-result
+    (λ c. search needs)  -- mul-result
+    (λ c. search needs)  -- shared-slice-read-result
+    (λ c. let p = c .before .before in next-unit (p .args .work .now) (p .args .to) (p .args .j + 1) (p .pre .0) (c .before .if1 .taken))  -- returns
+    (λ c. let p = c .before in next-none (p .args .work .now) (p .args .to) (p .args .j + 1) (p .pre .0) (c .if1 .left)))  -- returns-2

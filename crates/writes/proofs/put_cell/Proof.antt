@@ -1,0 +1,14 @@
+use borrow.Author.Needs.{needs}
+use Rattle.format.specs.Calls.SetLength.{putCell}
+use Rattle.writes.proofs.put_cell.Statement.{statement}
+use Rattle.writes.proofs.put_cell.Tie as tie
+
+pub put-cell-spec : {M : Type 1} → statement M
+unfolding putCell
+put-cell-spec =
+    tie.close
+    (tie.spec
+    (λ c κs. search needs)  -- cell-place-requires
+    (λ c κs. search needs)  -- put-u32-requires
+    (λ c. search needs)  -- same-length
+    (λ c. cc))  -- returns

@@ -1,0 +1,2 @@
+-- What a caller of the writes has to know.
+pub mod Writable

@@ -1,0 +1,119 @@
+//! The library's calls, done independently: each takes the image apart anew and answers as the papers say.
+
+pub mod find;
+pub mod list;
+pub mod overwrite;
+pub mod patch;
+pub mod path;
+pub mod read;
+pub mod set_length;
+pub mod siblings;
+pub mod stream;
+
+use crate::volume::{Volume, admit};
+use patch::Patch;
+
+/// A call with its path, numbers and bytes to be written, and the first content of its out buffer.
+#[derive(Clone, PartialEq, Debug)]
+pub enum Call {
+    Validate,
+    Find { path: Vec<u16> },
+    Read { path: Vec<u16>, offset: u64, out: Vec<u8> },
+    List { out: Vec<u8> },
+    Overwrite { path: Vec<u16>, offset: u64, bytes: Vec<u8> },
+    SetLength { path: Vec<u16>, length: u64 },
+}
+
+/// What a call hands back.
+#[derive(Clone, PartialEq, Debug)]
+pub struct Outcome {
+    pub answer: u32,
+    /// Of a find the entry number, kind and size; of a read and a listing the count, and zeros.
+    pub values: [u64; 3],
+    /// The out buffer after the call.
+    pub out: Vec<u8>,
+}
+
+impl Outcome {
+    /// After a refusal all values are 0.
+    pub fn of(result: Result<[u64; 3], u32>, out: Vec<u8>) -> Outcome {
+        Outcome { answer: result.err().unwrap_or(0), values: result.unwrap_or([0; 3]), out }
+    }
+}
+
+impl Call {
+    pub fn name(&self) -> &'static str {
+        match self {
+            Call::Validate => "validate",
+            Call::Find { .. } => "find",
+            Call::Read { .. } => "read",
+            Call::List { .. } => "list",
+            Call::Overwrite { .. } => "overwrite",
+            Call::SetLength { .. } => "set_len",
+        }
+    }
+
+    /// The first content of the out buffer; empty where there is none.
+    pub fn out(&self) -> &[u8] {
+        match self {
+            Call::Read { out, .. } | Call::List { out } => out,
+            _ => &[],
+        }
+    }
+}
+
+/// Every call, with the answers that it has an occasion for.
+pub const ANSWERS: &[(&str, &[u32])] = &[
+    ("validate", &[0, 1, 2, 10, 11, 12, 13, 14, 15, 16, 17, 18]),
+    ("find", &[0, 1, 2, 10, 11, 12, 13, 14, 15, 16, 17, 18, 20, 21, 22]),
+    ("read", &[0, 1, 2, 10, 11, 12, 13, 14, 15, 16, 17, 18, 20, 21, 22, 23, 24]),
+    ("list", &[0, 1, 2, 10, 11, 12, 13, 14, 15, 16, 17, 18, 27]),
+    ("overwrite", &[0, 1, 2, 10, 11, 12, 13, 14, 15, 16, 17, 18, 20, 21, 22, 23, 24]),
+    ("set_len", &[0, 1, 2, 10, 11, 12, 13, 14, 15, 16, 17, 18, 20, 21, 22, 23, 25, 26]),
+];
+
+/// Does the call on an image lent with so long a work buffer.
+pub fn perform(call: &Call, image: &mut [u8], work_len: usize) -> Outcome {
+    let mut out = call.out().to_vec();
+    let result = admit(image, work_len).and_then(|volume| done(call, &volume, &mut out));
+    let result = result.map(|(values, patches)| {
+        patch::apply(image, patches);
+        values
+    });
+    Outcome::of(result, out)
+}
+
+/// The values that the call gives, and what it changes in the image.
+fn done(call: &Call, volume: &Volume, out: &mut [u8]) -> Result<([u64; 3], Vec<Patch>), u32> {
+    let mut values = [0; 3];
+    let mut patches = Vec::new();
+    match call {
+        Call::Validate => {}
+        Call::Find { path } => {
+            let found = find::find(volume, path)?;
+            values = [found.entry as u64, found.kind as u64, found.size];
+        }
+        Call::Read { path, offset, .. } => values[0] = read::read(volume, path, *offset, out)?,
+        Call::List { .. } => values[0] = list::list(volume, out)?,
+        Call::Overwrite { path, offset, bytes } => patches = overwrite::overwrite(volume, path, *offset, bytes)?,
+        Call::SetLength { path, length } => patches = set_length::set_length(volume, path, *length)?,
+    }
+    Ok((values, patches))
+}
+
+/// The call in words, without the bytes.
+impl std::fmt::Display for Call {
+    fn fmt(&self, f: &mut std::fmt::Formatter) -> std::fmt::Result {
+        let text = |path: &[u16]| String::from_utf16_lossy(path);
+        match self {
+            Call::Validate => write!(f, "validate"),
+            Call::Find { path } => write!(f, "find {:?}", text(path)),
+            Call::Read { path, offset, out } => write!(f, "read {:?} from {offset}, out {}", text(path), out.len()),
+            Call::List { out } => write!(f, "list, out {}", out.len()),
+            Call::Overwrite { path, offset, bytes } => {
+                write!(f, "overwrite {:?} from {offset}, {} bytes", text(path), bytes.len())
+            }
+            Call::SetLength { path, length } => write!(f, "set_len {:?} to {length}", text(path)),
+        }
+    }
+}

@@ -1,0 +1,20 @@
+//! The objects of a storage in the order of their names.
+
+use crate::number::NOSTREAM;
+use crate::volume::directory::Directory;
+
+/// The entries in this one, by a walk over the tree that its child field names.
+pub fn within(directory: &Directory, holder: usize) -> Vec<usize> {
+    let mut found = Vec::new();
+    let mut above = Vec::new();
+    let mut at = directory.entry(holder).child();
+    loop {
+        while at != NOSTREAM {
+            above.push(at as usize);
+            at = directory.entry(at as usize).left();
+        }
+        let Some(next) = above.pop() else { return found };
+        found.push(next);
+        at = directory.entry(next).right();
+    }
+}

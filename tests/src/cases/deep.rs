@@ -1,0 +1,91 @@
+//! Large images: storages each inside the one before, whose listing is longer than any buffer; and many streams.
+
+use super::Case;
+use super::large::{MOST, MOST_OBJECTS, many_streams, nested};
+use crate::calls::{Call, list};
+use crate::draw;
+use crate::images::plan::{Fill, Order, Plan};
+use crate::images::{Sample, names};
+use crate::model::{Model, room::need};
+use crate::number::SECTOR;
+use crate::random::Random;
+use crate::volume::{Volume, work_needed};
+use std::rc::Rc;
+
+/// With so many storages the listing is 10 bytes longer than 2^32.
+const JUST_ABOVE: usize = 32_767;
+
+pub fn run(seed: u64, then: &mut dyn FnMut(u64, Case)) {
+    let mut number = 0;
+    let mut next = |case| {
+        then(number, case);
+        number += 1;
+    };
+    for count in [2_000, JUST_ABOVE, MOST_OBJECTS] {
+        let image = Sample::build(&nested(count), &mut Random::of(seed, 0)).image;
+        finds(&image, count).into_iter().chain(lists(&image)).for_each(&mut next);
+    }
+    let mut r = Random::of(seed, 1);
+    for (count, sizes) in [(5_000, [1, 64, 65, 200, 0]), (40, [130_000, 4096, 513, 200_001, 4095])] {
+        streams(count, &sizes, &mut r).into_iter().for_each(&mut next);
+    }
+    fills(&mut r).into_iter().for_each(&mut next);
+}
+
+fn on(image: &[u8], call: Call, expected: u32) -> Case {
+    let work_len = work_needed(image.len());
+    Case { call, ..Case::new("large", image.to_vec(), work_len, Some(expected)) }
+}
+
+/// The deepest storage, and one that is not in it.
+fn finds(image: &[u8], count: usize) -> Vec<Case> {
+    let find = |names: usize, answer| {
+        let path = "STORAGE/".repeat(names);
+        let path = path.trim_end_matches('/').encode_utf16().collect();
+        on(image, Call::Find { path }, answer)
+    };
+    vec![find(count, 0), find(count - 1, 0), find(count + 1, 21), find(2 * count, 21)]
+}
+
+/// Out buffers too short, also one that is long enough if only 32 bits of the listing's length are kept.
+fn lists(image: &[u8]) -> Vec<Case> {
+    let volume = Volume::open(image).expect("a valid image");
+    let need = list::length(&volume, &list::objects(&volume));
+    let mut lengths = vec![(0, 27), (65_536, 27)];
+    match need >> 32 {
+        0 => lengths.extend([(need, 0), (need - 1, 27), (need + 9, 0)]),
+        1 => lengths.extend([(need - (1 << 32), 27), (need - (1 << 32) + 1, 27)]),
+        _ => {}
+    }
+    lengths.into_iter().map(|(len, answer)| on(image, Call::List { out: vec![0x55; len as usize] }, answer)).collect()
+}
+
+fn streams(count: usize, sizes: &[u32], r: &mut Random) -> Vec<Case> {
+    let plan = Plan { fill: Fill::Noise, ..many_streams(count, sizes) };
+    let sample = Sample::build(&plan, r);
+    let model = Rc::new(Model::of(&sample));
+    let case = |_| {
+        let call = draw::call(&model, r);
+        let case = Case::new("large", sample.image.clone(), work_needed(sample.image.len()), None);
+        Case { call, model: Some(model.clone()), ..case }
+    };
+    (0..20).map(case).collect()
+}
+
+/// A stream grown to all free sectors of the largest image, or one more, and cut.
+fn fills(r: &mut Random) -> Vec<Case> {
+    let path = names::of("log");
+    let mut cases = Vec::new();
+    for size in [0, 4_096, 8_000_000] {
+        let mut plan = Plan { fill: Fill::Noise, sectors: Some(MOST), order: Order::Scattered, ..Plan::bare() };
+        plan.add(0, path.clone(), Some(size));
+        let sample = Sample::build(&plan, r);
+        let model = Rc::new(Model::of(&sample));
+        let most = (model.free().sectors + need(size as u64).sectors) * SECTOR as u64;
+        for (length, answer) in [(most, 0), (most + 1, 26), (most - 511, 0), (4_100, 0), (0, 0)] {
+            let case = on(&sample.image, Call::SetLength { path: path.clone(), length }, answer);
+            cases.push(Case { model: Some(model.clone()), ..case });
+        }
+    }
+    cases
+}

@@ -1,0 +1,61 @@
+//! Random calls, most of them close to a line that the papers draw.
+
+mod numbers;
+mod paths;
+
+use crate::calls::Call;
+use crate::model::Model;
+use crate::random::Random;
+
+/// A call on an image that holds these rows.
+pub fn call(model: &Model, r: &mut Random) -> Call {
+    match r.below(32) {
+        0 => Call::Validate,
+        1..5 => Call::Find { path: paths::path(model, r) },
+        5..10 => read(model, r),
+        10..13 => list(model, r),
+        13..20 => overwrite(model, r),
+        _ => set_length(model, r),
+    }
+}
+
+fn read(model: &Model, r: &mut Random) -> Call {
+    let path = paths::path(model, r);
+    let size = size(model, &path, r);
+    let offset = numbers::offset(size, r);
+    let out = numbers::out_len(size.saturating_sub(offset), r);
+    Call::Read { path, offset, out: noise(out, r) }
+}
+
+fn list(model: &Model, r: &mut Random) -> Call {
+    let need = model.listing().len();
+    let out = numbers::out_len(need as u64, r);
+    Call::List { out: noise(out, r) }
+}
+
+fn overwrite(model: &Model, r: &mut Random) -> Call {
+    let path = paths::path(model, r);
+    let size = size(model, &path, r);
+    let offset = numbers::offset(size, r);
+    let count = numbers::write_len(size, offset, r);
+    Call::Overwrite { path, offset, bytes: noise(count, r) }
+}
+
+fn set_length(model: &Model, r: &mut Random) -> Call {
+    let path = paths::path(model, r);
+    let size = size(model, &path, r);
+    let length = numbers::length(size, model.free(), r);
+    Call::SetLength { path, length }
+}
+
+/// The length of the stream at this path, or any where there is none.
+fn size(model: &Model, path: &[u16], r: &mut Random) -> u64 {
+    let meant = model.meant(path).ok().and_then(|row| model.rows[row].bytes.as_ref());
+    meant.map_or_else(|| r.below(5_000) as u64, |bytes| bytes.len() as u64)
+}
+
+fn noise(len: usize, r: &mut Random) -> Vec<u8> {
+    let mut bytes = vec![0; len];
+    r.fill(&mut bytes);
+    bytes
+}

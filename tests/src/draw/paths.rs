@@ -1,0 +1,130 @@
+//! Paths: those that are there, those that nearly are, and those that are badly formed.
+
+use crate::images::names::{self, Alphabet};
+use crate::model::{Model, Row};
+use crate::random::Random;
+
+const SLASH: u16 = b'/' as u16;
+
+pub fn path(model: &Model, r: &mut Random) -> Vec<u16> {
+    match r.below(32) {
+        0..18 => of(&stream(model, r)),
+        18..20 => of(&object(model, r)),
+        20..24 => recased(&of(&stream(model, r)), r),
+        24 => Vec::new(),
+        25..27 => absent(model, r),
+        27 => through_stream(model, r),
+        28 => changed(&of(&object(model, r)), r),
+        _ => badly_formed(model, r),
+    }
+}
+
+/// The names as a path.
+fn of(names: &[Vec<u16>]) -> Vec<u16> {
+    names.join(&SLASH)
+}
+
+/// The names of any object; none where there is nothing but the root.
+fn object(model: &Model, r: &mut Random) -> Vec<Vec<u16>> {
+    of_some(&model.rows[1..], r, |_| true)
+}
+
+fn stream(model: &Model, r: &mut Random) -> Vec<Vec<u16>> {
+    of_some(&model.rows, r, |row| row.bytes.is_some())
+}
+
+/// The root's too.
+fn storage(model: &Model, r: &mut Random) -> Vec<Vec<u16>> {
+    of_some(&model.rows, r, |row| row.bytes.is_none())
+}
+
+fn of_some(rows: &[Row], r: &mut Random, asked: fn(&Row) -> bool) -> Vec<Vec<u16>> {
+    let rows: Vec<&Row> = rows.iter().filter(|&row| asked(row)).collect();
+    r.some(&rows).map(|row| row.path.clone()).unwrap_or_default()
+}
+
+fn name(r: &mut Random) -> Vec<u16> {
+    let alphabet = r.pick(&Alphabet::ALL);
+    names::random(r, alphabet)
+}
+
+/// Letters in the other case, which mean the same.
+fn recased(path: &[u16], r: &mut Random) -> Vec<u16> {
+    let letter = |unit: u16| u8::try_from(unit).is_ok_and(|byte| byte.is_ascii_alphabetic());
+    path.iter().map(|&unit| if letter(unit) && r.one_in(2) { unit ^ 0x20 } else { unit }).collect()
+}
+
+/// One unit a little off: signs and letters outside ASCII too, which have no other case.
+fn changed(path: &[u16], r: &mut Random) -> Vec<u16> {
+    let mut path = path.to_vec();
+    let at = r.index(path.len());
+    if let Some(unit) = path.get_mut(at) {
+        *unit ^= r.pick(&[0x20, 0x20, 0x20, 1, 0x100, 0x8000]);
+    }
+    path
+}
+
+/// A name that is not there: any, one that is there and a unit more or less, on the way or at the end.
+fn absent(model: &Model, r: &mut Random) -> Vec<u16> {
+    let mut names = object(model, r);
+    match r.below(6) {
+        0 => names = [storage(model, r), vec![name(r)]].concat(),
+        1 => names = [storage(model, r), vec![name(r); 40]].concat(),
+        2 => names.insert(r.index(names.len()), name(r)),
+        3 => drop(names.last_mut().map(|last| last.pop())),
+        4 => drop(names.last_mut().map(|last| last.push(b'a' as u16))),
+        _ => names.reverse(),
+    }
+    of(&names)
+}
+
+/// A stream as if it were a storage; what follows may be a name that is there.
+fn through_stream(model: &Model, r: &mut Random) -> Vec<u16> {
+    let mut names = stream(model, r);
+    names.push(name(r));
+    if r.one_in(2) {
+        names.extend(object(model, r));
+    }
+    of(&names)
+}
+
+/// Names are there or not: the path is judged as a whole before any is looked up.
+fn badly_formed(model: &Model, r: &mut Random) -> Vec<u16> {
+    let mut path = match r.below(4) {
+        0 => absent(model, r),
+        1 => through_stream(model, r),
+        _ => of(&object(model, r)),
+    };
+    match r.below(8) {
+        0 => path.insert(0, SLASH),
+        1 => path.push(SLASH),
+        2 => path = vec![SLASH; r.between(1, 3) as usize],
+        3 => double_slash(&mut path, r),
+        4 => path = of(&long_name(model, r)),
+        5 => path.push(r.pick(&[0, 0x5C, 0x3A])),
+        6 => path.insert(r.index(path.len() + 1), r.pick(&[0, 0x5C, 0x3A, SLASH])),
+        // Only the halves of these units are refused ones: the path stays well formed, if it was.
+        _ => path.insert(r.index(path.len() + 1), r.pick(&[0x2F00, 0x012F, 0x5C00, 0x015C, 0x3A00, 0x013A, 0x0100])),
+    }
+    path
+}
+
+fn double_slash(path: &mut Vec<u16>, r: &mut Random) {
+    let slashes: Vec<usize> = (0..path.len()).filter(|&at| path[at] == SLASH).collect();
+    match r.some(&slashes) {
+        Some(&at) => path.insert(at, SLASH),
+        None => path.extend([SLASH, SLASH, 0x41]),
+    }
+}
+
+/// A name of 31 units or more, on the way or at the end; its front is a name that is there.
+fn long_name(model: &Model, r: &mut Random) -> Vec<Vec<u16>> {
+    let mut names = object(model, r);
+    let units = r.pick(&[31, 32, 32, 32, 33, 64, 287]);
+    let at = r.index(names.len());
+    match names.get_mut(at) {
+        Some(name) => name.resize(units, 0x61),
+        None => names.push(vec![0x61; units]),
+    }
+    names
+}

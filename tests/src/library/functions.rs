@@ -1,0 +1,113 @@
+//! The library's C interface.
+
+use crate::calls::Call;
+
+#[link(name = "cfb_c", kind = "static")]
+unsafe extern "C" {
+    fn cfb_validate(image: *const u8, image_len: usize, work: *mut u32, work_len: usize) -> u32;
+    fn cfb_find(
+        image: *const u8,
+        image_len: usize,
+        work: *mut u32,
+        work_len: usize,
+        path: *const u16,
+        path_len: usize,
+        entry: *mut u32,
+        kind: *mut u32,
+        size: *mut u64,
+    ) -> u32;
+    fn cfb_read(
+        image: *const u8,
+        image_len: usize,
+        work: *mut u32,
+        work_len: usize,
+        path: *const u16,
+        path_len: usize,
+        offset: u64,
+        out: *mut u8,
+        out_len: usize,
+        count: *mut u64,
+    ) -> u32;
+    fn cfb_list(
+        image: *const u8,
+        image_len: usize,
+        work: *mut u32,
+        work_len: usize,
+        out: *mut u8,
+        out_len: usize,
+        count: *mut u64,
+    ) -> u32;
+}
+
+#[cfg(feature = "edits")]
+unsafe extern "C" {
+    fn cfb_overwrite(
+        image: *mut u8,
+        image_len: usize,
+        work: *mut u32,
+        work_len: usize,
+        path: *const u16,
+        path_len: usize,
+        offset: u64,
+        bytes: *const u8,
+        bytes_len: usize,
+    ) -> u32;
+    fn cfb_set_len(
+        image: *mut u8,
+        image_len: usize,
+        work: *mut u32,
+        work_len: usize,
+        path: *const u16,
+        path_len: usize,
+        new_len: u64,
+    ) -> u32;
+}
+
+/// What stands in the outputs before a call.
+const NOISE: u64 = 0xA5A5_A5A5_A5A5_A5A5;
+
+/// The library's answer for an image that it may not change.
+pub fn validate(image: &[u8], work: &mut [u32]) -> u32 {
+    // A slice's pointer is not null, aligned, and good for its length.
+    unsafe { cfb_validate(image.as_ptr(), image.len(), work.as_mut_ptr(), work.len()) }
+}
+
+/// The library's answer, and the values that it wrote; None for a function that is not linked. The out buffer is the one
+/// lent here, not the call's own.
+pub fn call(call: &Call, image: &mut [u8], work: &mut [u32], out: &mut [u8]) -> Option<(u32, [u64; 3])> {
+    let (image, image_len) = (image.as_mut_ptr(), image.len());
+    let (work, work_len) = (work.as_mut_ptr(), work.len());
+    let (out, out_len) = (out.as_mut_ptr(), out.len());
+    let (mut entry, mut kind, mut size, mut count) = (NOISE as u32, NOISE as u32, NOISE, NOISE);
+    // A slice's pointer is not null, aligned, and good for its length.
+    let answer = match call {
+        Call::Validate => unsafe { cfb_validate(image, image_len, work, work_len) },
+        Call::Find { path } => unsafe {
+            let (path, path_len) = (path.as_ptr(), path.len());
+            cfb_find(image, image_len, work, work_len, path, path_len, &mut entry, &mut kind, &mut size)
+        },
+        Call::Read { path, offset, .. } => unsafe {
+            let (path, path_len) = (path.as_ptr(), path.len());
+            cfb_read(image, image_len, work, work_len, path, path_len, *offset, out, out_len, &mut count)
+        },
+        Call::List { .. } => unsafe { cfb_list(image, image_len, work, work_len, out, out_len, &mut count) },
+        #[cfg(feature = "edits")]
+        Call::Overwrite { path, offset, bytes } => unsafe {
+            let (path, path_len) = (path.as_ptr(), path.len());
+            let (bytes, bytes_len) = (bytes.as_ptr(), bytes.len());
+            cfb_overwrite(image, image_len, work, work_len, path, path_len, *offset, bytes, bytes_len)
+        },
+        #[cfg(feature = "edits")]
+        Call::SetLength { path, length } => unsafe {
+            cfb_set_len(image, image_len, work, work_len, path.as_ptr(), path.len(), *length)
+        },
+        #[cfg(not(feature = "edits"))]
+        Call::Overwrite { .. } | Call::SetLength { .. } => return None,
+    };
+    let values = match call {
+        Call::Find { .. } => [entry as u64, kind as u64, size],
+        Call::Read { .. } | Call::List { .. } => [count, 0, 0],
+        _ => [0; 3],
+    };
+    Some((answer, values))
+}

@@ -1,0 +1,39 @@
+//! Edits of the rows: accepted or refused by the rows alone.
+
+use super::Model;
+use super::room::need;
+use crate::number::CUTOFF;
+
+impl Model {
+    /// Puts the bytes into the row from the offset on.
+    pub fn overwrite(&mut self, path: &[u16], offset: u64, bytes: &[u8]) -> Result<[u64; 3], u32> {
+        let row = self.stream_mut(path)?;
+        let room = (row.len() as u64).checked_sub(offset).ok_or(24u32)?;
+        if bytes.len() as u64 > room {
+            return Err(24);
+        }
+        row[offset as usize..][..bytes.len()].copy_from_slice(bytes);
+        Ok([0; 3])
+    }
+
+    /// Cuts the row at the new length, or adds zero bytes up to it.
+    pub fn set_length(&mut self, path: &[u16], new: u64) -> Result<[u64; 3], u32> {
+        let free = self.free();
+        let row = self.stream_mut(path)?;
+        let old = row.len() as u64;
+        if old != 0 && new != 0 && (old < CUTOFF) != (new < CUTOFF) {
+            return Err(25);
+        }
+        let (before, after) = (need(old), need(new));
+        if after.sectors > before.sectors + free.sectors || after.minis > before.minis + free.minis {
+            return Err(26);
+        }
+        row.resize(new as usize, 0);
+        Ok([0; 3])
+    }
+
+    fn stream_mut(&mut self, path: &[u16]) -> Result<&mut Vec<u8>, u32> {
+        let row = self.meant(path)?;
+        self.rows[row].bytes.as_mut().ok_or(23)
+    }
+}

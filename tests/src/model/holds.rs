@@ -1,0 +1,44 @@
+//! Whether an image is what the rows say.
+
+use super::Model;
+use super::room::Units;
+use crate::calls::{list, stream::Stream};
+use crate::number::FREE;
+use crate::volume::Volume;
+use crate::volume::chains::Chains;
+
+impl Model {
+    /// The image is valid, has exactly the rows' paths and bytes, and as many units are taken as the rows need.
+    pub fn holds_of(&self, image: &[u8]) -> Result<(), String> {
+        let volume = Volume::open(image).map_err(|group| format!("image broken in group {group}"))?;
+        let taken = Units { sectors: taken(&volume.sectors), minis: taken(&volume.mini.chains) };
+        if taken != self.taken() {
+            return Err(format!("taken {taken:?}, by the rows {:?}", self.taken()));
+        }
+        let (listed, rows) = (list::objects(&volume), self.in_order());
+        if listed.len() != rows.len() {
+            return Err(format!("{} objects, by the rows {}", listed.len(), rows.len()));
+        }
+        for (i, row) in rows.into_iter().enumerate() {
+            let path = list::names(&volume, &listed, i);
+            if path != row.path || bytes(&volume, listed[i].entry) != row.bytes {
+                return Err(format!("object {i} of the listing is not its row"));
+            }
+        }
+        Ok(())
+    }
+}
+
+/// A unit is taken if its cell is not free.
+fn taken(chains: &Chains) -> u64 {
+    chains.cells.iter().filter(|&&cell| cell != FREE).count() as u64
+}
+
+/// None for a storage.
+fn bytes(volume: &Volume, entry: usize) -> Option<Vec<u8>> {
+    let is_stream = volume.directory.entry(entry).kind() == crate::volume::entry::STREAM;
+    is_stream.then(|| {
+        let stream = Stream::of(volume, entry);
+        stream.bytes(volume.image, 0, stream.size)
+    })
+}

@@ -1,0 +1,132 @@
+//! What the papers say of calls, worked out from the first image's layout and the calls alone: one row for each object,
+//! a stream's with its bytes. Nothing here looks at an image after the first.
+
+mod edits;
+mod holds;
+mod lines;
+pub mod room;
+
+use crate::calls::{Call, Outcome};
+use crate::images::Sample;
+use crate::images::layout::Node;
+use crate::images::names;
+use crate::images::write::is_large;
+use crate::number::*;
+
+#[derive(Clone)]
+pub struct Row {
+    /// The names from below the root down to the object, as they are spelled.
+    pub path: Vec<Vec<u16>>,
+    /// The same as they are compared.
+    key: Vec<(usize, Vec<u16>)>,
+    entry: u32,
+    /// None for a storage and the root.
+    pub bytes: Option<Vec<u8>>,
+}
+
+#[derive(Clone)]
+pub struct Model {
+    /// The root first.
+    pub rows: Vec<Row>,
+    /// N, K, and the sectors of FAT, DIFAT, directory, mini FAT and mini stream.
+    sectors: u64,
+    minis: u64,
+    fixed: u64,
+}
+
+impl Model {
+    pub fn of(sample: &Sample) -> Model {
+        let layout = &sample.layout;
+        let minis = gather(&sample.image, &layout.mini_stream);
+        let mut rows: Vec<Row> = Vec::with_capacity(layout.nodes.len());
+        for node in &layout.nodes {
+            let mut path = if node.entry == 0 { Vec::new() } else { rows[node.parent].path.clone() };
+            if node.entry != 0 {
+                path.push(node.name.clone());
+            }
+            let key = path.iter().map(|name| names::key(name)).collect();
+            rows.push(Row { path, key, entry: node.entry, bytes: first_bytes(&sample.image, &minis, node) });
+        }
+        let system = [&layout.fat, &layout.difat, &layout.directory, &layout.mini_fat, &layout.mini_stream];
+        let fixed = system.into_iter().map(|part| part.len() as u64).sum();
+        Model { rows, sectors: layout.sectors as u64, minis: layout.minis as u64, fixed }
+    }
+
+    /// What the call hands back, on an image that is valid.
+    pub fn perform(&mut self, call: &Call, work_len: usize) -> Outcome {
+        let mut out = call.out().to_vec();
+        let needed = 13 * (self.sectors + 1);
+        let result = if (work_len as u64) < needed { Err(2) } else { self.done(call, &mut out) };
+        Outcome::of(result, out)
+    }
+
+    fn done(&mut self, call: &Call, out: &mut [u8]) -> Result<[u64; 3], u32> {
+        match call {
+            Call::Validate => Ok([0; 3]),
+            Call::Find { path } => self.meant(path).map(|row| self.found(row)),
+            Call::Read { path, offset, .. } => {
+                let stream = self.stream(path)?;
+                let rest = stream.get(usize::try_from(*offset).unwrap_or(usize::MAX)..).ok_or(24u32)?;
+                Ok([put(out, &rest[..rest.len().min(out.len())]), 0, 0])
+            }
+            Call::List { .. } => {
+                let text = self.listing();
+                if text.len() > out.len() { Err(27) } else { Ok([put(out, &text), 0, 0]) }
+            }
+            Call::Overwrite { path, offset, bytes } => self.overwrite(path, *offset, bytes),
+            Call::SetLength { path, length } => self.set_length(path, *length),
+        }
+    }
+
+    /// The row that a path means. Of the names that fail the first one decides.
+    pub fn meant(&self, path: &[u16]) -> Result<usize, u32> {
+        let names: Vec<&[u16]> =
+            if path.is_empty() { Vec::new() } else { path.split(|&unit| unit == b'/' as u16).collect() };
+        if names.iter().any(|name| !(1..=31).contains(&name.len()) || name.iter().any(|&unit| names::refused(unit))) {
+            return Err(20);
+        }
+        let key: Vec<_> = names.into_iter().map(names::key).collect();
+        for count in 1..=key.len() {
+            let row = self.row(&key[..count]).ok_or(21u32)?;
+            if count < key.len() && self.rows[row].bytes.is_some() {
+                return Err(22);
+            }
+        }
+        Ok(self.row(&key).expect("every name was found"))
+    }
+
+    fn row(&self, key: &[(usize, Vec<u16>)]) -> Option<usize> {
+        self.rows.iter().position(|row| row.key == key)
+    }
+
+    /// The bytes of the stream that a path means.
+    fn stream(&self, path: &[u16]) -> Result<&Vec<u8>, u32> {
+        self.rows[self.meant(path)?].bytes.as_ref().ok_or(23)
+    }
+
+    fn found(&self, row: usize) -> [u64; 3] {
+        let (entry, path) = (self.rows[row].entry as u64, &self.rows[row].path);
+        match &self.rows[row].bytes {
+            Some(bytes) => [entry, 2, bytes.len() as u64],
+            None if path.is_empty() => [entry, 5, self.minis * MINI_SECTOR],
+            None => [entry, 1, 0],
+        }
+    }
+}
+
+/// Puts bytes at the front of the out buffer, and counts them.
+fn put(out: &mut [u8], bytes: &[u8]) -> u64 {
+    out[..bytes.len()].copy_from_slice(bytes);
+    bytes.len() as u64
+}
+
+/// The first size bytes of a stream's sectors or mini sectors, laid end to end.
+fn first_bytes(image: &[u8], minis: &[u8], node: &Node) -> Option<Vec<u8>> {
+    let size = node.size? as usize;
+    let mut bytes = match is_large(node) {
+        true => gather(image, &node.units),
+        false => node.units.iter().flat_map(|&m| &minis[m as usize * 64..][..64]).copied().collect(),
+    };
+    bytes.truncate(size);
+    Some(bytes)
+}
