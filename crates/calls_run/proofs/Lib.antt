@@ -1,0 +1,2 @@
+-- Laws for the program.
+pub mod Parts

@@ -1,0 +1,242 @@
+// Runs calls on images, and prints what each call gives and leaves. Standard input holds groups: an image behind its length and the number of
+// its calls, and then those calls; the image goes from call to call. `tools/calls_cases.py` writes them and says how a call is laid out.
+ghost use Prim.Native.Nat.{_≤_};
+use cfb::find;
+use cfb::list;
+use cfb::read;
+use cfb::validate;
+use kinds::Answer;
+use kinds::number;
+use le::u16_at;
+use le::u32_at;
+use le::u64_at;
+use queries::find::Find;
+use queries::list::List;
+use queries::read::Read;
+
+// ---- what a call gives
+
+struct Values {
+    number: u32,
+    entry: u32,
+    kind: u8,
+    size: u64,
+    count: usize,
+}
+
+fn plain(a: Answer) -> Values {
+    Values {
+        number: number(a),
+        entry: 0,
+        kind: 0,
+        size: 0,
+        count: 0,
+    }
+}
+
+fn counted(n: usize) -> Values {
+    Values {
+        number: 0,
+        entry: 0,
+        kind: 0,
+        size: 0,
+        count: n,
+    }
+}
+
+fn found(f: Find) -> Values {
+    match f {
+        Find::Entry(e) => {
+            let x = e.id;
+            Values {
+                number: 0,
+                entry: x.0,
+                kind: e.kind,
+                size: e.size,
+                count: 0,
+            }
+        }
+        Find::Refused(a) => plain(a),
+    }
+}
+
+fn copied(r: Read) -> Values {
+    match r {
+        Read::Done(n) => counted(n),
+        Read::Refused(a) => plain(a),
+    }
+}
+
+fn listed(r: List) -> Values {
+    match r {
+        List::Done(n) => counted(n),
+        List::Refused(a) => plain(a),
+    }
+}
+
+// The call of a kind: 0 validates, 1 finds, 2 reads, 3 lists.
+fn answer(
+    kind: u32,
+    image: &mut [u8],
+    work: &mut [u32],
+    path: &[u16],
+    place: u64,
+    bytes: &mut [u8],
+) -> Values {
+    match kind {
+        0 => plain(validate(image, work)),
+        1 => found(find(image, work, path)),
+        2 => copied(read(image, work, path, place, bytes)),
+        _ => listed(list(image, work, bytes)),
+    }
+}
+
+// ---- printing
+
+// A number that each byte has a part in.
+fn digest(b: &[u8]) -> u64 {
+    let mut h: u64 = 1;
+    let mut i = 0;
+    while i < b.len() {
+        h = (h * 16777619 + b[i] as u64) % 4294967296;
+        i += 1;
+    }
+    h
+}
+
+// How many numbers are 0.
+fn zeros(work: &[u32]) -> usize {
+    let mut n = 0;
+    let mut i = 0;
+    while i < work.len() {
+        if work[i] == 0 {
+            n += 1;
+        }
+        i += 1;
+    }
+    n
+}
+
+fn print_next(n: u64) {
+    io::write_all(1, b" ");
+    io::print_decimal(1, n);
+}
+
+fn print_values(v: Values) {
+    io::print_decimal(1, v.number as u64);
+    print_next(v.entry as u64);
+    print_next(v.kind as u64);
+    print_next(v.size);
+    print_next(v.count as u64);
+}
+
+// ---- reading
+
+// A length of the input, cut to what there is room for.
+fn within(n: u32, most: usize) -> usize
+    ensures { λ r. ⌜ r ≤ most ⌝ }
+{
+    let k = n as usize;
+    if k < most {
+        return k;
+    }
+    most
+}
+
+// Reads the units of a path; says whether they were there.
+fn read_path(path: &mut [u16]) -> bool {
+    let mut unit = [0u8; 2];
+    let mut i = 0;
+    while i < path.len() {
+        if io::read_full(0, &mut unit) < 2 {
+            return false;
+        }
+        path[i] = u16_at(&unit, 0);
+        i += 1;
+    }
+    true
+}
+
+// ---- a call: its head, its path, its bytes, and then the call
+
+// Makes the call on the buffers that are lent, and prints its line.
+fn run(
+    head: &[u8; 28],
+    image: &mut [u8],
+    work: &mut [u32],
+    path: &[u16],
+    bytes: &mut [u8],
+) -> bool {
+    let kind = u32_at(head, 0);
+    print_values(answer(kind, image, work, path, u64_at(head, 20), bytes));
+    print_next(zeros(work) as u64);
+    print_next(digest(bytes));
+    print_next(digest(image));
+    io::write_all(1, b"\n")
+}
+
+// Reads the bytes that are given. The work buffer is all 7 before the call.
+fn with_bytes(head: &[u8; 28], image: &mut [u8], path: &[u16], bytes: &mut [u8]) -> bool {
+    let given = within(u32_at(head, 16), bytes.len());
+    if io::read_full(0, &mut bytes[..given]) < given {
+        return false;
+    }
+    let numbers = within(u32_at(head, 8), 2048);
+    let mut work = [7u32; 2048];
+    run(head, image, &mut work[..numbers], path, bytes)
+}
+
+// Reads the path. The bytes that are not given are 90.
+fn with_path(head: &[u8; 28], image: &mut [u8], path: &mut [u16]) -> bool {
+    if !read_path(path) {
+        return false;
+    }
+    let room = within(u32_at(head, 12), 8192);
+    let mut bytes = [90u8; 8192];
+    with_bytes(head, image, path, &mut bytes[..room])
+}
+
+// One call; says whether there was one.
+fn call(image: &mut [u8]) -> bool {
+    let mut head = [0u8; 28];
+    if io::read_full(0, &mut head) < 28 {
+        return false;
+    }
+    let units = within(u32_at(&head, 4), 256);
+    let mut path = [0u16; 256];
+    with_path(&head, image, &mut path[..units])
+}
+
+// Reads an image, and makes so many calls on it; says whether they were there.
+fn calls(image: &mut [u8], count: u32) -> bool {
+    if io::read_full(0, image) < image.len() {
+        return false;
+    }
+    let mut i = 0;
+    while i < count {
+        if !call(image) {
+            return false;
+        }
+        i += 1;
+    }
+    true
+}
+
+// One image and its calls; says whether there was one.
+fn group() -> bool {
+    let mut head = [0u8; 8];
+    if io::read_full(0, &mut head) < 8 {
+        return false;
+    }
+    let n = within(u32_at(&head, 0), 65536);
+    let mut image = io::large_buffer();
+    calls(&mut image[..n], u32_at(&head, 4))
+}
+
+// A proved loop has to end: no run uses up the turns.
+fn main() {
+    let mut turns: u32 = 1000000;
+    while 0 < turns && group() {
+        turns -= 1;
+    }
+}

@@ -1,0 +1,3 @@
+-- Laws for the lister.
+pub mod Refused
+pub mod Output

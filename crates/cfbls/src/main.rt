@@ -1,0 +1,68 @@
+// Lists the compound file on standard input: a line for each object, or `refused` and the number of the answer.
+ghost use mathlib.Core.Path.{_≡_};
+ghost use Prim.Native.Nat.{_≤_};
+ghost use lib.ListN.{length, take};
+ghost use Rattle.format.specs.Layout.Geometry.{version3};
+ghost use Rattle.format.specs.Rules.Length.{workNeed};
+ghost use Rattle.format.specs.Calls.Read.{over};
+ghost use Rattle.format.specs.Calls.Program.{programCapacity, refusedLine, programOutput};
+ghost use Rattle.kinds.specs.Numbers.{numberOf};
+ghost use Rattle.cfbls.specs.Line.{refusedWord};
+use cfb::list;
+use kinds::Answer;
+use kinds::number;
+use queries::list::List;
+use text::put_decimal;
+
+// Writes the word of a refusal and the space behind it.
+fn put_word(out: &mut [u8])
+    requires { ⌜ 8 ≤ length (now out) ⌝ }
+    ensures { λ _. ⌜ now (out .exit) ≡ over refusedWord (now (out .entry)) ⌝ }
+{
+    out[0] = 0x72;
+    out[1] = 0x65;
+    out[2] = 0x66;
+    out[3] = 0x75;
+    out[4] = 0x73;
+    out[5] = 0x65;
+    out[6] = 0x64;
+    out[7] = 0x20;
+}
+
+// Writes the line of a refusal, and returns how many bytes it takes.
+fn put_refused(out: &mut [u8], a: Answer) -> usize
+    requires { ⌜ 29 ≤ length (now out) ⌝ }
+    ensures { λ r. ⌜ r ≡ length (refusedLine (numberOf a)) ⌝ }
+    ensures { λ _. ⌜ now (out .exit) ≡ over (refusedLine (numberOf a)) (now (out .entry)) ⌝ }
+{
+    put_word(out);
+    let n = put_decimal(&mut out[8..], number(a) as u64);
+    out[8 + n] = 0x0A;
+    8 + n + 1
+}
+
+// Puts what the program writes for an input at the front of the out buffer, and returns how many bytes it is.
+fn report(input: &[u8], work: &mut [u32], out: &mut [u8]) -> usize
+    requires { ⌜ length (now work) ≡ workNeed programCapacity ⌝ }
+    requires { ⌜ length (now out) ≡ programCapacity ⌝ }
+    ensures { λ r. ⌜ r ≤ length (now (out .exit)) ⌝ }
+    ensures { λ r. ⌜ take r (now (out .exit)) ≡ programOutput version3 (now (input .entry)) ⌝ }
+{
+    if 65536 < input.len() {
+        return put_refused(out, Answer::BadLength);
+    }
+    match list(input, work, out) {
+        List::Done(n) => n,
+        List::Refused(a) => put_refused(out, a),
+    }
+}
+
+// One byte more than the program takes is read, and no further one: by then it is known that there are too many.
+fn main() {
+    let mut input = [0u8; 65537];
+    let n = io::read_full(0, &mut input);
+    let mut work = [0u32; 1664];
+    let mut out = io::large_buffer();
+    let k = report(&input[..n], &mut work, &mut out);
+    io::write_all(1, &out[..k]);
+}

@@ -1,0 +1,108 @@
+"""Images built from a plan, a tree of objects with their bytes; what a call on the image must give is read off the plan.
+
+A storage is a dict from names to objects, a stream is its bytes."""
+import random
+from images import END, NONE, entry, root, volume
+
+
+def order(name):
+    """The order of siblings (01, group 15): by units, then unit by unit with a-z taken as A-Z."""
+    units = name.encode("utf-16-le")
+    units = [units[i] + 256 * units[i + 1] for i in range(0, len(units), 2)]
+    return len(units), [u - 32 if 97 <= u <= 122 else u for u in units]
+
+
+def printed(name):
+    units = name.encode("utf-16-le")
+    units = [units[i] + 256 * units[i + 1] for i in range(0, len(units), 2)]
+    return "".join(chr(u) if 0x20 <= u <= 0x7E else "\\%04X" % u for u in units)
+
+
+class Plan:
+    """The image of a tree: `entries` gives a path's entry number, `streams` a stream's bytes, `storages` the paths of storages.
+
+    Units are dealt out in an order that the seed shuffles, so that chains wander; `free` and `free_minis` units are left over."""
+
+    def __init__(self, tree, free=0, free_minis=0, seed=1):
+        self.entries, self.streams, self.storages, self.lines = {"": 0}, {}, [], []
+        self.number(tree, "")
+        self.mix = random.Random(seed)
+        self.image = self.laid(tree, free, free_minis)
+        self.walk(tree, "")
+        self.listing = ("objects %d\n" % (len(self.entries) - 1) + "".join(l + "\n" for l in self.lines)).encode()
+
+    # ---- the plan
+
+    def number(self, tree, before):
+        """Entries in the order of the plan, a storage's objects behind it."""
+        for name, what in tree.items():
+            path = before + name
+            self.entries[path] = len(self.entries)
+            if isinstance(what, dict):
+                self.storages.append(path)
+                self.number(what, path + "/")
+            else:
+                self.streams[path] = what
+
+    def walk(self, tree, before):
+        """The lines of the listing: siblings in order, each storage followed at once by all that is below it."""
+        for name in sorted(tree, key=order):
+            path, what = before + name, tree[name]
+            shown = "/".join(printed(n) for n in path.split("/"))
+            self.lines.append("D 0 " + shown if isinstance(what, dict) else "F %d %s" % (len(what), shown))
+            if isinstance(what, dict):
+                self.walk(what, path + "/")
+
+    # ---- the image
+
+    def laid(self, tree, free, free_minis):
+        small = {p: b for p, b in self.streams.items() if 0 < len(b) < 4096}
+        large = {p: b for p, b in self.streams.items() if 4096 <= len(b)}
+        minis = list(range(sum(-(-len(b) // 64) for b in small.values()) + free_minis))
+        size = 64 * len(minis)
+        counts = [-(-len(self.entries) // 4), -(-len(minis) // 128), -(-size // 512)] + [-(-len(b) // 512) for b in large.values()]
+        sectors = list(range(1, 1 + sum(counts) + free))
+        total = 1 + len(sectors)
+        self.mix.shuffle(sectors)
+        self.mix.shuffle(minis)
+        chains = [[sectors.pop() for _ in range(n)] for n in counts]
+        chain_of = dict(zip(large, chains[3:]))
+        mini_of = {p: [minis.pop() for _ in range(-(-len(b) // 64))] for p, b in small.items()}
+        cells = [0xFFFFFFFF] * (size // 64)
+        for c in mini_of.values():
+            for m, t in zip(c, c[1:] + [END]):
+                cells[m] = t
+        starts = {p: c[0] for p, c in list(chain_of.items()) + list(mini_of.items())}
+        directory, mini_fat, mini_stream = chains[:3]
+        img = volume(total, directory, [c for c in [mini_stream] + list(chain_of.values()) if c], self.rows(tree, mini_stream, size, starts), mini_fat, cells)
+        pool = bytearray(512 * len(mini_stream))
+        for p, c in mini_of.items():
+            for i, m in enumerate(c):
+                part = small[p][64 * i:64 * (i + 1)]
+                pool[64 * m:64 * m + len(part)] = part
+        for data, chain in [(bytes(pool), mini_stream)] + [(large[p], c) for p, c in chain_of.items()]:
+            for i, s in enumerate(chain):
+                part = data[512 * i:512 * (i + 1)]
+                img = img[:512 * (s + 1)] + part + img[512 * (s + 1) + len(part):]
+        return img
+
+    def rows(self, tree, mini_stream, size, starts):
+        rows = [None] * len(self.entries)
+        self.root = rows[0] = root(self.tops(tree, "", rows, starts), mini_stream[0] if mini_stream else END, size)
+        return rows
+
+    def tops(self, tree, before, rows, starts):
+        """Writes the entries of a storage's objects as a balanced tree, all black, and says which is its top."""
+        def top(names):
+            if not names:
+                return NONE
+            k = len(names) // 2
+            path, what = before + names[k], tree[names[k]]
+            left, right = top(names[:k]), top(names[k + 1:])
+            if isinstance(what, dict):
+                e = entry(names[k], 1, left=left, right=right, child=self.tops(what, path + "/", rows, starts))
+            else:
+                e = entry(names[k], 2, left=left, right=right, start=starts.get(path, END), size=len(what))
+            rows[self.entries[path]] = e
+            return self.entries[path]
+        return top(sorted(tree, key=order))
