@@ -38,7 +38,7 @@ pub fn validate(image: &[u8], work: &mut [u32]) -> Answer
     ensures { λ _. ⌜ now (work .exit) ≡ workAfter version3 (now (image .entry)) (validateCall (now (work .entry))) ⌝ }
 {
     match open_volume(image, work) {
-        Opened::Refused(a) => a,
+        Opened::Refused(answer) => answer,
         Opened::Ready(_) => {
             clear(image, work);
             Answer::Done

@@ -103,11 +103,7 @@ pub fn mini_place(img: &[u8], work: &[u32], v: Volume, m: MiniSector) -> usize
     requires { ⌜ m .0 < miniSpace (geometryOf (v .tables .geometry)) (now img) .limit ⌝ }
     ensures { λ r. ⌜ r ≡ miniSpace (geometryOf (v .tables .geometry)) (now (img .entry)) .unitPlace (m .0) ⌝ }
 {
-    let t = v.tables;
-    let g = t.geometry;
-    let list = v.stream;
-    let i = 64 * m.index();
-    Sector(work[list + i / g.bytes]).place(g) + i % g.bytes
+    listed_place(work, v.tables.geometry, v.stream, 64 * m.index())
 }
 
 // ---- cells
