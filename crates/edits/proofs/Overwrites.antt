@@ -110,7 +110,7 @@ module _ {v : Opened} {img : Bytes} {w : List ℕ} (o : Open v img w) {e : Objec
     pub over-room : (offset m : ℕ) → offset + m ≤ e .size → offset + m ≤ n * listedSpace v w₁ (kindFor (e .size)) .unit
     over-room offset m h =
         let sp = spaceOf (kindFor (e .size)) (volumeIn v img) in
-        rw (unit-same r (kindFor (e .size)), many) (omega (arith, h, round-enough (e .size) (sp .unit) (units-stand r (kindFor (e .size)) .some)))
+        rw (unit-same r (kindFor (e .size)) w₁, many) (omega (arith, h, round-enough (e .size) (sp .unit) (units-stand r (kindFor (e .size)) .some)))
 
     pub over-written : (offset : ℕ) (bytes : Bytes) → offset + length bytes ≤ e .size
         → putChain (listedSpace v w₁ (kindFor (e .size))) (take n w₁) img offset bytes ≡ overwritten (volumeIn v img) img (e .id .0) offset bytes
@@ -118,7 +118,7 @@ module _ {v : Opened} {img : Bytes} {w : List ℕ} (o : Open v img w) {e : Objec
     over-written offset bytes h =
         let sp = spaceOf (kindFor (e .size)) (volumeIn v img) in
         let long : length (take n w₁) ≡ n = length-take-le n w₁ k in
-        put-listed r (kindFor (e .size)) (take n w₁) below offset bytes (rw (long, ← unit-same r (kindFor (e .size))) (over-room offset (length bytes) h))
+        put-listed r (kindFor (e .size)) (take n w₁) below offset bytes (rw (long, ← unit-same r (kindFor (e .size)) w₁) (over-room offset (length bytes) h))
         ∙ ap₂ (λ sp us. putChain sp us img offset bytes) space-is (l ∙ own .1)
       where
         space-is : spaceOf (kindFor (e .size)) (volumeIn v img) ≡ spaceFor (volumeIn v img) (streamSize (volumeIn v img) (e .id .0))

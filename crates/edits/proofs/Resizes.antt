@@ -144,7 +144,7 @@ module _ {v : Opened} {img : Bytes} {w : List ℕ} (o : Open v img w) {e : Objec
     tail h = omega (arith, h, round-enough new (sp .unit) (units-stand r k .some), ap (λ n. n * sp .unit) wanted)
 
     pub resize-tail : e .size < new → e .size ≤ need * listedSpace v w₁ k .unit
-    resize-tail h = rw (unit-same r k) (tail h)
+    resize-tail h = rw (unit-same r k w₁) (tail h)
 
     new-is : take need w₁ ≡ newUnits vol (e .id .0) new
     unfolding newUnits

@@ -15,7 +15,7 @@ use Rattle.format.specs.Layout.Chain.{chain, units}
 use Rattle.format.specs.Layout.Entry.{start}
 use Rattle.format.specs.Layout.Space.{Space}
 use Rattle.format.specs.Layout.Volume.{Volume, volume}
-use Rattle.format.specs.Layout.Stream.{streamUnits, streamSize}
+use Rattle.format.specs.Layout.Stream.{spaceFor, streamUnits, streamSize}
 use Rattle.format.specs.Calls.SetLength.{small, crosses}
 use Rattle.theory.proofs.Chains.{linked-chain}
 use Rattle.frame.specs.Good.{Good, spaceOf as sideSpace}
@@ -28,7 +28,7 @@ use Rattle.entries.specs.Entry.{entryAt}
 use Rattle.owners.proofs.StreamLaws.{entry-read}
 use Rattle.volume.specs.declared.Volume.{Volume as Opened}
 use Rattle.spaces.specs.Spaces.{kindFor, spaceOf}
-use Rattle.spaces.specs.declared.Kind.the-variants.{Sectors, Minis}
+use Rattle.spaces.proofs.Lengths.{kind-space}
 use Rattle.queries.specs.Inside.{Open}
 use Rattle.queries.specs.declared.find.Object.{Object}
 use Rattle.queries.proofs.Finds.{same-entries, find-asks}
@@ -36,12 +36,8 @@ use Rattle.edits.specs.Streams.{volumeIn, StreamAt}
 
 -- the kind of a length and the side of the cutoff that it lies on
 pub kind-side : (vol : Volume) (n : ℕ) → spaceOf (kindFor n) vol ≡ sideSpace vol (ltb n cutoff)
-unfolding kindFor
-kind-side vol n = go (ltb n cutoff)
-  where
-    go : (b : Bool) → spaceOf (cond b Minis Sectors) vol ≡ sideSpace vol b
-    go true = refl
-    go false = refl
+unfolding spaceFor
+kind-side vol n = kind-space vol n
 
 -- a change to the same length crosses nothing: an overwrite is one
 pub same-uncrossed : (n : ℕ) → crosses n n ≡ false

@@ -1,15 +1,13 @@
 -- Units that stand listed at the start of the work buffer can be written, and what is written by the lists is what the space says.
 use Prim.Native.Nat.{ℕ, _+_, _*_, _≤_, _<_, max}
 use mathlib.Core.Path.{_≡_, refl, sym, _∙_, ap, subst}
-use mathlib.Core.List.{List, []}
+use mathlib.Core.List.{List}
 use native.Mathlib.Omega.{arith}
 use lib.ListN.{length, getD, take}
 use lib.Seq.{length-take-le, getD-take}
 use Rattle.format.specs.Basics.Lists.{count}
 use Rattle.format.specs.Basics.Bytes.{Bytes}
 use Rattle.format.specs.Layout.Geometry.{miniBytes}
-use Rattle.format.specs.Layout.Tables.{sectorSpace}
-use Rattle.format.specs.Layout.Volume.{volume, miniSpace}
 use Rattle.format.specs.Calls.Overwrite.{putChain}
 use Rattle.theory.proofs.Counts.{count-at}
 use Rattle.frame.proofs.Blocks.{Units}
@@ -25,18 +23,6 @@ use Rattle.edits.specs.Streams.{volumeIn}
 use Rattle.edits.specs.Rewritten.{rewritten}
 use Rattle.edits.proofs.SamePlaces.{put-same, rewritten-same}
 
--- the bytes of a unit, as code has them
-module _ {v : Opened} {img : Bytes} {work : List ℕ} (r : Readied v img work) where
-  pub unit-is : (k : Kind) → listedSpace v [] k .unit ≡ spaceOf k (volumeIn v img) .unit
-  unfolding volume sectorSpace miniSpace
-  unit-is Sectors = refl
-  unit-is Minis = refl
-
-  pub unit-many : (k : Kind) → 1 < listedSpace v [] k .unit
-  unfolding miniBytes
-  unit-many Sectors = let z = r .lists .mini .fat .sized .wide in omega arith
-  unit-many Minis = omega arith
-
 module _ {v : Opened} {img : Bytes} {work : List ℕ} (r : Readied v img work) (k : Kind) where
   unit-small : listedSpace v work k .unit ≤ 4096
   unfolding miniBytes
@@ -47,7 +33,7 @@ module _ {v : Opened} {img : Bytes} {work : List ℕ} (r : Readied v img work) (
       go Minis = omega arith
 
   unit-some : 0 < listedSpace v work k .unit
-  unit-some = rw (unit-same r k) (units-stand r k .some)
+  unit-some = rw (unit-same r k work) (units-stand r k .some)
 
   module _ (n : ℕ) (l : n ≤ length work) (b : (u : ℕ) → 0 < count u (take n work) → u < spaceOf k (volumeIn v img) .limit) where
     unit-below : (j : ℕ) → j < n → getD work j 0 < spaceOf k (volumeIn v img) .limit
@@ -63,18 +49,18 @@ module _ {v : Opened} {img : Bytes} {work : List ℕ} (r : Readied v img work) (
           cells = λ j h. cell-listed r k (getD work j 0) (unit-below j h);
           cellRoom = λ j h. rw (cell-place r k (getD work j 0) (unit-below j h)) (cell-inside r k (getD work j 0) (unit-below j h));
           units = λ j h. unit-listed r k (getD work j 0) (unit-below j h);
-          unitRoom = λ j h. rw (unit-place r k (getD work j 0) (unit-below j h), unit-same r k) (units-stand r k .room (getD work j 0) (unit-below j h));
+          unitRoom = λ j h. rw (unit-place r k (getD work j 0) (unit-below j h), unit-same r k work) (units-stand r k .room (getD work j 0) (unit-below j h));
         }
 
   module _ (us : List ℕ) (b : (u : ℕ) → 0 < count u us → u < spaceOf k (volumeIn v img) .limit) where
     pub put-listed : (offset : ℕ) (xs : Bytes) → offset + length xs ≤ length us * spaceOf k (volumeIn v img) .unit
         → putChain (listedSpace v work k) us img offset xs ≡ putChain (spaceOf k (volumeIn v img)) us img offset xs
     put-listed offset xs h =
-        put-same (listedSpace v work k) (spaceOf k (volumeIn v img)) (unit-same r k) (units-stand r k .some) us (λ u q. unit-place r k u (b u q)) img offset xs h
+        put-same (listedSpace v work k) (spaceOf k (volumeIn v img)) (unit-same r k work) (units-stand r k .some) us (λ u q. unit-place r k u (b u q)) img offset xs h
 
     pub rewritten-listed : (place : ℕ) (old : List ℕ) (size n : ℕ) → ((u : ℕ) → 0 < count u old → u < spaceOf k (volumeIn v img) .limit)
         → (size < n → size ≤ length us * spaceOf k (volumeIn v img) .unit)
         → rewritten (listedSpace v work k) place old us size n img ≡ rewritten (spaceOf k (volumeIn v img)) place old us size n img
     rewritten-listed place old size n c h =
-        rewritten-same (listedSpace v work k) (spaceOf k (volumeIn v img)) (unit-same r k) (units-stand r k .some) us (λ u q. unit-place r k u (b u q)) place old size n img
+        rewritten-same (listedSpace v work k) (spaceOf k (volumeIn v img)) (unit-same r k work) (units-stand r k .some) us (λ u q. unit-place r k u (b u q)) place old size n img
         (λ u q. cell-place r k u (c u q)) (λ u q. cell-place r k u (b u q)) h

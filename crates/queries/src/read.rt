@@ -19,10 +19,9 @@ use super::find::refusal;
 use directory::place;
 use entries::start;
 use kinds::Answer;
-use kinds::MiniSector;
-use kinds::Sector;
-use reading::read_minis;
-use reading::read_sectors;
+use reading::read_units;
+use spaces::Unit;
+use spaces::kind_for;
 use volume::Volume;
 
 pub enum Read {
@@ -49,14 +48,12 @@ fn read_stream(img: &[u8], work: &[u32], v: Volume, e: Object, offset: usize, ou
     requires { ⌜ offset + length (now out) ≤ e .size ⌝ }
     ensures { λ _. ⌜ now (out .exit) ≡ part (contents (volumeOf (geometryOf (v .tables .geometry)) (now (img .entry))) (now (img .entry)) (e .id .0)) offset (length (now (out .entry))) ⌝ }
 {
-    let d = v.directory;
-    let n = e.size as usize;
-    let s = start(img, place(work, d, e.id));
-    if n < 4096 {
-        read_minis(img, work, v, MiniSector(s), n, offset, out);
-        return;
-    }
-    read_sectors(img, work, v, Sector(s), n, offset, out);
+    let first = start(img, place(work, v.directory, e.id));
+    let unit = Unit {
+        kind: kind_for(e.size),
+        number: first,
+    };
+    read_units(img, work, v, unit, e.size as usize, offset, out);
 }
 
 // Reads from the stream that a path leads to, from an offset on.

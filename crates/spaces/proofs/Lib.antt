@@ -1,5 +1,6 @@
 -- Laws for units of either kind.
 pub mod Walks
+pub mod Lengths
 pub mod Places
 pub mod Stands
 pub mod Listed

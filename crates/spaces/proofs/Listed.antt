@@ -74,10 +74,15 @@ module _ {v : Opened} {img : Bytes} {work : List ℕ} (r : Readied v img work) w
 
   -- ---- sizes
 
-  pub unit-same : (k : Kind) → listedSpace v work k .unit ≡ spaceOf k vol .unit
+  pub unit-same : (k : Kind) (w : List ℕ) → listedSpace v w k .unit ≡ spaceOf k vol .unit
   unfolding volume sectorSpace miniSpace
-  unit-same Sectors = refl
-  unit-same Minis = refl
+  unit-same Sectors w = refl
+  unit-same Minis w = refl
+
+  pub unit-many : (k : Kind) (w : List ℕ) → 1 < listedSpace v w k .unit
+  unfolding miniBytes
+  unit-many Sectors w = let z = r .lists .mini .fat .sized .wide in omega arith
+  unit-many Minis w = omega arith
 
   pub limit-same : (k : Kind) → listedSpace v work k .limit ≡ spaceOf k vol .limit
   unfolding volume sectorSpace

@@ -3,7 +3,7 @@ ghost use mathlib.Core.Path.{_≡_};
 ghost use Prim.Native.Nat.{_+_, _/_, _≤_, _<_};
 ghost use lib.ListN.{length};
 ghost use mathlib.Core.List.{[]};
-ghost use Rattle.format.specs.Layout.Volume.{miniSpace, volume as volumeOf};
+ghost use Rattle.format.specs.Layout.Volume.{volume as volumeOf};
 ghost use Rattle.kinds.specs.Sizes.{geometryOf};
 ghost use Rattle.volume.specs.Opened.{Readied};
 ghost use Rattle.spaces.specs.Spaces.{kindFor, spaceOf, listedPlace, listedSpace, CellListed, UnitListed};
@@ -95,15 +95,6 @@ pub fn unit_place(work: &[u32], v: Volume, u: Unit) -> usize
         Kind::Sectors => Sector(u.number).place(g),
         Kind::Minis => listed_place(work, g, v.stream, 64 * (u.number as usize)),
     }
-}
-
-// The byte where a mini sector starts.
-pub fn mini_place(img: &[u8], work: &[u32], v: Volume, m: MiniSector) -> usize
-    requires { ⌜ Readied v (now img) (now work) ⌝ }
-    requires { ⌜ m .0 < miniSpace (geometryOf (v .tables .geometry)) (now img) .limit ⌝ }
-    ensures { λ r. ⌜ r ≡ miniSpace (geometryOf (v .tables .geometry)) (now (img .entry)) .unitPlace (m .0) ⌝ }
-{
-    listed_place(work, v.tables.geometry, v.stream, 64 * m.index())
 }
 
 // ---- cells

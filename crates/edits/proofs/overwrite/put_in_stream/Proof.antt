@@ -10,10 +10,10 @@ use Rattle.format.specs.Layout.Entry.{start}
 use Rattle.tables.specs.Work.{Wrote}
 use Rattle.volume.specs.Opened.{Readied}
 use Rattle.spaces.specs.Spaces.{kindFor, spaceOf, listedSpace}
+use Rattle.spaces.proofs.Listed.{unit-same, unit-many}
 use Rattle.unitlists.proofs.Limits.{limit-work}
 use Rattle.edits.specs.Streams.{volumeIn}
 use Rattle.edits.proofs.Streams.{stream-start, stream-placed, stream-room}
-use Rattle.edits.proofs.Writables.{unit-is, unit-many}
 use Rattle.edits.proofs.Gathering.{gathered-wrote, gathered-ready, gathered-within, old-short}
 use Rattle.edits.proofs.Overwrites.{over-chain, over-writable, over-room, over-written}
 use Rattle.edits.proofs.overwrite.put_in_stream.Statement.{statement}
@@ -24,7 +24,7 @@ many : (c : tie.After-units-for) → let a = c .before .before .before .before .
 many c =
     let p = c .before .before .before .before .before .before in
     c .units-for .ensures
-    ∙ ap (roundUp (p .args .e .size)) (c .before .unit-bytes .ensures ∙ ap (λ k. listedSpace (p .args .v) [] k .unit) (c .before .before .kind-for .ensures) ∙ unit-is (p .pre .0 .ready) (kindFor (p .args .e .size)))
+    ∙ ap (roundUp (p .args .e .size)) (c .before .unit-bytes .ensures ∙ ap (λ k. listedSpace (p .args .v) [] k .unit) (c .before .before .kind-for .ensures) ∙ unit-same (p .pre .0 .ready) (kindFor (p .args .e .size)) [])
 
 first : (c : tie.After-start) → let a = c .before .before .before .before .before .before .before .before .before .before .args in c .start .result ≡ start (volumeIn (a .v) (a .img .now) .directory .entry (a .e .id .0))
 first c = let p = c .before .before .before .before .before .before .before .before .before .before in stream-start (p .pre .0) (p .pre .1 .0) _ _ (c .before .place .ensures) (c .start .ensures)
@@ -52,7 +52,7 @@ put-in-stream-spec =
     (tie.spec
     (λ c κs. search needs)  -- kind-for-requires
     (λ c κs. search needs)  -- unit-bytes-requires
-    (λ c κs. rw (c .unit-bytes .ensures) (unit-many (c .before .before .before .before .before .pre .0 .ready) (c .before .kind-for .result)))  -- units-for-requires
+    (λ c κs. rw (c .unit-bytes .ensures) (unit-many (c .before .before .before .before .before .pre .0 .ready) (c .before .kind-for .result) []))  -- units-for-requires
     (λ c κs. let p = c .before .before .before .before .before .before .before .before .pre in stream-placed (p .0) (p .1 .0))  -- place-requires
     (λ c κs. let p = c .before .before .before .before .before .before .before .before .before .pre in stream-room (p .0) (p .1 .0) _ (c .place .ensures))  -- start-requires
     (λ c κs. let p = c .before .before .before .before .before .before .before .before .before .before .before .before in (p .pre .0 .ready, rw (c .before .before .before .before .before .before .before .before .kind-for .ensures) (over-chain (p .pre .0) (p .pre .1 .0) _ (many (c .before .before .before .before .before .before)) _ (first (c .before .before)))))  -- list-units-requires

@@ -16,9 +16,9 @@ use Rattle.format.specs.Calls.Reply.{onZero}
 use Rattle.kinds.specs.Sizes.{geometryOf}
 use Rattle.volume.specs.Opened.{Readied}
 use Rattle.spaces.specs.Spaces.{kindFor, spaceOf, listedSpace}
+use Rattle.spaces.proofs.Listed.{unit-same, unit-many}
 use Rattle.edits.specs.Streams.{volumeIn}
 use Rattle.edits.proofs.Streams.{stream-start, stream-placed, stream-room}
-use Rattle.edits.proofs.Writables.{unit-is, unit-many}
 use Rattle.edits.proofs.Gathering.{gathered-ready, gathered-within}
 use Rattle.edits.proofs.Resizes.{too-few, enough-free, resize-chain, resize-writable, resize-entry, resize-tail, resize-written}
 use Rattle.edits.proofs.resize.change_length.Statement.{statement}
@@ -29,7 +29,7 @@ kind-is : (c : tie.After-kind-for) → let a = c .before .before .before .before
 kind-is c = c .kind-for .ensures ∙ ap kindFor (c .before .greatest .ensures)
 
 bytes-are : (c : tie.After-unit-bytes) → let a = c .before .before .before .before .before .args in c .unit-bytes .result ≡ spaceOf (kindFor (max (a .e .size) (a .new))) (volumeIn (a .v) (a .img .now)) .unit
-bytes-are c = let p = c .before .before .before .before .before in c .unit-bytes .ensures ∙ ap (λ k. listedSpace (p .args .v) [] k .unit) (kind-is (c .before)) ∙ unit-is (p .pre .0 .ready) (kindFor (max (p .args .e .size) (p .args .new)))
+bytes-are c = let p = c .before .before .before .before .before in c .unit-bytes .ensures ∙ ap (λ k. listedSpace (p .args .v) [] k .unit) (kind-is (c .before)) ∙ unit-same (p .pre .0 .ready) (kindFor (max (p .args .e .size) (p .args .new))) []
 
 many : (c : tie.After-units-for) → let a = c .before .before .before .before .before .before .args in c .units-for .result ≡ roundUp (a .e .size) (spaceOf (kindFor (max (a .e .size) (a .new))) (volumeIn (a .v) (a .img .now)) .unit)
 many c = c .units-for .ensures ∙ ap (roundUp (c .before .before .before .before .before .before .args .e .size)) (bytes-are (c .before))
@@ -70,8 +70,8 @@ change-length-spec =
     (λ c κs. search needs)  -- greatest-requires
     (λ c κs. search needs)  -- kind-for-requires
     (λ c κs. search needs)  -- unit-bytes-requires
-    (λ c κs. rw (c .unit-bytes .ensures) (unit-many (c .before .before .before .before .before .pre .0 .ready) (c .before .kind-for .result)))  -- units-for-requires
-    (λ c κs. rw (c .before .unit-bytes .ensures) (unit-many (c .before .before .before .before .before .before .pre .0 .ready) (c .before .before .kind-for .result)))  -- units-for-requires-2
+    (λ c κs. rw (c .unit-bytes .ensures) (unit-many (c .before .before .before .before .before .pre .0 .ready) (c .before .kind-for .result) []))  -- units-for-requires
+    (λ c κs. rw (c .before .unit-bytes .ensures) (unit-many (c .before .before .before .before .before .before .pre .0 .ready) (c .before .before .kind-for .result) []))  -- units-for-requires-2
     (λ c κs. let p = c .before .before .before .before .before .before .before .before .before .pre in stream-placed (p .0) (p .1 .0))  -- place-requires
     (λ c κs. let p = c .before .before .before .before .before .before .before .before .before .before .pre in stream-room (p .0) (p .1 .0) _ (c .place .ensures))  -- start-requires
     (λ c κs.
