@@ -1,83 +1,14 @@
 #!/usr/bin/env python3
 """Writes the calls that the program `calls_run` makes, and the lines that it must print.
 
-Every answer stands here as 01 gives it; values and bytes come from the plan of the image. Nothing is asked of the library.
-
-What the program reads, all numbers little-endian: groups of an image's length and its number of calls (4 bytes each), the image, the calls. A
-call is its kind, the units of its path, the numbers of its work buffer, the bytes of its buffer, how many of those are given (4 bytes each), and
-an offset or a length (8 bytes); then the path's units and the given bytes. Kinds: 0 validate, 1 find, 2 read, 3 list, 4 overwrite, 5 set length;
-4 is to write all bytes of its buffer, all given, and 5 has no buffer. The other bytes of a buffer are 90, and a work buffer is all 7.
-
-What it prints for each call: number, entry, type, size, count, how many numbers of the work buffer are 0, and digests of the buffer and of the image."""
+Every answer stands here, or for edits in `edit_cases.py`, as 01 gives it; values and bytes come from the plan of the image and from the edits made,
+and images after edits from `edits.py`. Nothing is asked of the library. `groups.py` says how a call is laid out and what is printed of it."""
 import os
 import struct
-from images import byte, image
-from plans import Plan
-
-VALIDATE, FIND, READ, LIST, OVERWRITE, SET_LENGTH = range(6)
-STORAGE, STREAM, ROOT = 1, 2, 5
-
-
-def digest(b):
-    h = 1
-    for x in b:
-        h = (h * 16777619 + x) % 2 ** 32
-    return h
-
-
-def units(path):
-    return path.encode("utf-16-le")
-
-
-class Group:
-    """Calls on one image, with their lines."""
-
-    def __init__(self, plan=None, img=None):
-        self.plan = plan
-        self.image = plan.image if plan else img
-        self.calls, self.lines = [], []
-
-    def call(self, kind, number, path="", place=0, room=0, given=b"", work=None, entry=0, type=0, size=0, count=0, left=b""):
-        """One call, its answer and values, and the bytes at the front of its buffer after it (else they stay)."""
-        need = 13 * (len(self.image) // 512)
-        work = need + 3 if work is None else work
-        text = units(path)
-        self.calls.append(struct.pack("<IIIIIQ", kind, len(text) // 2, work, room, len(given), place) + text + given)
-        before = given + bytes([90]) * (room - len(given))
-        after = left + before[len(left):]
-        zeros = 0 if number in (1, 2) else need
-        self.lines.append("%d %d %d %d %d %d %d %d\n" % (number, entry, type, size, count, zeros, digest(after), digest(self.image)))
-
-    # ---- a path that leads to an object of the plan, as the plan spells it
-
-    def finds(self, path, spelled=None):
-        spelled = path if spelled is None else spelled
-        kind = ROOT if spelled == "" else STORAGE if spelled in self.plan.storages else STREAM
-        size = struct.unpack_from("<I", self.plan.root, 120)[0] if kind == ROOT else len(self.plan.streams.get(spelled, b""))
-        self.call(FIND, 0, path, entry=self.plan.entries[spelled], type=kind, size=size)
-
-    def reads(self, path, place, room, spelled=None):
-        got = self.plan.streams[spelled or path][place:place + room]
-        self.call(READ, 0, path, place=place, room=room, count=len(got), left=got)
-
-    def lists(self, room):
-        self.call(LIST, 0, room=room, count=len(self.plan.listing), left=self.plan.listing)
-
-    # ---- refusals
-
-    def find(self, path, number, **more):
-        self.call(FIND, number, path, **more)
-
-    def read(self, path, place, number, room=16, **more):
-        self.call(READ, number, path, place=place, room=room, **more)
-
-    def list(self, room, number, **more):
-        self.call(LIST, number, room=room, **more)
-
-
-def text(seed, count):
-    return bytes((seed * i + i // 251) % 256 for i in range(count))
-
+import edit_cases
+from groups import FIND, LIST, OVERWRITE, READ, SET_LENGTH, VALIDATE, Group
+from images import END, byte, entry, image, put, root
+from plans import Plan, text
 
 plan = Plan({
     "Site": {"log": text(7, 5000), "Jets": text(11, 70), "deep": {"x": b"!", "Deeper": {"a" * 31: text(3, 64)}}},
@@ -146,6 +77,7 @@ for work, number in [(need, 0), (need - 1, 2), (0, 2)]:
 # ---- the smallest image: only a root
 least = Plan({})
 s = Group(least)
+s.call(VALIDATE, 0)
 s.finds("")
 s.find("Root Entry", 21)
 s.find("/", 20)
@@ -155,25 +87,50 @@ s.lists(11)
 s.list(9, 27)
 
 # ---- images that are refused: every call answers so, whatever its path
-groups = [g, s]
-for img, number in [(least.image[:1535], 1), (b"", 1), (byte(least.image, 0, 0), 10), (byte(least.image, 44, 0), 11), (byte(plan.image, 48, 0xFE), 13),
-                    (byte(least.image, 1024 + 67, 2), 14), (byte(least.image, 1024 + 76, 9), 15)]:
+one = image(3, [0], [], [1], [root(1), entry("s", 2)])
+broken = [(one[:1535], 1), (b"", 1), (byte(one, 0, 0), 10), (byte(one, 44, 0), 11), (put(one, (512 + 4 * 127, 0)), 12), (byte(one, 48, 0xFE), 13), (byte(one, 1024 + 67, 2), 14),
+          (byte(one, 1024 + 76, 9), 15), (put(one, (60, 0)), 16), (put(one, (1024 + 128 + 116, 0)), 17), (put(one, (512 + 4 * 2, END)), 18)]
+groups = [g, s] + edit_cases.groups()
+for img, number in broken:
     b = Group(img=img)
     b.call(VALIDATE, number)
-    for path in ["", "gone", "a//b"]:
+    for path in ["", "s", "gone", "a//b"]:
         b.find(path, number)
         b.read(path, most, number)
+        b.overwrite(path, 0, b"x", number)
+        b.resize(path, 4096, number)
     b.list(100, number)
-    b.find("", 1 if number == 1 else 2, work=0)
+    for path in ["", "s"]:
+        b.find(path, 1 if number == 1 else 2, work=0)
+        b.overwrite(path, 0, b"", 1 if number == 1 else 2, work=0)
+        b.resize(path, 0, 1 if number == 1 else 2, work=0)
     groups.append(b)
 
-answers = {line.split()[0] for x in groups for line in x.lines}
-assert {"0", "1", "2", "20", "21", "22", "23", "24", "27"} <= answers
+# ---- every answer that a call can give is given
+every = {0, 1, 2} | set(range(10, 19))
+paths = every | {20, 21, 22}
+counts = {kind: {} for kind in range(6)}
+for x in groups:
+    for c, line in zip(x.calls, x.lines):
+        number, of_kind = int(line.split()[0]), counts[c[0]]
+        of_kind[number] = of_kind.get(number, 0) + 1
+for kind, numbers in [(VALIDATE, every), (FIND, paths), (READ, paths | {23, 24}), (LIST, every | {27}), (OVERWRITE, paths | {23, 24}), (SET_LENGTH, paths | {23, 25, 26})]:
+    assert set(counts[kind]) == numbers, (kind, counts[kind])
+
+# ---- a kind that there is not: the program says so, and makes no other call
+last = Group(least)
+last.call(6, 0)
+last.call(VALIDATE, 0)
+last.lines = ["unknown\n"]
+groups.append(last)
+
 out = os.path.join(os.path.dirname(os.path.abspath(__file__)), "..", "crates", "calls_run")
 with open(os.path.join(out, "stdin"), "wb") as f:
     for x in groups:
-        f.write(struct.pack("<II", len(x.image), len(x.calls)) + x.image + b"".join(x.calls))
+        f.write(struct.pack("<II", len(x.first), len(x.calls)) + x.first + b"".join(x.calls))
 with open(os.path.join(out, "stdout"), "w") as f:
     for x in groups:
         f.write("".join(x.lines))
 print(len(groups), "images,", sum(len(x.calls) for x in groups), "calls,", os.path.getsize(os.path.join(out, "stdin")), "bytes")
+for kind, name in enumerate(["validate", "find", "read", "list", "overwrite", "set length"]):
+    print(name + ":", ", ".join("%d x %d" % (number, n) for number, n in sorted(counts[kind].items())))

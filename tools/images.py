@@ -61,12 +61,12 @@ def with_entries(entries):
     return image(1 + n, [0], [], list(range(1, 1 + n)), entries)
 
 
-def volume(sectors, directory, chains, entries, mini_fat=(), cells=()):
-    """An image whose FAT is sector 0, with the cells of these further chains, and a mini FAT of these sectors and cells."""
-    img = image(sectors, [0], [], directory, entries)
+def volume(sectors, directory, chains, entries, mini_fat=(), cells=(), fat=0):
+    """An image of one FAT sector, with the cells of these further chains, and a mini FAT of these sectors and cells."""
+    img = image(sectors, [fat], [], directory, entries)
     for c in list(chains) + [list(mini_fat)]:
         for s, t in zip(c, c[1:] + [END]):
-            img = put(img, (512 + 4 * s, t))
+            img = put(img, (512 * (fat + 1) + 4 * s, t))
     if mini_fat:
         img = put(img, (60, mini_fat[0]), (64, len(mini_fat)))
     cells = list(cells) + [FREE] * (128 * len(mini_fat) - len(cells))

@@ -18,18 +18,24 @@ def printed(name):
     return "".join(chr(u) if 0x20 <= u <= 0x7E else "\\%04X" % u for u in units)
 
 
+def text(seed, count):
+    """So many bytes that differ from stream to stream and from unit to unit."""
+    return bytes((seed * i + i // 251) % 256 for i in range(count))
+
+
 class Plan:
     """The image of a tree: `entries` gives a path's entry number, `streams` a stream's bytes, `storages` the paths of storages.
 
-    Units are dealt out in an order that the seed shuffles, so that chains wander; `free` and `free_minis` units are left over."""
+    Units are dealt out in an order that the seed shuffles, so that chains wander; `free` and `free_minis` units are left over. The byte `waste`
+    stands wherever nothing is stored and nothing is judged: in free units, behind a stream's end and a name's, in a stream's state bits."""
 
-    def __init__(self, tree, free=0, free_minis=0, seed=1):
-        self.entries, self.streams, self.storages, self.lines = {"": 0}, {}, [], []
+    def __init__(self, tree, free=0, free_minis=0, seed=1, waste=0, fat=0):
+        self.tree, self.waste, self.fat = tree, bytes([waste]), fat
+        self.entries, self.streams, self.storages = {"": 0}, {}, []
         self.number(tree, "")
         self.mix = random.Random(seed)
         self.image = self.laid(tree, free, free_minis)
-        self.walk(tree, "")
-        self.listing = ("objects %d\n" % (len(self.entries) - 1) + "".join(l + "\n" for l in self.lines)).encode()
+        self.listing = self.listed(self.streams)
 
     # ---- the plan
 
@@ -44,14 +50,20 @@ class Plan:
             else:
                 self.streams[path] = what
 
-    def walk(self, tree, before):
+    def listed(self, streams):
+        """The listing, with these bytes for the streams."""
+        return ("objects %d\n" % (len(self.entries) - 1) + "".join(line + "\n" for line in self.lines(self.tree, "", streams))).encode()
+
+    def lines(self, tree, before, streams):
         """The lines of the listing: siblings in order, each storage followed at once by all that is below it."""
         for name in sorted(tree, key=order):
             path, what = before + name, tree[name]
             shown = "/".join(printed(n) for n in path.split("/"))
-            self.lines.append("D 0 " + shown if isinstance(what, dict) else "F %d %s" % (len(what), shown))
             if isinstance(what, dict):
-                self.walk(what, path + "/")
+                yield "D 0 " + shown
+                yield from self.lines(what, path + "/", streams)
+            else:
+                yield "F %d %s" % (len(streams[path]), shown)
 
     # ---- the image
 
@@ -61,8 +73,8 @@ class Plan:
         minis = list(range(sum(-(-len(b) // 64) for b in small.values()) + free_minis))
         size = 64 * len(minis)
         counts = [-(-len(self.entries) // 4), -(-len(minis) // 128), -(-size // 512)] + [-(-len(b) // 512) for b in large.values()]
-        sectors = list(range(1, 1 + sum(counts) + free))
-        total = 1 + len(sectors)
+        total = 1 + sum(counts) + free
+        sectors = [s for s in range(total) if s != self.fat]
         self.mix.shuffle(sectors)
         self.mix.shuffle(minis)
         chains = [[sectors.pop() for _ in range(n)] for n in counts]
@@ -74,16 +86,16 @@ class Plan:
                 cells[m] = t
         starts = {p: c[0] for p, c in list(chain_of.items()) + list(mini_of.items())}
         directory, mini_fat, mini_stream = chains[:3]
-        img = volume(total, directory, [c for c in [mini_stream] + list(chain_of.values()) if c], self.rows(tree, mini_stream, size, starts), mini_fat, cells)
-        pool = bytearray(512 * len(mini_stream))
+        img = volume(total, directory, [c for c in [mini_stream] + list(chain_of.values()) if c], self.rows(tree, mini_stream, size, starts), mini_fat, cells, self.fat)
+        pool = bytearray(self.waste * 512 * len(mini_stream))
         for p, c in mini_of.items():
             for i, m in enumerate(c):
                 part = small[p][64 * i:64 * (i + 1)]
                 pool[64 * m:64 * m + len(part)] = part
-        for data, chain in [(bytes(pool), mini_stream)] + [(large[p], c) for p, c in chain_of.items()]:
+        for data, chain in [(bytes(pool), mini_stream), (b"", sectors)] + [(large[p], c) for p, c in chain_of.items()]:
             for i, s in enumerate(chain):
-                part = data[512 * i:512 * (i + 1)]
-                img = img[:512 * (s + 1)] + part + img[512 * (s + 1) + len(part):]
+                part = data[512 * i:512 * (i + 1)].ljust(512, self.waste)
+                img = img[:512 * (s + 1)] + part + img[512 * (s + 2):]
         return img
 
     def rows(self, tree, mini_stream, size, starts):
@@ -103,6 +115,8 @@ class Plan:
                 e = entry(names[k], 1, left=left, right=right, child=self.tops(what, path + "/", rows, starts))
             else:
                 e = entry(names[k], 2, left=left, right=right, start=starts.get(path, END), size=len(what))
+                end = e[64]
+                e = e[:end] + self.waste * (64 - end) + e[64:96] + self.waste * 4 + e[100:]
             rows[self.entries[path]] = e
             return self.entries[path]
         return top(sorted(tree, key=order))

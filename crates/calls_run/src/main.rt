@@ -1,9 +1,12 @@
 // Runs calls on images, and prints what each call gives and leaves. Standard input holds groups: an image behind its length and the number of
-// its calls, and then those calls; the image goes from call to call. `tools/calls_cases.py` writes them and says how a call is laid out.
+// its calls, and then those calls; the image goes from call to call, with the edits made on it. `tools/calls_cases.py` writes them, and
+// `tools/groups.py` says how a call is laid out.
 ghost use Prim.Native.Nat.{_≤_};
 use cfb::find;
 use cfb::list;
+use cfb::overwrite;
 use cfb::read;
+use cfb::set_length;
 use cfb::validate;
 use kinds::Answer;
 use kinds::number;
@@ -74,20 +77,29 @@ fn listed(r: List) -> Values {
     }
 }
 
-// The call of a kind: 0 validates, 1 finds, 2 reads, 3 lists.
-fn answer(
+// What came of a call. A kind that there is not is no call.
+enum Outcome {
+    Made(Values),
+    Unknown,
+}
+
+// The call of a kind: 0 validates, 1 finds, 2 reads, 3 lists, 4 overwrites, 5 sets a length.
+fn make(
     kind: u32,
     image: &mut [u8],
     work: &mut [u32],
     path: &[u16],
     place: u64,
     bytes: &mut [u8],
-) -> Values {
+) -> Outcome {
     match kind {
-        0 => plain(validate(image, work)),
-        1 => found(find(image, work, path)),
-        2 => copied(read(image, work, path, place, bytes)),
-        _ => listed(list(image, work, bytes)),
+        0 => Outcome::Made(plain(validate(image, work))),
+        1 => Outcome::Made(found(find(image, work, path))),
+        2 => Outcome::Made(copied(read(image, work, path, place, bytes))),
+        3 => Outcome::Made(listed(list(image, work, bytes))),
+        4 => Outcome::Made(plain(overwrite(image, work, path, place, bytes))),
+        5 => Outcome::Made(plain(set_length(image, work, path, place))),
+        _ => Outcome::Unknown,
     }
 }
 
@@ -159,7 +171,7 @@ fn read_path(path: &mut [u16]) -> bool {
 
 // ---- a call: its head, its path, its bytes, and then the call
 
-// Makes the call on the buffers that are lent, and prints its line.
+// Makes the call on the buffers that are lent, and prints its line. Says whether there was one.
 fn run(
     head: &[u8; 28],
     image: &mut [u8],
@@ -168,7 +180,11 @@ fn run(
     bytes: &mut [u8],
 ) -> bool {
     let kind = u32_at(head, 0);
-    print_values(answer(kind, image, work, path, u64_at(head, 20), bytes));
+    let Outcome::Made(v) = make(kind, image, work, path, u64_at(head, 20), bytes) else {
+        io::write_all(1, b"unknown\n");
+        return false;
+    };
+    print_values(v);
     print_next(zeros(work) as u64);
     print_next(digest(bytes));
     print_next(digest(image));

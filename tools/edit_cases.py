@@ -1,0 +1,240 @@
+"""Overwrites and changes of length, call after call on one image, with finds, reads and listings between them.
+
+Every answer stands here as 01 gives it; the image after each edit is worked out by `edits.py`, and each stream's bytes by the edits made."""
+from groups import VALIDATE, Group
+from plans import Plan, text
+
+most = 2 ** 64 - 1
+WASTE = 0xEE
+# lengths for which there is never room. Cut to 32 bits, counted in units cut to 32 bits, or rounded up beyond 64 bits, they would be small
+absurd = [2 ** 32, 2 ** 32 + 64, 2 ** 32 + 4096, 2 ** 38 + 64, 2 ** 41, 2 ** 41 + 4096, 2 ** 63, most - 511, most - 510, most - 63, most - 62, most - 1, most]
+
+
+def room_for_a_large_stream():
+    """0 to 4096: with 8 free sectors, and with 7."""
+    eight = Group(Plan({"zero": b""}, free=8, waste=WASTE, fat=4))
+    for length in [4097] + absurd:
+        eight.resize("zero", length, 26)
+    eight.resize("zero", 4096, 0)
+    eight.shows("zero")
+    eight.lists(100)
+    eight.resize("zero", 4097, 26)
+    eight.resize("zero", 4096, 0)
+    eight.resize("zero", 1, 25)
+    eight.resize("zero", 0, 0)
+    eight.shows("zero")
+    eight.lists(100)
+    eight.call(VALIDATE, 0)
+    seven = Group(Plan({"zero": b""}, free=7, waste=WASTE))
+    # no mini stream, so no mini sector either
+    for length in [4096, 4097, 5120, 1, 64, 3584, 4095] + absurd:
+        seven.resize("zero", length, 26)
+    seven.resize("zero", 0, 0)
+    seven.overwrite("zero", 0, b"", 0)
+    seven.overwrite("zero", 1, b"", 24)
+    seven.overwrite("zero", 0, b"x", 24)
+    seven.shows("zero")
+    seven.lists(100)
+    return [eight, seven]
+
+
+def over_the_cutoff():
+    """4095 to 4096 and back, with room for either, and two large streams that take what the other leaves."""
+    g = Group(Plan({"edge": text(5, 4095), "whole": text(13, 4096), "zero": b""}, free=8, free_minis=64, waste=WASTE, fat=11))
+    for path, lengths in [("edge", [4096, 4097, 8192] + absurd), ("whole", [4095, 4094, 4032, 65, 64, 63, 1])]:
+        for length in lengths:
+            g.resize(path, length, 25)
+        g.shows(path)
+    for length in [8193] + absurd:
+        g.resize("whole", length, 26)
+    g.lists(100)
+    # the free sectors run out, and come back
+    g.resize("zero", 4608, 26)
+    g.resize("zero", 4096, 0)
+    g.resize("whole", 4097, 26)
+    g.overwrite("zero", 0, text(19, 4096), 0)
+    for path in ["zero", "whole", "edge"]:
+        g.shows(path)
+    g.resize("zero", 0, 0)
+    g.resize("whole", 8193, 26)
+    g.resize("whole", 8192, 0)
+    g.shows("whole")
+    g.resize("zero", 4096, 26)
+    g.resize("whole", 4608, 0)
+    g.resize("zero", 4096, 26)
+    g.resize("whole", 4097, 0)
+    g.resize("zero", 4096, 26)
+    g.resize("whole", 4096, 0)
+    g.resize("zero", 4096, 0)
+    g.shows("zero")
+    g.resize("whole", 0, 0)
+    g.resize("zero", 5000, 0)
+    g.resize("whole", 4096, 26)
+    g.resize("zero", 4608, 0)
+    g.resize("zero", 8192, 0)
+    g.shows("zero")
+    # an emptied stream may take either kind
+    g.resize("edge", 0, 0)
+    g.resize("edge", 4096, 26)
+    g.resize("zero", 0, 0)
+    g.resize("edge", 4096, 0)
+    g.resize("whole", 4095, 0)
+    g.resize("zero", 4095, 0)
+    for path in ["edge", "whole", "zero"]:
+        g.shows(path)
+    g.lists(100)
+    g.call(VALIDATE, 0)
+    return [g]
+
+
+def room_for_small_streams():
+    """64, 65 and 4095 from 0, with enough free mini sectors and with one too few."""
+    g = Group(Plan({"a": b"", "b": b"", "c": b""}, free_minis=64, waste=WASTE, fat=2))
+    for length in absurd:
+        g.resize("a", length, 26)
+    for path, length, number in [
+        ("a", 4095, 0), ("b", 1, 26), ("b", 64, 26), ("b", 65, 26), ("b", 4096, 26), ("a", 4096, 25),
+        # one free: 64 fits, 65 does not
+        ("a", 4032, 0), ("b", 65, 26), ("b", 64, 0), ("c", 64, 26), ("b", 65, 26), ("a", 4033, 26),
+        # 3969 releases none, 3968 one
+        ("a", 3969, 0), ("c", 1, 26), ("a", 3968, 0), ("c", 65, 26), ("b", 129, 26), ("b", 65, 0), ("c", 1, 26),
+        # two free: 65 fits
+        ("a", 3840, 0), ("c", 129, 26), ("c", 65, 0), ("b", 129, 26),
+        # 60, then 62, then 64 free
+        ("a", 0, 0), ("a", 3841, 26), ("c", 0, 0), ("a", 3969, 26), ("b", 0, 0), ("c", 4095, 0), ("b", 1, 26),
+    ]:
+        g.resize(path, length, number)
+        if number == 0:
+            g.shows(path)
+    g.lists(100)
+    g.call(VALIDATE, 0)
+    less = Group(Plan({"a": b"", "b": b""}, free_minis=63, waste=WASTE))
+    less.resize("a", 4095, 26)
+    less.resize("a", 4033, 26)
+    less.resize("a", 4032, 0)
+    less.shows("a")
+    less.resize("b", 64, 26)
+    less.resize("a", 4033, 26)
+    less.lists(100)
+    return [g, less]
+
+
+def two_mini_fat_sectors():
+    """More than 128 mini sectors, so that cells stand in two sectors, with free units among the owned ones."""
+    g = Group(Plan({"a": text(5, 4000), "b": text(7, 3000), "c": b""}, free_minis=24, waste=WASTE, seed=2, fat=9))
+    assert len(g.edited.mini_fats) == 2
+    for path, length, number in [("c", 24 * 64 + 1, 26), ("c", 24 * 64, 0), ("a", 100, 0), ("c", 4095, 0), ("b", 4095, 0), ("a", 2000, 26), ("b", 5, 0), ("a", 2000, 0), ("c", 0, 0), ("b", 4095, 0)]:
+        g.resize(path, length, number)
+        g.shows(path)
+    g.overwrite("b", 1, text(29, 4094), 0)
+    for path in ["a", "b", "c"]:
+        g.shows(path)
+    g.lists(100)
+    g.call(VALIDATE, 0)
+    return [g]
+
+
+def tails(g):
+    """What a cut leaves behind the end must not come back."""
+    # 100, 70, 90: zero from 70 to the end of the mini sector; then 128 and 129, at the end of a mini sector and behind it
+    for length in [70, 90, 128, 127, 128, 129, 65, 64, 66, 63, 64, 1, 2, 0, 1, 0, 129, 100]:
+        g.resize("jets", length, 0)
+        g.shows("jets")
+        g.overwrite("jets", 0, text(length + 3, length), 0)
+    g.lists(200)
+    # the same in sectors
+    for length in [4500, 5120, 4999, 5000, 5119, 5121, 4608, 4609, 4607, 4096, 4097, 8192, 4096, 0, 4096, 4500]:
+        g.resize("log", length, 0)
+        g.shows("log")
+        g.overwrite("log", length // 2, text(length + 3, min(600, length // 2)), 0)
+    g.lists(200)
+    # the same length changes nothing, whatever stands behind the end
+    for path in g.rows:
+        g.resize(path, len(g.rows[path]), 0)
+        g.shows(path)
+    # streams that grow in turn
+    for length in [130, 200, 260, 330]:
+        g.resize("jets", length, 0)
+        g.resize("Site/tail", length - 1, 0)
+        g.overwrite("jets", length - 70, text(length, 70), 0)
+    for path in g.rows:
+        g.shows(path)
+    g.call(VALIDATE, 0)
+
+
+def overwrites(g):
+    """Bytes inside one unit, over the ends of units, the whole stream, none; and those that would end behind the stream."""
+    for path, unit in [("log", 512), ("Site/deep/Pump", 64), ("jets", 64), ("Site/tail", 64)]:
+        size = len(g.rows[path])
+        for place, count in [(0, 1), (3, 20), (unit - 1, 1), (unit, 1), (unit - 1, 2), (unit - 5, 10), (0, size), (size - 1, 1), (size - 3, 3), (0, 0), (1, 0), (size, 0)]:
+            if place + count <= size:
+                g.overwrite(path, place, text(place + count + 5, count), 0)
+                g.reads(path, max(0, place - 2), count + 4)
+        if 3 * unit < size:
+            g.overwrite(path, unit // 2, text(23, 2 * unit), 0)
+            g.overwrite(path, unit, text(25, 2 * unit), 0)
+        g.shows(path)
+        for place, count in [(size, 1), (size - 1, 2), (size - 40, 41), (size + 1, 0), (size + 1, 1), (size + unit, 0), (2 ** 32, 0), (2 ** 32, 1), (2 ** 32 + 1, 3), (2 ** 63, 2),
+                             (most - 1, 2), (most, 0), (most, 1), (most, 2), (most - 9, 20)]:
+            g.overwrite(path, place, text(1, count), 24)
+        g.shows(path)
+    g.overwrite("void", 0, b"", 0)
+    g.overwrite("void", 0, b"x", 24)
+    g.overwrite("void", 1, b"", 24)
+    g.overwrite("void", most, b"xx", 24)
+    # other spellings
+    g.overwrite("SITE/Deep/PUMP", 60, b"by another spelling", 0, "Site/deep/Pump")
+    g.shows("Site/deep/Pump")
+    g.resize("SITE/TAIL", 300, 0, "Site/tail")
+    g.overwrite("SITE/tail", 290, b"to the end", 0, "Site/tail")
+    g.shows("Site/tail")
+    # into a stream that was empty
+    g.resize("void", 200, 0)
+    g.overwrite("void", 190, text(31, 10), 0)
+    g.overwrite("void", 190, text(31, 11), 24)
+    g.shows("void")
+    g.lists(200)
+    g.call(VALIDATE, 0)
+
+
+def refusals(g):
+    """Paths that lead to no stream, and work buffers that are too short. All stays as it was."""
+    for path, number in [
+        ("", 23), ("Site", 23), ("SITE/deep", 23), ("gone", 21), ("Site/gone", 21), ("Site/log", 21), ("Site/deep/gone/Pump", 21), ("gone/log/x", 21),
+        ("log/x", 22), ("void/x", 22), ("Site/tail/gone/x", 22), ("/", 20), ("log/", 20), ("/log", 20), ("Site//tail", 20), ("log/x:", 20), ("gone\\", 20), ("a" * 32, 20), ("Site/ta\0l", 20),
+    ]:
+        for place in [0, 1, 4096, most]:
+            g.resize(path, place, number)
+            g.overwrite(path, place, b"xy", number)
+        g.overwrite(path, most, b"", number)
+    need = 13 * (len(g.image) // 512)
+    for work in [need - 1, 0]:
+        for path in ["log", "jets", "void", "", "Site", "gone", "log/x", "/"]:
+            for place in [0, 80, 5100, most]:
+                g.resize(path, place, 2, work=work)
+            g.overwrite(path, 0, b"xy", 2, work=work)
+            g.overwrite(path, most, b"xy", 2, work=work)
+    for path in g.rows:
+        g.shows(path)
+    g.lists(200)
+    g.resize("log", 5100, 0, work=need)
+    g.overwrite("log", 5098, b"xy", 0, work=need)
+    g.overwrite("log", 5099, b"xy", 24, work=need)
+    g.resize("log", 4095, 25, work=need)
+    g.resize("log", most, 26, work=need)
+    g.shows("log")
+    g.lists(200)
+    g.call(VALIDATE, 0)
+
+
+def many_calls():
+    """One image, and all its calls."""
+    g = Group(Plan({"jets": text(11, 100), "log": text(7, 5000), "Site": {"tail": text(3, 70), "deep": {"Pump": text(9, 600)}}, "void": b""}, free=6, free_minis=16, waste=WASTE, fat=7))
+    overwrites(g)
+    tails(g)
+    refusals(g)
+    return [g]
+
+
+def groups():
+    return room_for_a_large_stream() + over_the_cutoff() + room_for_small_streams() + two_mini_fat_sectors() + many_calls()
