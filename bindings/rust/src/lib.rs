@@ -1,0 +1,112 @@
+//! Compound files (MS-CFB, version 3), by a library in which every function is proved.
+//!
+//! An image is a whole file in memory, a multiple of 512 bytes from 1,536 to 8,388,608. The caller lends it, with a work
+//! buffer of at least [`work_need`] numbers, which may hold anything and may be used again. A path is a slice of UTF-16
+//! units, with names parted by `/` and none at either end; the empty path is the root. [`path()`] makes one. Small and
+//! capital letters a to z are the same.
+//!
+//! Every call validates the whole image first, and refuses it as [`validate`] does. Only [`overwrite`] and [`set_len`]
+//! change it. After a refusal the image and an out buffer are as they were. The work buffer is as it was after
+//! [`Refusal::BadLength`] and [`Refusal::ShortWork`]; else its first [`work_need`] numbers are zero, and the rest is as it
+//! was.
+//!
+//! ```
+//! use gyomrelas::{find, path, work_need, Kind, Refusal};
+//!
+//! let image = std::fs::read("../../samples/site.cfb").expect("the sample is there");
+//! let mut work = vec![0; work_need(image.len())];
+//! let log = find(&image, &mut work, &path("Site/log"))?;
+//! assert_eq!((log.kind, log.size), (Kind::Stream, 5000));
+//! assert_eq!(find(&image, &mut work, &path("Site/logs")), Err(Refusal::NotFound));
+//! # Ok::<(), Refusal>(())
+//! ```
+
+#![deny(unsafe_code, missing_docs)]
+
+mod calls;
+mod entry;
+mod refusal;
+
+pub use entry::{Entry, Kind};
+pub use refusal::Refusal;
+
+use refusal::answered;
+
+/// How many numbers the work buffer needs for an image of so many bytes.
+pub const fn work_need(image_len: usize) -> usize {
+    13 * (image_len / 512)
+}
+
+/// The UTF-16 units of a path. Any text may be given; a path that is badly formed is refused by the calls.
+pub fn path(text: &str) -> Vec<u16> {
+    text.encode_utf16().collect()
+}
+
+/// Whether an image keeps every rule. The time is linear in the image's length, whatever its bytes.
+///
+/// Refusals: 1, 2, and 10 to 18, the first group of rules that the image breaks. Every other call has these too.
+pub fn validate(image: &[u8], work: &mut [u32]) -> Result<(), Refusal> {
+    answered(calls::validate(image, work))
+}
+
+/// The entry that a path leads to.
+///
+/// Refusals: 20, 21 and 22. Of 21 and 22 the first name that fails decides.
+pub fn find(image: &[u8], work: &mut [u32], path: &[u16]) -> Result<Entry, Refusal> {
+    let (answer, number, kind, size) = calls::find(image, work, path);
+    answered(answer)?;
+    Ok(Entry { number, kind: Kind::of(kind), size })
+}
+
+/// Copies the bytes of a stream from an offset on to the out buffer, and gives their number: as many as are left of the
+/// stream, and as the buffer holds. The out buffer's bytes behind them stay. An offset equal to the stream's length gives
+/// 0 bytes.
+///
+/// Refusals: 20 to 24.
+pub fn read(image: &[u8], work: &mut [u32], path: &[u16], offset: u64, out: &mut [u8]) -> Result<usize, Refusal> {
+    let (answer, count) = calls::read(image, work, path, offset, out);
+    answered(answer)?;
+    Ok(length(count))
+}
+
+/// Puts bytes into a stream from an offset on. They have to end within it. Nothing else of the image changes.
+///
+/// Refusals: 20 to 24.
+pub fn overwrite(image: &mut [u8], work: &mut [u32], path: &[u16], offset: u64, bytes: &[u8]) -> Result<(), Refusal> {
+    answered(calls::overwrite(image, work, path, offset, bytes))
+}
+
+/// Gives a stream another length. A shorter one keeps its first bytes, a longer one has zero bytes behind the old ones.
+/// The image's own length stays: what a stream needs is taken from the free sectors in it, and what it no longer needs
+/// becomes free.
+///
+/// Refusals: 20 to 23, 25 and 26.
+pub fn set_len(image: &mut [u8], work: &mut [u32], path: &[u16], new_len: u64) -> Result<(), Refusal> {
+    answered(calls::set_len(image, work, path, new_len))
+}
+
+/// Writes a listing of all streams and storages to the out buffer, and gives its length. The out buffer's bytes behind it
+/// stay. The listing is ASCII: a line with the number of objects, then a line for each one, a storage before all that is
+/// below it.
+///
+/// ```text
+/// objects 3
+/// D 0 Site
+/// F 5000 Site/log
+/// F 70 Site/Jets
+/// ```
+///
+/// Siblings stand in the order of the file's trees: shorter names first. A unit that is no printable ASCII character
+/// prints as `\` and four digits of base 16.
+///
+/// Refusals: 27, where the listing is longer than the out buffer. How long it is the call does not say: try a longer one.
+pub fn list(image: &[u8], work: &mut [u32], out: &mut [u8]) -> Result<usize, Refusal> {
+    let (answer, count) = calls::list(image, work, out);
+    answered(answer)?;
+    Ok(length(count))
+}
+
+/// A count of bytes in an out buffer: at most the buffer's length.
+fn length(count: u64) -> usize {
+    usize::try_from(count).expect("a count is at most the out buffer's length")
+}

@@ -1,0 +1,82 @@
+//! Why a call was refused.
+
+#![forbid(unsafe_code)]
+
+use std::error::Error;
+use std::fmt;
+
+/// Writes the enum, and the way from a number to it, from one table.
+macro_rules! refusals {
+    ($($number:literal $name:ident $text:literal)*) => {
+        /// Why a call was refused. Of all refusals that apply, a call gives the one of the lowest number, but of 21 and
+        /// 22 the one of the first name that fails. Later versions of the library may add some.
+        #[derive(Clone, Copy, PartialEq, Eq, Hash, Debug)]
+        #[non_exhaustive]
+        #[repr(u32)]
+        pub enum Refusal {
+            $(#[doc = concat!(stringify!($number), ": ", $text, ".")] $name = $number,)*
+        }
+
+        impl Refusal {
+            /// All of them, by their numbers.
+            pub const ALL: &'static [Refusal] = &[$(Refusal::$name),*];
+
+            fn text(self) -> &'static str {
+                match self {
+                    $(Refusal::$name => $text,)*
+                }
+            }
+        }
+    };
+}
+
+refusals! {
+    1 BadLength "the image is shorter than 1,536 bytes, longer than 8,388,608, or no multiple of 512"
+    2 ShortWork "the work buffer is too short"
+    10 Header "the image breaks a rule on the header"
+    11 Tables "the image breaks a rule on the sectors of the tables"
+    12 Cells "the image breaks a rule on the tables' cells"
+    13 Directory "the image breaks a rule on the directory's chain"
+    14 Entries "the image breaks a rule on the fields of an entry"
+    15 Trees "the image breaks a rule on the trees of entries"
+    16 Mini "the image breaks a rule on the mini tables"
+    17 Streams "the image breaks a rule on the streams' chains"
+    18 Owners "the image breaks a rule on who owns a sector"
+    20 BadPath "a name of the path is empty, longer than 31 units, or has a unit 0, '\\' or ':'"
+    21 NotFound "a storage on the way has no child of that name"
+    22 StreamOnTheWay "a stream stands where a storage is needed"
+    23 NotAStream "the path ends at a storage or the root, and a stream is needed"
+    24 Beyond "a read would start, or a write end, behind the stream's end"
+    25 Crosses "the length would go from 1..4095 to 4096 or more, or back"
+    26 TooFewFree "there are too few free sectors or mini sectors"
+    27 OutTooShort "the listing is longer than the out buffer"
+}
+
+impl Refusal {
+    /// The number of the answer, as C programs get it.
+    pub const fn number(self) -> u32 {
+        self as u32
+    }
+
+    /// The refusal with a number; `None` where there is none, as for 0, which means done.
+    pub fn from_number(number: u32) -> Option<Refusal> {
+        Refusal::ALL.iter().copied().find(|refusal| refusal.number() == number)
+    }
+}
+
+impl fmt::Display for Refusal {
+    fn fmt(&self, f: &mut fmt::Formatter<'_>) -> fmt::Result {
+        write!(f, "refused {}: {}", self.number(), self.text())
+    }
+}
+
+impl Error for Refusal {}
+
+/// A call's answer: 0, or a refusal.
+pub(crate) fn answered(number: u32) -> Result<(), Refusal> {
+    match number {
+        0 => Ok(()),
+        _ => Err(Refusal::from_number(number)
+            .unwrap_or_else(|| panic!("the linked library gave the answer {number}, which is none"))),
+    }
+}

@@ -1,0 +1,38 @@
+//! The calls on samples/site.cfb: a storage Site with the streams log (5,000 bytes) and Jets (70 bytes), no sector and no
+//! mini sector free.
+
+mod edits;
+mod queries;
+mod readme;
+mod refusals;
+
+use gyomrelas::{path, read, work_need};
+
+/// The sample, and a work buffer with one number more than needed, full of something else than zero.
+fn site() -> (Vec<u8>, Vec<u32>) {
+    let image = std::fs::read("../../samples/site.cfb").expect("the sample is there");
+    let work = vec![7; work_need(image.len()) + 1];
+    (image, work)
+}
+
+/// So many bytes of a line repeated.
+fn text(line: &str, count: usize) -> Vec<u8> {
+    line.bytes().cycle().take(count).collect()
+}
+
+fn log() -> Vec<u8> {
+    text("line 7 of the site's log\n", 5000)
+}
+
+fn jets() -> Vec<u8> {
+    text("jet 12 opens\n", 70)
+}
+
+/// All bytes of a stream, which has fewer than 10,000.
+fn content(image: &[u8], name: &str) -> Vec<u8> {
+    let mut work = vec![0; work_need(image.len())];
+    let mut out = vec![0; 10_000];
+    let count = read(image, &mut work, &path(name), 0, &mut out).expect("a stream");
+    out.truncate(count);
+    out
+}
