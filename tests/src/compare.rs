@@ -88,6 +88,10 @@ fn check(case: &Case) -> Result<After, String> {
     if let Some(expected) = case.expected.filter(|&expected| expected != answer) {
         return Err(format!("independent {answer}, by the papers {expected}"));
     }
+    if let Some(text) = case.text.as_ref().filter(|text| *text.as_bytes() != outcome.out[..outcome.values[0] as usize])
+    {
+        return Err(format!("independent lists otherwise than expected, which is {text:?}"));
+    }
     let model = case.model.as_ref().map(|rows| by_rows(rows, case, &outcome, &image)).transpose()?;
     #[cfg(feature = "library")]
     {

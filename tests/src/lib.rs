@@ -7,6 +7,7 @@ pub mod cases;
 pub mod compare;
 pub mod draw;
 pub mod effects;
+pub mod files;
 pub mod images;
 pub mod model;
 pub mod number;

@@ -1,7 +1,7 @@
 //! harness SEED [IMAGES [CALLS [LISTS]]]   all cases: random images to validate, random calls, random lists of calls
-//! harness SEED only KIND NUMBER           one case again: KIND is fixed, small, large, calls, deep or lists
+//! harness SEED only KIND NUMBER           one case again: KIND is fixed, samples, small, large, calls, deep or lists
 
-use cfb_tests::cases::{Case, calls::Calls, deep, fixed, large, lists, small::Cases};
+use cfb_tests::cases::{Case, calls::Calls, deep, fixed, large, lists, samples, small::Cases};
 use cfb_tests::compare::Tally;
 
 const LARGE_IMAGES: u64 = 12;
@@ -27,7 +27,8 @@ fn main() {
 fn all(seed: u64, images: u64, calls: u64, list_count: u64) -> Tally {
     let mut tally = Tally::new();
     let mut cases = Cases::new(seed);
-    each_fixed(&mut |number, case| drop(tally.run(&format!("fixed {number}"), &case)));
+    each(fixed::cases(), &mut |number, case| drop(tally.run(&format!("fixed {number}"), &case)));
+    each(samples::cases(), &mut |number, case| drop(tally.run(&format!("samples {number}"), &case)));
     for number in 0..images {
         let case = cases.case(number);
         tally.run(&format!("seed {seed} small {number}"), &case);
@@ -49,8 +50,8 @@ fn all(seed: u64, images: u64, calls: u64, list_count: u64) -> Tally {
     tally
 }
 
-fn each_fixed(then: &mut dyn FnMut(u64, Case)) {
-    for (number, case) in fixed::cases().into_iter().enumerate() {
+fn each(cases: Vec<Case>, then: &mut dyn FnMut(u64, Case)) {
+    for (number, case) in cases.into_iter().enumerate() {
         then(number as u64, case);
     }
 }
@@ -82,7 +83,8 @@ fn one(seed: u64, kind: &str, number: u64) -> Tally {
         }
     };
     match kind {
-        "fixed" => each_fixed(&mut wanted),
+        "fixed" => each(fixed::cases(), &mut wanted),
+        "samples" => each(samples::cases(), &mut wanted),
         "large" => large::run(&mut Cases::new(seed), seed, number / 10, &mut wanted),
         "calls" => wanted(number, Calls::new(seed).case(number)),
         "deep" => deep::run(seed, &mut wanted),

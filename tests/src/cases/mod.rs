@@ -7,6 +7,7 @@ pub mod large;
 pub mod lists;
 pub mod mutate;
 pub mod papers;
+pub mod samples;
 pub mod small;
 
 use crate::calls::Call;
@@ -14,12 +15,15 @@ use crate::model::Model;
 use std::rc::Rc;
 
 /// An image, the length of the work buffer lent with it, a call, and the answer where it is known beforehand.
+#[derive(Clone)]
 pub struct Case {
     pub kind: String,
     pub image: Vec<u8>,
     pub work_len: usize,
     pub call: Call,
     pub expected: Option<u32>,
+    /// What a listing must write, where it is known beforehand.
+    pub text: Option<String>,
     /// The rows of the image, where they are known.
     pub model: Option<Rc<Model>>,
 }
@@ -27,7 +31,7 @@ pub struct Case {
 impl Case {
     /// A validation.
     pub fn new(kind: &str, image: Vec<u8>, work_len: usize, expected: Option<u32>) -> Case {
-        Case { kind: kind.to_string(), image, work_len, call: Call::Validate, expected, model: None }
+        Case { kind: kind.to_string(), image, work_len, call: Call::Validate, expected, text: None, model: None }
     }
 
     pub fn description(&self) -> String {

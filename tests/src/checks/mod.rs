@@ -3,6 +3,7 @@
 mod calls;
 mod plain_owners;
 mod plain_tree;
+mod samples;
 
 use crate::images::{Sample, names, plan::*};
 use crate::number::*;

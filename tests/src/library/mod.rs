@@ -3,7 +3,7 @@
 mod functions;
 mod lent;
 
-pub use functions::validate;
+pub use functions::{call, validate};
 
 use crate::calls::{Call, Outcome};
 use crate::random::Random;
