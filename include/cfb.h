@@ -1,8 +1,8 @@
 /* Compound files (MS-CFB, version 3): the C interface of a library in which every function is proved.
  *
  * No call requires anything of the bytes that it is given: each call ends and answers. A pointer must point to as many
- * elements as its length says (where the length is 0, to anything but NULL; where it has no length, to one), and what the
- * pointers of one call point to must not overlap.
+ * elements as its length says (where the length is 0, to anything but NULL; where it has no length, to one), and what a call
+ * writes to must overlap nothing else that it is given.
  *
  * Every call looks at the whole image first and answers as cfb_validate does where it breaks a rule. Only cfb_overwrite and
  * cfb_set_len change the image. After answers 1 and 2 the work buffer is as it was; after any other its first
@@ -75,7 +75,7 @@ uint32_t cfb_overwrite(uint8_t *image, size_t image_len, uint32_t *work, size_t 
 
 /* Gives a stream another length. A shorter one keeps its first bytes, a longer one has zero bytes behind the old ones. The
  * lowest free units are taken, and what a stream no longer needs becomes free; other streams stay as they are. The same length
- * again changes nothing. Answers 20 to 23, 25 and 26. */
+ * again changes nothing. The image itself never grows. Answers 20 to 23, 25 and 26. */
 uint32_t cfb_set_len(uint8_t *image, size_t image_len, uint32_t *work, size_t work_len, const uint16_t *path, size_t path_len,
                      uint64_t new_len);
 
