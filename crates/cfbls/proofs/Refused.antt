@@ -8,7 +8,6 @@ use Rattle.format.specs.Basics.Bytes.{Bytes}
 use Rattle.format.specs.Calls.Read.{over}
 use Rattle.format.specs.Calls.Text.{newline, decimal}
 use Rattle.format.specs.Calls.Program.{refusedLine}
-use Rattle.text.proofs.Decimals.{decimal-most}
 use Rattle.text.proofs.Over.{over-sets}
 use Rattle.listing.proofs.LineWrites.{Placed}
 use Rattle.cfbls.specs.Line.{refusedWord}
@@ -27,6 +26,3 @@ refused-parts n = refl
 pub refused-length : (n : ℕ) → length (refusedLine n) ≡ 9 + length (decimal n)
 unfolding refusedLine
 refused-length n = omega (arith, length-append (decimal n) (newline ∷ []))
-
-pub refused-most : (n : ℕ) → length (refusedLine n) ≤ 29
-refused-most n = omega (arith, refused-length n, decimal-most n)

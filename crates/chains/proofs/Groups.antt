@@ -22,7 +22,7 @@ use Rattle.format.specs.Rules.Directory.{someChain, directoryRules}
 use Rattle.theory.proofs.Marks.{chain-end, chain-step}
 use Rattle.tables.specs.Sized.{F}
 use Rattle.tables.specs.Listed.{Listed}
-use Rattle.tables.proofs.Places.{cells-bytes}
+use Rattle.tables.proofs.Places.{cells-short as short}
 use Rattle.chains.specs.Answers.{lengthAnswer}
 
 -- ---- group 12
@@ -46,10 +46,7 @@ spare-free g img i x b e h = rw (← e) h
 
 -- the cells of the FAT take no more bytes than the image has
 pub cells-short : {g : Geometry} {img : Bytes} {w : List ℕ} {n list : ℕ} → Listed g img w n list → 4 * (cellsIn g * F img) ≤ length img
-cells-short {g} {img} l =
-    let a = mul-le-mul-left (cellsIn g) (l .few) in
-    let b = ap (λ n. (sectorCount g img + 1) * n) (cells-bytes (l .sized)) in
-    omega (arith, l .sized .long)
+cells-short {g} {img} l = short (l .sized) (F img) (omega (arith, l .few))
 
 -- ---- group 13: with m steps left of the limit the walk is at s
 

@@ -3,6 +3,7 @@ use Prim.Native.Nat.{ℕ, _≤_}
 use mathlib.Core.Path.{_≡_, refl, sym, _∙_, ap, subst}
 use mathlib.Core.Bool.{Bool, true, false, not, cond, _||_, or-true, or-false, or-assoc}
 use mathlib.Core.List.{List, [], _++_, append-assoc, append-nil}
+use borrow.Author.Tests.{not-true, not-false}
 use Rattle.format.specs.Basics.Lists.{all}
 use Rattle.format.specs.Layout.Chain.{END, chain, units}
 use Rattle.theory.specs.Marks.{marks, unmarked, Closed, Owning}
@@ -34,18 +35,10 @@ module _ (cell : ℕ → ℕ) (limit n s : ℕ) (w : List ℕ) {a : Marked} (e :
   shared-is h = ap isShared e ∙ rw h (shared-by (all (unmarked (marks w)) (units cell n s)))
 
   pub broken-chain : isBroken a ≡ true → chain cell limit n s ≡ false
-  broken-chain h = flip (chain cell limit n s) (sym broken-is ∙ h)
-    where
-      flip : (b : Bool) → not b ≡ true → b ≡ false
-      flip true p = sym p
-      flip false p = refl
+  broken-chain h = not-true (chain cell limit n s) (sym broken-is ∙ h)
 
   pub right-chain : isBroken a ≡ false → chain cell limit n s ≡ true
-  right-chain h = flip (chain cell limit n s) (sym broken-is ∙ h)
-    where
-      flip : (b : Bool) → not b ≡ false → b ≡ true
-      flip true p = refl
-      flip false p = sym p
+  right-chain h = not-false (chain cell limit n s) (sym broken-is ∙ h)
 
   -- the chain's units are owned too, and a unit is shared now if one was before or the answer says so
   module _ {w′ : List ℕ} (b : limit ≤ END) (r : Remarked cell limit n s w w′) (h : chain cell limit n s ≡ true) where
@@ -112,18 +105,10 @@ marked-both sp {r} {own₁} {own₂} {a = a} {b} p q =
 -- what the answer says of the chains
 module _ {sp : Space} {right : Bool} {own w w′ : List ℕ} {a : Marked} (m : ChainsMarked sp right own w w′ a) where
   pub is-wrong : isBroken a ≡ true → right ≡ false
-  is-wrong h = flip right (sym (m .answer) ∙ h)
-    where
-      flip : (b : Bool) → not b ≡ true → b ≡ false
-      flip true p = sym p
-      flip false p = refl
+  is-wrong h = not-true right (sym (m .answer) ∙ h)
 
   pub is-right : isBroken a ≡ false → right ≡ true
-  is-right h = flip right (sym (m .answer) ∙ h)
-    where
-      flip : (b : Bool) → not b ≡ false → b ≡ true
-      flip true p = refl
-      flip false p = sym p
+  is-right h = not-false right (sym (m .answer) ∙ h)
 
 -- a walk that found a chain broken
 pub marked-broken : (sp : Space) {right : Bool} (own : List ℕ) {w w′ : List ℕ} → right ≡ false → Wrote w w′ 0 (sp .limit) → ChainsMarked sp right own w w′ Broken

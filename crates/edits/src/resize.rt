@@ -30,7 +30,6 @@ use directory::place;
 use entries::start;
 use kinds::Answer;
 use kinds::EntryId;
-use kinds::Sector;
 use queries::find::Find;
 use queries::find::Object;
 use queries::find::find_in;
@@ -92,14 +91,17 @@ fn gather(img: &[u8], work: &mut [u32], v: Volume, start: Unit, old: usize, need
 }
 
 // The start of a chain of the first n listed units.
-fn first_unit(work: &[u32], n: usize) -> u32
+fn first_unit(work: &[u32], kind: Kind, n: usize) -> Unit
     requires { ⌜ n ≤ length (now work) ⌝ }
-    ensures { λ r. ⌜ r ≡ startOf (take n (now (work .entry))) ⌝ }
+    ensures { λ r. ⌜ r .number ≡ startOf (take n (now (work .entry))) ⌝ }
 {
     if n == 0 {
-        return Sector::END.0;
+        return Unit::end(kind);
     }
-    work[0]
+    Unit {
+        kind: kind,
+        number: work[0],
+    }
 }
 
 // ---- writing
@@ -145,7 +147,7 @@ fn rewrite(
     release(img, work, v, kind, kept, old);
     link(img, work, v, kind, before(kept), n);
     fill_tail(img, work, v, kind, n, e.size, new);
-    put_entry(img, work, v.directory, e.id, first_unit(work, n), new);
+    put_entry(img, work, v.directory, e.id, first_unit(work, kind, n), new);
 }
 
 // ---- the change

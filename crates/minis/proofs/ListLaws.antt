@@ -16,7 +16,7 @@ use Rattle.kinds.specs.Sizes.{geometryOf}
 use Rattle.theory.proofs.Scale.{scale-div, scale-mod, scale-below}
 use Rattle.tables.specs.Sized.{wordIn}
 use Rattle.tables.specs.Work.{Wrote}
-use Rattle.tables.proofs.Places.{cells-some, cells-bytes}
+use Rattle.tables.proofs.Places.{cells-some, cells-bytes, cells-short as short}
 use Rattle.tables.proofs.WorkLaws.{wrote-none, wrote-set}
 use Rattle.minis.specs.Listed.{Listed}
 use Rattle.minis.specs.declared.Minis.{Minis}
@@ -45,10 +45,6 @@ module _ {t : Minis} {img : Bytes} {w w′ : List ℕ} {at m : ℕ} (l : Listed 
   pub listed-kept : at + m ≤ t .list → Listed t img w′
   listed-kept h = still (inl h)
 
-  -- where only what stands behind it changes
-  pub listed-kept-behind : t .list + t .sectors ≤ at → Listed t img w′
-  listed-kept-behind h = still (inr h)
-
 module _ {t : Minis} {img : Bytes} {w : List ℕ} (l : Listed t img w) where
   abbrev g : Geometry
   g = geometryOf (t .geometry)
@@ -73,10 +69,7 @@ module _ {t : Minis} {img : Bytes} {w : List ℕ} (l : Listed t img w) where
 
   -- the cells take no more bytes than the image has
   pub cells-short : 4 * (cellsIn g * t .sectors) ≤ length img
-  cells-short =
-      let a = mul-le-mul-left (cellsIn g) (l .small) in
-      let b = ap (λ n. (sectorCount g img + 1) * n) (cells-bytes (l .sized)) in
-      omega (arith, l .sized .long)
+  cells-short = short (l .sized) (t .sectors) (l .small)
 
   -- ---- the cell of m is a number of the sector that the list has for it
 

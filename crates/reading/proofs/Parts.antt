@@ -1,13 +1,14 @@
 -- Parts of bytes, parts put over others, and places inside a unit of U bytes.
-use Prim.Native.Nat.{ℕ, _+_, _*_, _/_, _%_, _≤_, _<_}
+use Prim.Native.Nat.{ℕ, _+_, _-_, _*_, _/_, _%_, _≤_, _<_}
 use mathlib.Core.Path.{_≡_, refl, sym, _∙_, ap}
-use mathlib.Core.List.{[], _++_, append-assoc}
+use mathlib.Core.List.{[], _++_}
 use native.Mathlib.Nat.{div-add-mod', add-mul, div-eq-of-lt-le}
 use native.Mathlib.Omega.{arith}
 use lib.ListN.{length, getD, take, drop}
-use lib.Seq.{sets-eq, length-sets, getD-take, getD-drop, ext-getD, take-add, drop-drop}
+use lib.Seq.{length-sets, getD-take, getD-drop, ext-getD, take-add, drop-drop}
 use Rattle.format.specs.Basics.Bytes.{Bytes, part, putBytes}
 use Rattle.theory.proofs.ByteTests.{length-part}
+use Rattle.theory.proofs.Sets.{lent-back}
 
 -- ---- parts
 
@@ -32,7 +33,8 @@ pub put-part : (d b : Bytes) (i p k : ℕ) → i + k ≤ length d → p + k ≤ 
 unfolding putBytes
 put-part d b i p k h l =
     let n = length-part b p k l in
-    sets-eq (part b p k) d i (omega arith) ∙ rw (n, drop-drop k i d) (append-assoc (take i d) (part b p k) (drop (i + k) d))
+    let z : i + k - i ≡ k = omega arith in
+    sym (rw z at (lent-back d (part b p k) i (i + k) (omega arith) h))
 
 -- two parts with the same bytes
 pub part-equal : (a b : Bytes) (p q n : ℕ) → p + n ≤ length a → q + n ≤ length b → ((i : ℕ) → i < n → getD a (p + i) 0 ≡ getD b (q + i) 0) → part a p n ≡ part b q n

@@ -38,26 +38,17 @@ fn copy_run(img: &[u8], p: usize, left: usize, out: &mut [u8], i: usize) -> usiz
 
 // ---- the units of a stream
 
-// The number of the unit of a chain that stands k units behind its start.
-fn unit_after(img: &[u8], work: &[u32], v: Volume, start: Unit, n: usize, k: usize) -> u32
+// The unit of a chain that stands k units behind its start.
+fn unit_after(img: &[u8], work: &[u32], v: Volume, start: Unit, n: usize, k: usize) -> Unit
     requires { ⌜ Readied v (now img) (now work) ⌝ }
     requires { ⌜ chain (spaceOf (start .kind) (volumeOf (geometryOf (v .tables .geometry)) (now img)) .cell) (spaceOf (start .kind) (volumeOf (geometryOf (v .tables .geometry)) (now img)) .limit) n (start .number) ≡ true ⌝ }
     requires { ⌜ k < n ⌝ }
-    ensures { λ r. ⌜ r ≡ getD (units (spaceOf (start .kind) (volumeOf (geometryOf (v .tables .geometry)) (now (img .entry))) .cell) n (start .number)) k 0 ⌝ }
+    ensures { λ r. ⌜ r ≡ record { kind = start .kind; number = getD (units (spaceOf (start .kind) (volumeOf (geometryOf (v .tables .geometry)) (now (img .entry))) .cell) n (start .number)) k 0 } ⌝ }
 {
-    let kind = start.kind;
-    let mut u = start.number;
+    let mut u = start;
     let mut i = 0;
     while i < k {
-        u = cell_of(
-            img,
-            work,
-            v,
-            Unit {
-                kind: kind,
-                number: u,
-            },
-        );
+        u = cell_of(img, work, v, u);
         i += 1;
     }
     u
@@ -89,12 +80,8 @@ pub fn read_units(
     let mut o = offset % bytes;
     let mut i = 0;
     while i < end {
-        let unit = Unit {
-            kind: kind,
-            number: u,
-        };
-        i += copy_run(img, unit_place(work, v, unit) + o, bytes - o, out, i);
-        u = cell_of(img, work, v, unit);
+        i += copy_run(img, unit_place(work, v, u) + o, bytes - o, out, i);
+        u = cell_of(img, work, v, u);
         o = 0;
     }
 }

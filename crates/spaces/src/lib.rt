@@ -1,8 +1,10 @@
 // Sectors and mini sectors alike: a unit of either kind of an opened volume, its cell, and where cell and unit stand in the image.
 ghost use mathlib.Core.Path.{_≡_};
 ghost use Prim.Native.Nat.{_+_, _/_, _≤_, _<_};
+ghost use lib.Dec.{eqb};
 ghost use lib.ListN.{length};
 ghost use mathlib.Core.List.{[]};
+ghost use Rattle.format.specs.Layout.Chain.{FREE, END};
 ghost use Rattle.format.specs.Layout.Volume.{volume as volumeOf};
 ghost use Rattle.kinds.specs.Sizes.{geometryOf};
 ghost use Rattle.volume.specs.Opened.{Readied};
@@ -24,6 +26,49 @@ pub enum Kind {
 pub struct Unit {
     pub kind: Kind,
     pub number: u32,
+}
+
+impl Unit {
+    // What a cell of a kind holds where its unit is free, and where a chain ends.
+    pub fn free(kind: Kind) -> Unit
+        ensures { λ r. ⌜ r ≡ record { kind = kind; number = FREE } ⌝ }
+    {
+        match kind {
+            Kind::Sectors => Unit {
+                kind: Kind::Sectors,
+                number: Sector::FREE.0,
+            },
+            Kind::Minis => Unit {
+                kind: Kind::Minis,
+                number: MiniSector::FREE.0,
+            },
+        }
+    }
+
+    pub fn end(kind: Kind) -> Unit
+        ensures { λ r. ⌜ r ≡ record { kind = kind; number = END } ⌝ }
+    {
+        match kind {
+            Kind::Sectors => Unit {
+                kind: Kind::Sectors,
+                number: Sector::END.0,
+            },
+            Kind::Minis => Unit {
+                kind: Kind::Minis,
+                number: MiniSector::END.0,
+            },
+        }
+    }
+
+    pub fn is_free(self) -> bool
+        ensures { λ r. ⌜ r ≡ eqb (self .number) FREE ⌝ }
+    {
+        let kind = self.kind;
+        match kind {
+            Kind::Sectors => Sector(self.number).is_free(),
+            Kind::Minis => MiniSector(self.number).is_free(),
+        }
+    }
 }
 
 // The kind of unit that a stream of n bytes lies in.
@@ -100,14 +145,20 @@ pub fn unit_place(work: &[u32], v: Volume, u: Unit) -> usize
 // ---- cells
 
 // The cell of a unit.
-pub fn cell_of(img: &[u8], work: &[u32], v: Volume, u: Unit) -> u32
+pub fn cell_of(img: &[u8], work: &[u32], v: Volume, u: Unit) -> Unit
     requires { ⌜ Readied v (now img) (now work) ⌝ }
     requires { ⌜ u .number < spaceOf (u .kind) (volumeOf (geometryOf (v .tables .geometry)) (now img)) .limit ⌝ }
-    ensures { λ r. ⌜ r ≡ spaceOf (u .kind) (volumeOf (geometryOf (v .tables .geometry)) (now (img .entry))) .cell (u .number) ⌝ }
+    ensures { λ r. ⌜ r ≡ record { kind = u .kind; number = spaceOf (u .kind) (volumeOf (geometryOf (v .tables .geometry)) (now (img .entry))) .cell (u .number) } ⌝ }
 {
     let kind = u.kind;
     match kind {
-        Kind::Sectors => cell_at(img, work, v.tables, Sector(u.number)).0,
-        Kind::Minis => mini_cell(img, work, v.minis, MiniSector(u.number)).0,
+        Kind::Sectors => Unit {
+            kind: Kind::Sectors,
+            number: cell_at(img, work, v.tables, Sector(u.number)).0,
+        },
+        Kind::Minis => Unit {
+            kind: Kind::Minis,
+            number: mini_cell(img, work, v.minis, MiniSector(u.number)).0,
+        },
     }
 }

@@ -1,7 +1,7 @@
 -- Where numbers stand in sectors: inside the image; and the cells of the FAT by these places.
 use Prim.Native.Nat.{ℕ, suc, _+_, _-_, _*_, _/_, _%_, _≤_, _<_}
-use mathlib.Core.Path.{_≡_, refl}
-use native.Mathlib.Nat.{mod-lt, mul-le-mul-right, le-div-iff-mul-le}
+use mathlib.Core.Path.{_≡_, refl, ap}
+use native.Mathlib.Nat.{mod-lt, mul-le-mul-left, mul-le-mul-right, le-div-iff-mul-le}
 use native.Mathlib.Omega.{arith}
 use lib.ListN.{length}
 use borrow.Author.Tests.{lt-ltb, le-ltb}
@@ -40,6 +40,13 @@ module _ {g : Geometry} {img : Bytes} (z : ImageSized g img) where
       let w = z .wide in
       le-div-iff-mul-le {k = g .sectorBytes} {x = 1} {y = length img} (omega arith) .1
       (omega (arith, z .long, mul-le-mul-right (g .sectorBytes) (let o : 1 ≤ sectorCount g img + 1 = omega arith in o)))
+
+  -- the cells of no more sectors than there are take no more bytes than the image has
+  pub cells-short : (n : ℕ) → n ≤ sectorCount g img → 4 * (cellsIn g * n) ≤ length img
+  cells-short n h =
+      let a = mul-le-mul-left (cellsIn g) h in
+      let b = ap (λ k. (sectorCount g img + 1) * k) cells-bytes in
+      omega (arith, z .long)
 
   -- a number in a sector lies in the image
   pub word-inside : (s i : ℕ) → s < sectorCount g img → i < cellsIn g → sectorPlace g s + 4 * i + 4 ≤ length img

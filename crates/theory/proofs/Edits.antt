@@ -19,7 +19,7 @@ use Rattle.theory.proofs.OwnerCounts.{owners-at, owners-two}
 use Rattle.theory.proofs.Chains.{linked-below, linked-not-free}
 use Rattle.theory.proofs.Contents.{laid-agree, laid-length, laid-take, laid-scatter, scatter-out}
 use Rattle.theory.proofs.Fits.{length-fit, fit-cut, take-fit}
-use Rattle.theory.proofs.Owned.{owned-rechained, untouched, came-free}
+use Rattle.theory.proofs.Owned.{untouched, came-free}
 
 module _ (N B : ℕ) (lim : N ≤ END) (sys : List ℕ) (t : Table) (L : List (List ℕ)) (o : Kept N B sys t L) where
   -- the units of a chain have a block's length
@@ -38,9 +38,6 @@ module _ (N B : ℕ) (lim : N ≤ END) (sys : List ℕ) (t : Table) (L : List (L
         ]
 
     module _ (c : List ℕ) (e : length c ≡ length ws * B) (t′ : Table) (x : Edited N B sys t (getD L i []) ws c t′) where
-      pub edited-kept : Kept N B sys t′ (set L i ws)
-      edited-kept = record { owned = owned-rechained N lim sys (t .cells) L (o .owned) i hi ws k (t′ .cells) (x .cells); sized = x .sized }
-
       pub edited-content : laid (t′ .blocks) ws ≡ c
       edited-content =
           laid-agree (scatter B ws c (t .blocks)) (t′ .blocks) ws (λ s q. x .blocks s (k .from s q .0) (not-system s q))

@@ -129,10 +129,3 @@ module _ (N : ℕ) (lim : N ≤ END) (sys : List ℕ) (f : ℕ → ℕ) (L : Lis
             system = λ s p e.
                 o .system s p (sym (stays s (o .within s p) (o .system s p) (omega (arith, owners-at s i L, o .single s))) ∙ e);
           }
-
--- the chain at i becomes the first m units of its own and of the free ones
-module _ (N : ℕ) (lim : N ≤ END) (sys : List ℕ) (f : ℕ → ℕ) (L : List (List ℕ)) (o : Owned N sys f L) (i : ℕ) (hi : i < length L) (m : ℕ) where
-  pub owned-resized : (g : ℕ → ℕ) → ((s : ℕ) → s < N → g s ≡ rechain (getD L i []) (take m (getD L i [] ++ freeBelow f N)) f s) →
-      Owned N sys g (set L i (take m (getD L i [] ++ freeBelow f N)))
-  owned-resized g is =
-      owned-rechained N lim sys f L o i hi (take m (getD L i [] ++ freeBelow f N)) (resized-becomes f N lim (getD L i []) (o .chains i hi) m) g is

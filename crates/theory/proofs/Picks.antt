@@ -1,11 +1,12 @@
 -- The numbers below a bound that pass a test.
-use mathlib.Core.Path.{_≡_, refl, ap}
+use mathlib.Core.Path.{_≡_, refl, sym, _∙_, ap}
 use mathlib.Core.Logic.{_≢_, inl, inr}
 use mathlib.Core.Bool.{Bool, true, false, not, cond}
-use mathlib.Core.List.{[], _∷_}
+use mathlib.Core.List.{List, [], _∷_, _++_, append-assoc, append-nil}
 use Prim.Native.Nat.{ℕ, zero, suc, _+_, _≤_, _<_}
 use native.Mathlib.Omega.{arith}
-use native.Mathlib.Decide.{ℕ-discrete}
+use native.Mathlib.Decide.{ℕ-discrete, decLe}
+use native.Mathlib.Numerals.{add-one}
 use borrow.Author.Tests.{eq-eqb}
 use lib.ListN.{length, length-append}
 use Rattle.format.specs.Basics.Lists.{bit, count, pickBelow, listBelow}
@@ -78,4 +79,31 @@ count-below (suc n) f j h =
     elim (ℕ-discrete j n) [
       | yes e ↦ let q = ap bit (eq-eqb (f j) (f n) (ap f e)) in omega arith
       | no e ↦ let r = count-below n f j (omega arith) in omega arith
+    ]
+
+-- ---- as the bound rises
+
+-- where none passes, none comes
+pub pick-skip : (p : ℕ → Bool) (i n : ℕ) → i ≤ n → ((u : ℕ) → i ≤ u → u < n → p u ≡ false) → pickBelow n p ≡ pickBelow i p
+pick-skip p i zero h none = let z : 0 ≡ i = omega arith in ap (λ k. pickBelow k p) z
+pick-skip p i (suc n) h none =
+    elim (decLe i n) [
+      | yes l ↦ rw (none n l (omega arith)) (append-nil _ ∙ pick-skip p i n l (λ u a b. none u a (omega arith)))
+      | no l ↦ let z : suc n ≡ i = omega arith in ap (λ k. pickBelow k p) z
+    ]
+
+-- one that passes comes last
+pub pick-more : (p : ℕ → Bool) (u : ℕ) → p u ≡ true → pickBelow (u + 1) p ≡ pickBelow u p ++ (u ∷ [])
+pick-more p u e = rw (add-one, e)
+
+-- those below a place are the first of all
+pub pick-front : (p : ℕ → Bool) (i n : ℕ) → i ≤ n → (ys : List ℕ) × (pickBelow n p ≡ pickBelow i p ++ ys)
+pick-front p i zero h = let z : 0 ≡ i = omega arith in ([], ap (λ k. pickBelow k p) z ∙ sym (append-nil _))
+pick-front p i (suc n) h =
+    elim (decLe i n) [
+      | yes l ↦
+          let r = pick-front p i n l in
+          let x = cond (p n) (n ∷ []) [] in
+          (r .0 ++ x, rw (r .1) (append-assoc (pickBelow i p) (r .0) x))
+      | no l ↦ let z : suc n ≡ i = omega arith in ([], ap (λ k. pickBelow k p) z ∙ sym (append-nil _))
     ]

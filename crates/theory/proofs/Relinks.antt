@@ -93,12 +93,6 @@ rechain-not us ws f s c n m q p =
       | no k ↦ λ e. m (sym e ∙ chained-out ws (freed us f) s (omega arith) ∙ freed-in us f s (omega arith))
     ]
 
--- the cell of a unit that goes is free
-pub rechain-released : (us ws : List ℕ) (f : ℕ → ℕ) (s : ℕ) → 0 < count s us → count s ws ≡ 0 → rechain us ws f s ≡ FREE
-unfolding rechain
-rechain-released us ws f s p q = chained-out ws (freed us f) s q ∙ freed-in us f s p
-
--- a chain that is linked anew is as it was
 pub rechain-same : (us : List ℕ) (f : ℕ → ℕ) (N : ℕ) → Linked f N us → (s : ℕ) → rechain us us f s ≡ f s
 unfolding chained rechain
 rechain-same us f N h s =

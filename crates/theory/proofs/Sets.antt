@@ -1,13 +1,13 @@
 -- What a run of stores does to a part of a list.
 use mathlib.Core.Path.{_≡_, refl, ap, _∙_, sym}
 use mathlib.Core.Logic.{_≢_}
-use mathlib.Core.List.{List, [], _∷_, _++_}
-use Prim.Native.Nat.{ℕ, zero, suc, _+_, _≤_, _<_}
+use mathlib.Core.List.{List, [], _∷_, _++_, append-assoc}
+use Prim.Native.Nat.{ℕ, zero, suc, _+_, _-_, _≤_, _<_}
 use native.Mathlib.Nat.{add-suc, suc-add, add-zero}
 use native.Mathlib.Omega.{arith}
 use lib.ListN.{length, getD, take, drop, set, length-set}
 use native.Mathlib.Numerals.{add-one}
-use lib.Seq.{drop-cons, set-at, append-snoc, take-suc, length-take-le, sets, take-take, drop-set-add, drop-set-lt, take-set-le, take-set-lt, set-append-left, getD-set-same, getD-set-other}
+use lib.Seq.{sets-eq, drop-drop, drop-cons, set-at, append-snoc, take-suc, length-take-le, sets, take-take, drop-set-add, drop-set-lt, take-set-le, take-set-lt, set-append-left, getD-set-same, getD-set-other}
 
 module _ {A : Type 0} where
   pub drop-sets-add : (n : ℕ) (l : List A) (i : ℕ) (vs : List A) → drop n (sets l (n + i) vs) ≡ sets (drop n l) i vs
@@ -68,3 +68,9 @@ module _ {A : Type 0} where
       ∙ set-at (take i s) (getD d i z) (drop (suc i) d) (getD s i z) i (length-take-le i s (omega arith))
       ∙ sym (append-snoc (take i s) (getD s i z) (drop (suc i) d))
       ∙ ap (λ (r : List A). r ++ drop (suc i) d) (sym (take-suc s i z b)))
+
+-- a part that was lent and comes back with others in it: a store of those from the part's start on
+pub lent-back : (b x : List ℕ) (from to : ℕ) → from + length x ≡ to → to ≤ length b → take from b ++ (x ++ drop (to - from) (drop from b)) ≡ sets b from x
+lent-back b x from to e h =
+    let n : to - from ≡ length x = omega arith in
+    rw (n, drop-drop (length x) from b) (sym (sets-eq x b from (omega arith) ∙ append-assoc (take from b) x (drop (from + length x) b)))

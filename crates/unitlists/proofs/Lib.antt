@@ -1,6 +1,5 @@
 -- Laws for lists of units.
 pub mod Limits
 pub mod Searching
-pub mod Picks
 pub mod Picking
 pub mod Listing

@@ -13,7 +13,7 @@ use Rattle.format.specs.Layout.Space.{Space, freeUnits}
 use Rattle.tables.specs.Work.{Wrote}
 use Rattle.tables.proofs.WorkLaws.{wrote-none, wrote-set}
 use Rattle.unitlists.specs.Free.{NextFree}
-use Rattle.unitlists.proofs.Picks.{pick-skip, pick-more, pick-front}
+use Rattle.theory.proofs.Picks.{pick-skip, pick-more, pick-front}
 
 pub record Picking (sp : Space) (w₀ : List ℕ) (k₀ need : ℕ) (w : List ℕ) (k from : ℕ) : Type 0 where
   pub some : k ≤ need

@@ -12,7 +12,6 @@ ghost use Rattle.tables.specs.Work.{Wrote};
 ghost use Rattle.volume.specs.Opened.{Readied};
 ghost use Rattle.spaces.specs.Spaces.{spaceOf};
 ghost use Rattle.unitlists.specs.Free.{NextFree};
-use kinds::Sector;
 use spaces::Kind;
 use spaces::Unit;
 use spaces::cell_of;
@@ -21,7 +20,7 @@ use volume::Volume;
 
 // ---- free units
 
-// The lowest free unit from a place on, or how many units there are. A free cell reads the same in both kinds.
+// The lowest free unit from a place on, or how many units there are.
 fn next_free(img: &[u8], work: &[u32], v: Volume, kind: Kind, from: usize) -> usize
     requires { ⌜ Readied v (now img) (now work) ⌝ }
     requires { ⌜ from ≤ spaceOf kind (volumeOf (geometryOf (v .tables .geometry)) (now img)) .limit ⌝ }
@@ -34,7 +33,7 @@ fn next_free(img: &[u8], work: &[u32], v: Volume, kind: Kind, from: usize) -> us
             kind: kind,
             number: i as u32,
         };
-        if cell_of(img, work, v, u) == Sector::FREE.0 {
+        if cell_of(img, work, v, u).is_free() {
             return i;
         }
         i += 1;
@@ -82,16 +81,11 @@ pub fn list_units(img: &[u8], work: &mut [u32], v: Volume, start: Unit, n: usize
     ensures { λ _. ⌜ take n (now (work .exit)) ≡ units (spaceOf (start .kind) (volumeOf (geometryOf (v .tables .geometry)) (now (img .entry))) .cell) n (start .number) ⌝ }
     ensures { λ _. ⌜ Wrote (now (work .entry)) (now (work .exit)) 0 n ⌝ }
 {
-    let kind = start.kind;
-    let mut u = start.number;
+    let mut u = start;
     let mut i = 0;
     while i < n {
-        work[i] = u;
-        let here = Unit {
-            kind: kind,
-            number: u,
-        };
-        u = cell_of(img, work, v, here);
+        work[i] = u.number;
+        u = cell_of(img, work, v, u);
         i += 1;
     }
 }

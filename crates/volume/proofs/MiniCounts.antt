@@ -24,7 +24,7 @@ use Rattle.theory.proofs.Tests.{both}
 use Rattle.theory.proofs.Chains.{chain-short}
 use Rattle.theory.proofs.RoundUp.{round-enough}
 use Rattle.tables.specs.Sized.{ImageSized}
-use Rattle.tables.proofs.Places.{cells-bytes}
+use Rattle.tables.proofs.Places.{cells-short}
 use Rattle.minis.specs.Listed.{MiniCounts}
 use Rattle.volume.specs.Passed.{miniCellRules}
 
@@ -50,10 +50,7 @@ module _ (g : Geometry) (img : Bytes) where
 
     -- its cells take no more bytes than the image has
     pub table-cells : miniFatChain (volume g img) ≡ true → 4 * (cellsIn g * miniFatCount img) ≤ length img
-    table-cells h =
-        let a = mul-le-mul-left (cellsIn g) (table-short h) in
-        let b = ap (λ n. (sectorCount g img + 1) * n) (cells-bytes z) in
-        omega (arith, a, b, z .long)
+    table-cells h = cells-short z (miniFatCount img) (table-short h)
 
     pub stream-short : miniStreamChain (volume g img) ≡ true → roundUp (size (directory g img .entry 0)) (g .sectorBytes) ≤ sectorCount g img
     stream-short h = chain-short (fatCell g img) (sectorCount g img) (omega (arith, z .few)) _ _ (mini-stream-chain h)

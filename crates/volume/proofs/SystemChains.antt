@@ -32,12 +32,14 @@ use Rattle.kinds.specs.Sizes.{geometryOf}
 use Rattle.entries.specs.Entry.{entryAt}
 use Rattle.directory.specs.Listed.{placeOf, Listed}
 use Rattle.directory.specs.declared.Directory.{Directory as Where}
-use Rattle.directory.proofs.Places.{root-inside, entry-is}
+use Rattle.directory.proofs.Places.{root-inside}
+use Rattle.owners.proofs.StreamLaws.{entry-read}
 use Rattle.directory.proofs.Sectors.{directory-chain, directory-units}
 
 -- the entry at the root's place
 pub root-read : {d : Where} {img : Bytes} {w : List ℕ} (s : Sizes) (p : ℕ) → Listed d img w → d .geometry ≡ s → p ≡ placeOf d w 0 → entryAt img p ≡ directory (geometryOf s) img .entry 0
-root-read {img = img} s p l e q = ap (entryAt img) q ∙ sym (entry-is l 0 (root-inside l)) ∙ ap (λ k. directory (geometryOf k) img .entry 0) e
+unfolding volume
+root-read s p l e q = entry-read s 0 p l e (root-inside l) q
 
 module _ {g : Geometry} {img : Bytes} {w w′ : List ℕ} {a : Marked} (z : ImageSized g img) where
   -- a chain of n sectors from s

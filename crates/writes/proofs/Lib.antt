@@ -1,6 +1,5 @@
 -- Laws for writes.
 pub mod Units
-pub mod Lent
 pub mod Cells
 pub mod Zeroing
 pub mod Putting

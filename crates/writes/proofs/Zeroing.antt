@@ -12,7 +12,7 @@ use Rattle.format.specs.Calls.Overwrite.{putChain}
 use Rattle.format.specs.Calls.SetLength.{zeroed}
 use Rattle.theory.proofs.ByteTests.{length-part}
 use Rattle.frame.proofs.Chunks.{put-append, put-chunk}
-use Rattle.writes.proofs.Lent.{lent-back}
+use Rattle.theory.proofs.Sets.{lent-back}
 
 -- n zeros
 abbrev pub zeros : ℕ → Bytes

@@ -14,7 +14,6 @@ ghost use Rattle.writes.specs.Writable.{Writable};
 use directory::Directory;
 use directory::place;
 use kinds::EntryId;
-use kinds::Sector;
 use le::copy;
 use le::fill_zero;
 use le::put_u32;
@@ -28,13 +27,14 @@ use volume::Volume;
 
 // ---- cells
 
-fn put_cell(img: &mut [u8], work: &[u32], v: Volume, u: Unit, c: u32)
+// Writes the cell of a unit.
+fn put_cell(img: &mut [u8], work: &[u32], v: Volume, u: Unit, c: Unit)
     requires { ⌜ CellListed v (now work) (u .kind) (u .number) ⌝ }
     requires { ⌜ listedSpace v (now work) (u .kind) .cellPlace (u .number) + 4 ≤ length (now img) ⌝ }
-    ensures { λ _. ⌜ now (img .exit) ≡ putCell (listedSpace v (now (work .entry)) (u .kind)) (now (img .entry)) (u .number) c ⌝ }
+    ensures { λ _. ⌜ now (img .exit) ≡ putCell (listedSpace v (now (work .entry)) (u .kind)) (now (img .entry)) (u .number) (c .number) ⌝ }
 {
     let p = cell_place(work, v, u);
-    put_u32(img, p, c);
+    put_u32(img, p, c.number);
 }
 
 // Frees the cells of the units from number `from` to before number `to` of the list.
@@ -53,22 +53,25 @@ pub fn release(img: &mut [u8], work: &[u32], v: Volume, kind: Kind, from: usize,
                 kind,
                 number: work[j],
             },
-            Sector::FREE.0,
+            Unit::free(kind),
         );
         j += 1;
     }
 }
 
 // What the cell of unit number j of the list holds in a chain that ends before number `to`: the next unit, or the end.
-fn next_of(work: &[u32], j: usize, to: usize) -> u32
+fn next_of(work: &[u32], kind: Kind, j: usize, to: usize) -> Unit
     requires { ⌜ to ≤ length (now work) ⌝ }
     requires { ⌜ j < to ⌝ }
-    ensures { λ r. ⌜ r ≡ startOf (drop (j + 1) (take to (now (work .entry)))) ⌝ }
+    ensures { λ r. ⌜ r .number ≡ startOf (drop (j + 1) (take to (now (work .entry)))) ⌝ }
 {
     if j + 1 < to {
-        return work[j + 1];
+        return Unit {
+            kind,
+            number: work[j + 1],
+        };
     }
-    Sector::END.0
+    Unit::end(kind)
 }
 
 // Links these units into a chain: each cell names the next unit, the last cell is the end.
@@ -87,7 +90,7 @@ pub fn link(img: &mut [u8], work: &[u32], v: Volume, kind: Kind, from: usize, to
                 kind,
                 number: work[j],
             },
-            next_of(work, j, to),
+            next_of(work, kind, j, to),
         );
         j += 1;
     }
@@ -173,13 +176,13 @@ pub fn put_bytes(
 // ---- entries
 
 // Writes start and size of an entry.
-pub fn put_entry(img: &mut [u8], work: &[u32], d: Directory, x: EntryId, start: u32, size: u64)
+pub fn put_entry(img: &mut [u8], work: &[u32], d: Directory, x: EntryId, start: Unit, size: u64)
     requires { ⌜ Placed d (now work) (x .0) ⌝ }
     requires { ⌜ placeOf d (now work) (x .0) + 128 ≤ length (now img) ⌝ }
     requires { ⌜ length (now img) < 0x1_0000_0000 ⌝ }
-    ensures { λ _. ⌜ now (img .exit) ≡ put64 (put32 (now (img .entry)) (placeOf d (now (work .entry)) (x .0) + startField) start) (placeOf d (now (work .entry)) (x .0) + sizeField) size ⌝ }
+    ensures { λ _. ⌜ now (img .exit) ≡ put64 (put32 (now (img .entry)) (placeOf d (now (work .entry)) (x .0) + startField) (start .number)) (placeOf d (now (work .entry)) (x .0) + sizeField) size ⌝ }
 {
     let p = place(work, d, x);
-    put_u32(img, p + 116, start);
+    put_u32(img, p + 116, start.number);
     put_u64(img, p + 120, size);
 }

@@ -2,6 +2,8 @@ use borrow.Author.Needs.{needs}
 use mathlib.Core.Path.{_∙_, ap}
 use Rattle.format.specs.Layout.Tables.{sectorSpace}
 use Rattle.format.specs.Layout.Volume.{volume}
+use Rattle.spaces.specs.declared.Kind.the-variants.{Sectors, Minis}
+use Rattle.spaces.proofs.Places.{unit-same-kind}
 use Rattle.spaces.proofs.Stands.{sector-cell, mini-cell, minis-same}
 use Rattle.spaces.proofs.cell_of.Statement.{statement}
 use Rattle.spaces.proofs.cell_of.Tie as tie
@@ -15,7 +17,7 @@ cell-of-spec =
     (λ c κs. let p = c .before .before .before .before .pre in (p .0 .lists .mini .fat, sector-cell (p .0) _ (rw (c .enum-told .given .1) at (p .1))))  -- cell-at-requires
     (λ c. search needs)  -- enum-told-2
     (λ c κs. let p = c .before .before .before .before .pre in (p .0 .lists .minis, mini-cell (p .0) _ (rw (c .enum-told2 .given .1) at (p .1))))  -- mini-cell-requires
-    (λ c. rw (c .before .enum-told .given .1) (c .cell-at .ensures))  -- returns
+    (λ c. rw (c .before .enum-told .given .1) (unit-same-kind Sectors (c .cell-at .ensures)))  -- returns
     (λ c.
     let p = c .before .before .before .before .before in
-    rw (c .before .enum-told2 .given .1) (c .mini-cell .ensures ∙ ap (λ sp. sp .cell (p .args .u .number)) (minis-same (p .pre .0)))))  -- returns-2
+    rw (c .before .enum-told2 .given .1) (unit-same-kind Minis (c .mini-cell .ensures ∙ ap (λ sp. sp .cell (p .args .u .number)) (minis-same (p .pre .0))))))  -- returns-2

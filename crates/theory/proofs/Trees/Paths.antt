@@ -30,15 +30,7 @@ module _ (d : Directory) where
   -- ---- one name
 
   module _ (x : ℕ) (n : Name) (ns : List Name) where
-    pub descend-stream : isStream (d .entry x) ≡ true → descend d (reached d x) (n ∷ ns) ≡ refused 22
-    unfolding descend enter
-    descend-stream s = rw s (descend-refused 22 ns)
-
     module _ (s : isStream (d .entry x) ≡ false) where
-      pub descend-missing : childNamed d n (at d (childOf d x)) ≡ missing → descend d (reached d x) (n ∷ ns) ≡ refused 21
-      unfolding descend enter foundChild
-      descend-missing e = rw (s, e) (descend-refused 21 ns)
-
       pub descend-present : (y : ℕ) → childNamed d n (at d (childOf d x)) ≡ present y (at d (childOf d y)) → descend d (reached d x) (n ∷ ns) ≡ descend d (reached d y) ns
       unfolding descend enter foundChild
       descend-present y e = rw (s, e)

@@ -1,5 +1,6 @@
 use borrow.Author.Needs.{needs}
 use Prim.Native.Nat.{_-_, _≤_, _<_}
+use mathlib.Core.Path.{_≡_, refl}
 use native.Mathlib.Omega.{arith}
 use lib.ListN.{length}
 use Rattle.format.specs.Layout.Volume.{volume}
@@ -13,10 +14,10 @@ use Rattle.unitlists.proofs.list_units.Statement.{statement}
 use Rattle.unitlists.proofs.list_units.Tie as tie
 
 abbrev Inv-loop : tie.InvT-loop
-Inv-loop img work₀ v n kind u₀ i₀ work u i = Listing (spaceOf kind (volume (geometryOf (v .tables .geometry)) img) .cell) n u₀ work₀ work u i
+Inv-loop img work₀ v n u₀ i₀ work u i = (u .kind ≡ u₀ .kind) × Listing (spaceOf (u₀ .kind) (volume (geometryOf (v .tables .geometry)) img) .cell) n (u₀ .number) work₀ work (u .number) i
 
 abbrev μ-loop : tie.MeasureT-loop
-μ-loop img work₀ v n kind u₀ i₀ work u i = n - i
+μ-loop img work₀ v n u₀ i₀ work u i = n - i
 
 -- the list has room before the others
 room : (c : tie.Start Inv-loop μ-loop) → let a = c .args in (a .n ≤ a .v .stream) × (a .n ≤ length (a .work .now))
@@ -28,22 +29,22 @@ room c =
 
 -- so there is a place for the unit at hand
 in-work : (c : tie.In-loop Inv-loop μ-loop) → c .before .loop .i < length (c .before .loop .work)
-in-work c = omega (arith, room (c .before .before .before .before) .1, c .before .loop .inv .wrote .long)
+in-work c = omega (arith, room (c .before .before .before .before) .1, c .before .loop .inv .1 .wrote .long)
 
 pub list-units-spec : {M : Type 1} → statement M
 list-units-spec =
     tie.close
     (tie.spec Inv-loop μ-loop
-    (λ c. listing-start)  -- loop-holds
+    (λ c. (refl, listing-start))  -- loop-holds
     (λ c. omega (arith, in-work c))  -- mul-work
     (λ c. in-work c)  -- slice-write-work
     (λ c κs.
     let p = c .before .before .before .before .before in
-    let l = c .before .before .loop .inv in
+    let l = c .before .before .loop .inv .1 in
     let h = c .before .loop-test .taken in
-    (ready-kept (listing-wrote l h) (room p .0) (p .pre .0), listing-below l (p .pre .1) h))  -- cell-of-requires
+    (ready-kept (listing-wrote l h) (room p .0) (p .pre .0), rw (c .before .before .loop .inv .0) (listing-below l (p .pre .1) h)))  -- cell-of-requires
     (λ c. search needs)  -- add-i
     (λ c. search needs)  -- loop-less
-    (λ c. rw (c .cell-of .ensures) (listing-step (c .before .before .before .loop .inv) (c .before .before .loop-test .taken) (in-work (c .before .before))))  -- loop-again
-    (λ c. c .before .loop .inv .wrote .long)  -- same-length
-    (λ c. let l = c .before .loop .inv in (listing-done l (omega arith), l .wrote)))  -- returns
+    (λ c. let l = c .before .before .before .loop .inv in rw (c .cell-of .ensures, l .0) (refl, listing-step (l .1) (c .before .before .loop-test .taken) (in-work (c .before .before))))  -- loop-again
+    (λ c. c .before .loop .inv .1 .wrote .long)  -- same-length
+    (λ c. let l = c .before .loop .inv .1 in (listing-done l (omega arith), l .wrote)))  -- returns

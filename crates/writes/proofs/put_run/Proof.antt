@@ -6,7 +6,7 @@ use native.Mathlib.Omega.{arith}
 use lib.ListN.{length}
 use Rattle.format.specs.Basics.Bytes.{part, putBytes}
 use Rattle.theory.proofs.ByteTests.{length-part}
-use Rattle.writes.proofs.Lent.{lent-back}
+use Rattle.theory.proofs.Sets.{lent-back}
 use Rattle.writes.proofs.put_run.Statement.{statement}
 use Rattle.writes.proofs.put_run.Tie as tie
 

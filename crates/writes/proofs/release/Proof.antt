@@ -1,3 +1,4 @@
+use borrow.Author.Needs.{needs}
 use Prim.Native.Nat.{_-_}
 use mathlib.Core.Path.{refl}
 use native.Mathlib.Omega.{arith}
@@ -21,17 +22,18 @@ release-spec =
     (λ c. let p = c .before .before in writing-start _ (p .args .work .now) (p .args .from) (p .args .to) (p .pre .0 .room) (p .args .img .now) (p .pre .1))  -- loop-holds
     (λ c. let r = c .before .before .before .before .before .pre .0 .room in omega arith)  -- mul-t12
     (λ c. let r = c .before .before .before .before .before .before .pre .0 .room in omega arith)  -- shared-slice-read-t14
+    (λ c κs. search needs)  -- free-requires
     (λ c κs.
-    let p = c .before .before .before .before .before .before .pre .0 in
-    let l = c .before .before .before .loop in
-    let h = c .before .before .loop-test .taken in
+    let p = c .before .before .before .before .before .before .before .pre .0 in
+    let l = c .before .before .before .before .loop in
+    let h = c .before .before .before .loop-test .taken in
     (p .cells (l .j) h, omega (arith, p .cellRoom (l .j) h, l .inv .long)))  -- put-cell-requires
     (λ c. omega arith)  -- add-j
     (λ c. omega arith)  -- loop-less
     (λ c.
-    let p = c .before .before .before .before .before .before .before .before .before in
+    let p = c .before .before .before .before .before .before .before .before .before .before in
     let u = c .before .before .put-cell in
-    writing-step _ (p .args .work .now) (p .args .from) (p .args .to) (p .pre .0 .room) (p .args .img .now) (c .before .before .before .before .before .before .loop .inv) (c .before .before .before .before .before .loop-test .taken) (u .last .0) (u .kept .0) (rw (u .ensures)))  -- loop-again
+    writing-step _ (p .args .work .now) (p .args .from) (p .args .to) (p .pre .0 .room) (p .args .img .now) (c .before .before .before .before .before .before .before .loop .inv) (c .before .before .before .before .before .before .loop-test .taken) (u .last .0) (u .kept .0) (rw (u .ensures, c .before .before .before .free .ensures)))  -- loop-again
     (λ c. c .before .loop .inv .long)  -- same-length
     (λ c.
     let p = c .before .before .before .before in

@@ -23,4 +23,4 @@ rewrite-spec =
     (λ c.
     let a = c .before .before .before .before .before .before .before .before .before .before .before .before .before .before .before .before .before .before .before .before .before .args in
     let r = c .before .before .before .before .before .before .before .before .before .before .before .before .before .before .before .before .before .before .before .before .before .pre .0 .room in
-    rewritten-is _ _ (a .work .now) (a .old) (a .n) (a .e .size) (a .new) (a .img .now) (omega arith) (omega arith) (c .before .before .before .before .before .before .before .before .before .before .before .before .before .before .before .before .before .before .least .result) (c .before .before .before .before .before .before .before .before .before .before .before .before .before2 .result) (c .before .before .before .first-unit .result) (c .before .before .before .before .before .before .before .before .before .before .before .before .before .before .before .before .before .before .least .ensures) (c .before .before .before .before .before .before .before .before .before .before .before .before .before2 .ensures) (c .before .before .before .first-unit .ensures) (c .before .before .before .before .before .before .before .before .before .before .before .before .before .before .before .before .release .ensures) (c .before .before .before .before .before .before .before .before .before .before .before .link .ensures) (c .before .before .before .before .before .before .before .fill-tail .ensures) (c .before .before .put-entry .ensures)))  -- returns
+    rewritten-is _ _ (a .work .now) (a .old) (a .n) (a .e .size) (a .new) (a .img .now) (omega arith) (omega arith) (c .before .before .before .before .before .before .before .before .before .before .before .before .before .before .before .before .before .before .least .result) (c .before .before .before .before .before .before .before .before .before .before .before .before .before2 .result) (c .before .before .before .first-unit .result .number) (c .before .before .before .before .before .before .before .before .before .before .before .before .before .before .before .before .before .before .least .ensures) (c .before .before .before .before .before .before .before .before .before .before .before .before .before2 .ensures) (c .before .before .before .first-unit .ensures) (c .before .before .before .before .before .before .before .before .before .before .before .before .before .before .before .before .release .ensures) (c .before .before .before .before .before .before .before .before .before .before .before .link .ensures) (c .before .before .before .before .before .before .before .fill-tail .ensures) (c .before .before .put-entry .ensures)))  -- returns

@@ -1,0 +1,12 @@
+use borrow.Author.Needs.{needs}
+use Rattle.spaces.proofs.Unit.free.Statement.{statement}
+use Rattle.spaces.proofs.Unit.free.Tie as tie
+
+pub free-spec : {M : Type 1} → statement M
+free-spec =
+    tie.close
+    (tie.spec
+    (λ c. search needs)  -- enum-told
+    (λ c. search needs)  -- enum-told-2
+    (λ c. rw (c .enum-told .given .1))  -- returns
+    (λ c. rw (c .enum-told2 .given .1)))  -- returns-2
