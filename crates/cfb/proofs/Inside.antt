@@ -1,7 +1,7 @@
 -- A call on an opened volume: its answer is 0, or 20 or more, and its reply is what comes after validation.
-use Prim.Native.Nat.{ℕ, zero, suc, _+_, _≤_, _<_}
-use mathlib.Core.Path.{_≡_, refl, sym, _∙_, ap}
-use mathlib.Core.Logic.{_≢_, _⊎_, inl, inr, ⊎-elim}
+use Prim.Native.Nat.{ℕ, zero, suc, _+_, _≤_}
+use mathlib.Core.Path.{_≡_, refl, sym, _∙_}
+use mathlib.Core.Logic.{_⊎_, inl, inr, ⊎-elim}
 use mathlib.Core.Bool.{Bool, true, false, cond}
 use mathlib.Core.List.{List}
 use native.Mathlib.Omega.{arith}
@@ -29,7 +29,7 @@ use Rattle.frame.proofs.Accepted.{accepted-kept}
 use Rattle.volume.specs.Opened.{OpenedRight}
 use Rattle.volume.specs.declared.Volume.{Volume as Place}
 use Rattle.volume.specs.declared.Opened.{Opened}
-use Rattle.volume.specs.declared.Opened.the-variants.{Refused, Ready}
+use Rattle.volume.specs.declared.Opened.the-variants.{Ready}
 use Rattle.volume.proofs.Opening.{left-cleared}
 use Rattle.queries.specs.Inside.{Open, replyIn, outIn}
 use Rattle.edits.specs.Images.{imageIn}

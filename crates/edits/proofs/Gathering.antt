@@ -1,7 +1,7 @@
 -- A chain's units listed, and free ones behind them: whether there are enough, and what stands in the work buffer.
-use Prim.Native.Nat.{ℕ, zero, suc, _+_, _*_, _/_, _≤_, _<_, min}
+use Prim.Native.Nat.{ℕ, zero, suc, _+_, _≤_, _<_, min}
 use mathlib.Core.Path.{_≡_, refl, sym, _∙_, ap, subst}
-use mathlib.Core.Bool.{Bool, true, false, not}
+use mathlib.Core.Bool.{true, false, not}
 use mathlib.Core.List.{List, [], _∷_, _++_}
 use native.Mathlib.Omega.{arith}
 use native.Mathlib.Decide.{decLt}
@@ -10,13 +10,13 @@ use lib.ListN.{length, getD, take}
 use lib.Seq.{take-take, take-append-le, take-all}
 use borrow.Author.Tests.{lt-ltb, le-ltb, eq-eqb, ne-eqb, eqb-true}
 use Rattle.format.specs.Basics.Bytes.{Bytes}
-use Rattle.format.specs.Layout.Chain.{chain, units, startOf, freeBelow}
+use Rattle.format.specs.Layout.Chain.{chain, units, startOf}
 use Rattle.format.specs.Layout.Space.{Space, freeUnits}
 use Rattle.format.specs.Rules.Length.{workNeed}
 use Rattle.theory.proofs.Chains.{chain-linked, chain-short, length-units}
 use Rattle.theory.proofs.FreeUnits.{pool-short}
 use Rattle.tables.specs.Work.{Wrote}
-use Rattle.tables.proofs.WorkLaws.{wrote-wider, wrote-two}
+use Rattle.tables.proofs.WorkLaws.{wrote-wider}
 use Rattle.volume.specs.Opened.{Readied}
 use Rattle.volume.specs.declared.Volume.{Volume as Opened}
 use Rattle.volume.proofs.ListsKept.{ready-kept}

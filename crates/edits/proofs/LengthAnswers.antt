@@ -1,11 +1,10 @@
 -- Changes of length: the answer and the image, by what the find found.
-use Prim.Native.Nat.{ℕ, zero, suc, _+_, _≤_, _<_}
+use Prim.Native.Nat.{ℕ, _+_}
 use mathlib.Core.Path.{_≡_, refl, sym, _∙_, ap, ap₂}
 use mathlib.Core.Logic.{_≢_}
-use mathlib.Core.Bool.{Bool, true, false, cond, _||_}
+use mathlib.Core.Bool.{true, false}
 use mathlib.Core.List.{[]}
 use native.Mathlib.Omega.{arith}
-use lib.Dec.{ltb, eqb}
 use lib.ListN.{length}
 use borrow.Author.Tests.{eq-eqb, le-ltb}
 use Rattle.format.specs.Basics.Bytes.{Bytes}
@@ -22,7 +21,7 @@ use Rattle.format.specs.Calls.Reply.{onZero}
 use Rattle.format.specs.Calls.Buffers.{edited}
 use Rattle.edits.specs.Images.{imageIn}
 use Rattle.edits.proofs.Streams.{same-uncrossed}
-use Rattle.edits.proofs.Targets.{image-refused, image-done, first-refused}
+use Rattle.edits.proofs.Targets.{image-refused, first-refused}
 
 -- the same length needs no room
 same-enough : (g : Geometry) (s m n : ℕ) → tooFew g s m n n ≡ false

@@ -1,8 +1,8 @@
 -- Overwrites: the steps, the answer and the image.
-use Prim.Native.Nat.{ℕ, _+_, _-_, _*_, _≤_, _<_, max}
-use mathlib.Core.Path.{_≡_, refl, sym, _∙_, ap, ap₂, subst}
+use Prim.Native.Nat.{ℕ, _+_, _-_, _*_, _≤_, _<_}
+use mathlib.Core.Path.{_≡_, sym, _∙_, ap, ap₂, subst}
 use mathlib.Core.Logic.{_≢_}
-use mathlib.Core.Bool.{Bool, true, false, cond}
+use mathlib.Core.Bool.{true, false, cond}
 use mathlib.Core.List.{List, []}
 use native.Mathlib.Omega.{arith}
 use native.Mathlib.Decide.{decLt}
@@ -18,17 +18,14 @@ use Rattle.format.specs.Layout.Chain.{chain, units}
 use Rattle.format.specs.Layout.Entry.{start}
 use Rattle.format.specs.Layout.Volume.{Volume}
 use Rattle.format.specs.Layout.Stream.{spaceFor, streamSize, streamUnits}
-use Rattle.format.specs.Rules.Length.{workNeed}
 use Rattle.format.specs.Calls.Paths.{Path}
 use Rattle.format.specs.Calls.Call.{Call, overwrite}
 use Rattle.format.specs.Calls.Overwrite.{putChain, overwritten}
 use Rattle.format.specs.Calls.Answer.{firstOf, beyond, target, targetAnswer, answerIn}
 use Rattle.format.specs.Calls.Buffers.{edited}
-use Rattle.theory.proofs.Chains.{chain-linked, linked-below, length-units}
+use Rattle.theory.proofs.Chains.{chain-linked, linked-below}
 use Rattle.theory.proofs.RoundUp.{round-enough}
 use Rattle.frame.specs.Good.{spaceOf as sideSpace}
-use Rattle.frame.proofs.Blocks.{Units}
-use Rattle.tables.specs.Work.{Wrote}
 use Rattle.volume.specs.Opened.{Readied}
 use Rattle.volume.specs.declared.Volume.{Volume as Opened}
 use Rattle.spaces.specs.Spaces.{kindFor, spaceOf, listedSpace}

@@ -1,7 +1,7 @@
 -- Changes of length: the steps. What is listed in the work buffer are the stream's units and free ones behind them; what is written by them is
 -- `format`'s image.
 use Prim.Native.Nat.{ℕ, _+_, _*_, _≤_, _<_, max}
-use mathlib.Core.Path.{_≡_, refl, sym, _∙_, ap, ap₂, subst}
+use mathlib.Core.Path.{_≡_, sym, _∙_, ap, ap₂, subst}
 use mathlib.Core.Logic.{_≢_}
 use mathlib.Core.Bool.{Bool, true, false, not, cond}
 use mathlib.Core.List.{List, _++_}
@@ -13,7 +13,6 @@ use lib.Seq.{length-take-le}
 use borrow.Author.Tests.{ne-eqb, ltb-false, not-true, not-false}
 use Rattle.format.specs.Basics.Lists.{count}
 use Rattle.format.specs.Basics.Bytes.{Bytes}
-use Rattle.format.specs.Layout.Geometry.{Geometry}
 use Rattle.format.specs.Layout.Need.{cutoff, roundUp}
 use Rattle.format.specs.Layout.Chain.{chain, units, freeBelow}
 use Rattle.format.specs.Layout.Entry.{start}
@@ -21,7 +20,7 @@ use Rattle.format.specs.Layout.Directory.{entryPlace}
 use Rattle.format.specs.Layout.Space.{Space, freeUnits}
 use Rattle.format.specs.Layout.Volume.{Volume, volume, directorySectorsOf}
 use Rattle.format.specs.Layout.Stream.{spaceFor, streamSize, streamUnits}
-use Rattle.format.specs.Calls.SetLength.{crosses, tooFew, editSpace, newUnits, tailZeroed, entryWritten, resized}
+use Rattle.format.specs.Calls.SetLength.{crosses, editSpace, newUnits, tailZeroed, entryWritten, resized}
 use Rattle.format.specs.Calls.Answer.{lengthAnswer}
 use Rattle.theory.specs.Links.{Linked}
 use Rattle.theory.proofs.Chains.{chain-linked, linked-below}

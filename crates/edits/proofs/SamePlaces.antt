@@ -1,14 +1,14 @@
 -- Writes go by places: two spaces that give the same places to the units at hand are written alike.
-use Prim.Native.Nat.{ℕ, zero, suc, _+_, _-_, _*_, _/_, _≤_, _<_, min}
-use mathlib.Core.Path.{_≡_, refl, sym, _∙_, ap, ap₂}
+use Prim.Native.Nat.{ℕ, suc, _+_, _-_, _*_, _/_, _≤_, _<_, min}
+use mathlib.Core.Path.{_≡_, refl, _∙_, ap}
 use mathlib.Core.Bool.{Bool, true, false, cond}
 use mathlib.Core.List.{List, [], _∷_}
 use native.Mathlib.Nat.{div-lt-iff-lt-mul}
 use native.Mathlib.Omega.{arith}
 use lib.Dec.{ltb}
 use lib.ListN.{length, getD, drop, replicate, length-replicate}
-use Rattle.format.specs.Basics.Lists.{count, bit}
-use Rattle.format.specs.Basics.Bytes.{Bytes, put32}
+use Rattle.format.specs.Basics.Lists.{count}
+use Rattle.format.specs.Basics.Bytes.{Bytes}
 use Rattle.format.specs.Layout.Chain.{FREE, startOf}
 use Rattle.format.specs.Layout.Space.{Space}
 use Rattle.format.specs.Calls.Overwrite.{bytePlace, putChain}

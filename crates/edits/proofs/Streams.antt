@@ -3,18 +3,16 @@ use Prim.Native.Nat.{ℕ, _+_, _≤_, _<_, max}
 use native.Mathlib.Decide.{decLt}
 use borrow.Author.Tests.{lt-leb, le-leb, le-ltb}
 use mathlib.Core.Path.{_≡_, refl, sym, _∙_, ap, subst}
-use mathlib.Core.Bool.{Bool, true, false, cond, _&&_, _||_}
+use mathlib.Core.Bool.{Bool, true, false, _&&_, _||_}
 use mathlib.Core.List.{List}
 use native.Mathlib.Omega.{arith}
 use lib.Dec.{ltb, leb}
 use lib.ListN.{length}
 use Rattle.format.specs.Basics.Bytes.{Bytes}
-use Rattle.format.specs.Layout.Geometry.{Geometry}
 use Rattle.format.specs.Layout.Need.{cutoff, roundUp}
 use Rattle.format.specs.Layout.Chain.{chain, units}
 use Rattle.format.specs.Layout.Entry.{start}
-use Rattle.format.specs.Layout.Space.{Space}
-use Rattle.format.specs.Layout.Volume.{Volume, volume}
+use Rattle.format.specs.Layout.Volume.{Volume}
 use Rattle.format.specs.Layout.Stream.{spaceFor, streamUnits, streamSize}
 use Rattle.format.specs.Calls.SetLength.{small, crosses}
 use Rattle.theory.proofs.Chains.{linked-chain}

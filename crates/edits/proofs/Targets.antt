@@ -1,13 +1,12 @@
 -- What a find says of the answer of an edit, and of the image that it leaves.
-use Prim.Native.Nat.{ℕ, zero, suc, _≤_}
+use Prim.Native.Nat.{ℕ, zero, suc}
 use mathlib.Core.Path.{_≡_, refl, sym, _∙_, ap, subst}
 use mathlib.Core.Logic.{_≢_}
-use mathlib.Core.Bool.{true, false}
 use native.Mathlib.Omega.{arith}
 use borrow.Author.Tests.{eq-eqb, ne-eqb}
 use Rattle.format.specs.Basics.Bytes.{Bytes}
 use Rattle.format.specs.Layout.Geometry.{Geometry}
-use Rattle.format.specs.Layout.Entry.{isStream, kind}
+use Rattle.format.specs.Layout.Entry.{kind}
 use Rattle.format.specs.Layout.Volume.{Volume}
 use Rattle.format.specs.Layout.Stream.{streamSize}
 use Rattle.format.specs.Calls.Paths.{Path}

@@ -1,6 +1,6 @@
 -- Units that stand listed at the start of the work buffer can be written, and what is written by the lists is what the space says.
-use Prim.Native.Nat.{ℕ, _+_, _*_, _≤_, _<_, max}
-use mathlib.Core.Path.{_≡_, refl, sym, _∙_, ap, subst}
+use Prim.Native.Nat.{ℕ, _+_, _*_, _≤_, _<_}
+use mathlib.Core.Path.{_≡_, subst}
 use mathlib.Core.List.{List}
 use native.Mathlib.Omega.{arith}
 use lib.ListN.{length, getD, take}
@@ -10,8 +10,6 @@ use Rattle.format.specs.Basics.Bytes.{Bytes}
 use Rattle.format.specs.Layout.Geometry.{miniBytes}
 use Rattle.format.specs.Calls.Overwrite.{putChain}
 use Rattle.theory.proofs.Counts.{count-at}
-use Rattle.frame.proofs.Blocks.{Units}
-use Rattle.kinds.specs.Sizes.{geometryOf}
 use Rattle.volume.specs.Opened.{Readied}
 use Rattle.volume.specs.declared.Volume.{Volume as Opened}
 use Rattle.spaces.specs.Spaces.{spaceOf, listedSpace}

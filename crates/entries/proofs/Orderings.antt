@@ -1,6 +1,6 @@
 -- The order of two names as an answer: when each answer is right, and what it says.
-use mathlib.Core.Path.{_≡_, refl, sym, _∙_, subst}
-use mathlib.Core.Bool.{Bool, true, false}
+use mathlib.Core.Path.{_≡_, sym, _∙_, subst}
+use mathlib.Core.Bool.{true, false}
 use mathlib.Core.Logic.{inl, inr}
 use Rattle.format.specs.Layout.Name.{Name, nameLess, nameEqual, fold}
 use Rattle.kinds.specs.declared.Order.{Order}

@@ -1,13 +1,11 @@
 -- What the groups say of a volume, as facts, alike for both spaces: `b` is true for the mini sectors and false for the sectors.
-use Prim.Native.Nat.{ℕ, _*_, _%_, _≤_, _<_}
+use Prim.Native.Nat.{ℕ, _%_, _≤_, _<_}
 use mathlib.Core.Path.{_≡_}
-use mathlib.Core.Logic.{_≢_}
-use mathlib.Core.Bool.{Bool, true, not, cond, _&&_, Bool·beq}
+use mathlib.Core.Bool.{Bool, true, cond, _&&_, Bool·beq}
 use mathlib.Core.List.{List, []}
 use lib.Dec.{eqb, ltb, leb}
 use lib.ListN.{length}
 use Rattle.format.specs.Basics.Lists.{listBelow}
-use Rattle.format.specs.Basics.Bytes.{Bytes}
 use Rattle.format.specs.Layout.Need.{cutoff, roundUp}
 use Rattle.format.specs.Layout.Geometry.{miniBytes}
 use Rattle.format.specs.Layout.Space.{Space}
@@ -19,7 +17,7 @@ use Rattle.format.specs.Rules.Cells.{plainCell, restFree, cellRules}
 use Rattle.format.specs.Rules.Entries.{entryRules}
 use Rattle.format.specs.Rules.Trees.{treeRules}
 use Rattle.theory.specs.Links.{Linked}
-use Rattle.theory.specs.Owned.{Owned, MayBecome}
+use Rattle.theory.specs.Owned.{Owned}
 
 abbrev pub spaceOf : Volume → Bool → Space
 spaceOf v b = cond b (v .minis) (v .sectors)

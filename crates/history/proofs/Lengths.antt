@@ -2,14 +2,10 @@
 use Prim.Native.Nat.{ℕ, _+_, _*_, _≤_, _<_, max}
 use mathlib.Core.Path.{_≡_, refl, sym, ap, _∙_, subst}
 use mathlib.Core.Logic.{inl, inr}
-use mathlib.Core.Bool.{Bool, true, false, cond, _&&_, Bool·beq}
-use mathlib.Core.List.{List, [], _∷_, _++_}
-use native.Mathlib.Omega.{arith}
-use native.Mathlib.Decide.{ℕ-discrete, decLt}
-use lib.Dec.{ltb, leb}
-use lib.ListN.{length, take, length-append}
-use lib.Seq.{length-take-le}
-use borrow.Author.Tests.{lt-ltb, le-ltb, le-leb}
+use mathlib.Core.Bool.{Bool, true, false, cond, Bool·beq}
+use mathlib.Core.List.{List, [], _++_}
+use lib.Dec.{ltb}
+use lib.ListN.{length, take}
 use Rattle.format.specs.Basics.Bytes.{Bytes}
 use Rattle.format.specs.Basics.Lists.{fit, count}
 use Rattle.format.specs.Layout.Need.{cutoff, roundUp}
@@ -17,16 +13,13 @@ use Rattle.format.specs.Layout.Space.{Space, freeUnits, laid, block}
 use Rattle.format.specs.Layout.Chain.{freeBelow}
 use Rattle.format.specs.Layout.Entry.{isStream}
 use Rattle.format.specs.Layout.Volume.{Volume}
-use Rattle.format.specs.Layout.Stream.{spaceFor, streamUnits, contents, streamSize}
-use Rattle.format.specs.Calls.SetLength.{small, crosses, editSpace, newUnits}
-use Rattle.theory.specs.Links.{Linked}
-use Rattle.theory.specs.Owned.{MayBecome}
+use Rattle.format.specs.Layout.Stream.{streamUnits, contents, streamSize}
+use Rattle.format.specs.Calls.SetLength.{crosses, newUnits}
 use Rattle.theory.specs.Blocks.{target}
 use Rattle.theory.proofs.Chains.{linked-below}
 use Rattle.theory.proofs.FreeUnits.{resized-becomes}
 use Rattle.theory.proofs.Edits.{target-length, target-is}
 use Rattle.theory.proofs.RoundUp.{round-enough, round-zero, round-mono}
-use Rattle.theory.proofs.Tests.{clash, neither}
 use Rattle.frame.specs.Good.{spaceOf, unitsOf, Good}
 use Rattle.frame.proofs.LengthUnits.{sides-uncrossed, old-side, old-units-linked, old-units-length, new-units-are, new-units-length}
 use Rattle.history.proofs.Filled.{Sized, contents-read}

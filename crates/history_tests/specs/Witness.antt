@@ -1,5 +1,5 @@
 -- The claim is not empty: an accepted image with a small and a large stream, and the claim about every list of calls on it.
-use mathlib.Core.Path.{_≡_, refl}
+use mathlib.Core.Path.{refl}
 use mathlib.Core.List.{List}
 use Rattle.format.specs.Layout.Geometry.{version3}
 use Rattle.format.specs.Rules.Verdict.{Accepted}

@@ -9,7 +9,7 @@ use Rattle.format.specs.Basics.Bytes.{Bytes}
 use Rattle.format.specs.Layout.Directory.{Directory}
 use Rattle.format.specs.Layout.Tree.{forest, entries}
 use Rattle.format.specs.Calls.Text.{newline, decimal}
-use Rattle.format.specs.Calls.Listing.{line, lines, firstLine, listing}
+use Rattle.format.specs.Calls.Listing.{lines, firstLine, listing}
 use Rattle.theory.specs.TreeViews.{whole}
 use Rattle.tables.specs.Work.{Wrote}
 use Rattle.entries.specs.Entry.{entryAt}

@@ -1,14 +1,13 @@
 -- The list of the mini FAT's sectors: where it stays, the bounds that it gives, and the cells by it.
 use Prim.Native.Nat.{ℕ, _+_, _*_, _/_, _%_, _≤_, _<_}
-use mathlib.Core.Path.{_≡_, _∙_, ap}
+use mathlib.Core.Path.{_≡_, _∙_}
 use mathlib.Core.Logic.{_⊎_, inl, inr}
 use mathlib.Core.List.{List}
-use native.Mathlib.Nat.{mul-le-mul-left}
 use native.Mathlib.Omega.{arith}
 use lib.ListN.{length, getD, set}
 use borrow.Author.Tests.{lt-ltb}
 use Rattle.format.specs.Basics.Bytes.{Bytes}
-use Rattle.format.specs.Layout.Geometry.{Geometry, sectorCount, placeIn, cellsIn}
+use Rattle.format.specs.Layout.Geometry.{Geometry, placeIn, cellsIn}
 use Rattle.format.specs.Layout.Header.{miniFatCount}
 use Rattle.format.specs.Layout.Tables.{cellIn, cellPlaceIn}
 use Rattle.format.specs.Layout.Volume.{miniCells, miniSpace}

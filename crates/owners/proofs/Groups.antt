@@ -1,6 +1,6 @@
 -- Groups 17 and 18 by what the functions on streams and owners answer.
 use Prim.Native.Nat.{ℕ, _<_}
-use mathlib.Core.Path.{_≡_, refl, sym, _∙_, ap₂}
+use mathlib.Core.Path.{_≡_, refl, sym, _∙_}
 use mathlib.Core.Logic.{⊎-elim}
 use mathlib.Core.Bool.{Bool, true, false, not, cond, _&&_, _||_, and-true}
 use mathlib.Core.List.{List, [], _++_, append-assoc}
@@ -19,7 +19,7 @@ use Rattle.format.specs.Layout.Volume.{Volume, volume, systemSectors, miniSpace
 use Rattle.format.specs.Layout.Stream.{spaceFor, streamSize}
 use Rattle.format.specs.Rules.Tables.{tableRules}
 use Rattle.format.specs.Rules.Streams.{streamChain, streamRight, streamRules}
-use Rattle.format.specs.Rules.Owners.{ownSectors, ownedSectors, ownedMinis, ownersIn, ownerRules}
+use Rattle.format.specs.Rules.Owners.{ownSectors, ownedSectors, ownedMinis, ownersIn}
 use Rattle.theory.specs.Marks.{Owning, covered}
 use Rattle.theory.proofs.Counts.{count-append}
 use Rattle.theory.proofs.OwnerMarks.{owners-by-marks}

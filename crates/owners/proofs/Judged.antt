@@ -1,6 +1,6 @@
 -- The answer for one space, by what the walks and the test of its units said.
 use Prim.Native.Nat.{ℕ}
-use mathlib.Core.Path.{_≡_, refl, sym, _∙_, ap, ap₂}
+use mathlib.Core.Path.{_≡_, sym, ap}
 use mathlib.Core.Bool.{Bool, true, false}
 use mathlib.Core.List.{List, []}
 use native.Mathlib.Omega.{arith}
@@ -15,7 +15,6 @@ use Rattle.kinds.specs.Sizes.{geometryOf}
 use Rattle.directory.specs.Listed.{entriesOf}
 use Rattle.directory.specs.declared.Directory.{Directory as Where}
 use Rattle.owners.specs.Streams.{ownersAnswer}
-use Rattle.owners.specs.declared.rules.Owners.{Owners}
 use Rattle.owners.specs.declared.rules.Owners.the-variants.{Broken, Wrong, Right}
 
 module _ (chains owners : Bool) where

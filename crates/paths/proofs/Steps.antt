@@ -2,7 +2,6 @@
 use Prim.Native.Nat.{ℕ, _+_, _≤_, _<_}
 use mathlib.Core.Path.{_≡_, refl, ap, sym, _∙_}
 use mathlib.Core.Logic.{_≢_, inl, inr}
-use mathlib.Core.List.{List, _∷_}
 use mathlib.Core.Bool.{Bool, true, false, cond, _&&_, _||_}
 use native.Mathlib.Omega.{arith}
 use borrow.Author.Tests.{eqb-true}
@@ -14,9 +13,9 @@ use Rattle.format.specs.Layout.Entry.{NOSTREAM, name, left, right, child, isBla
 use Rattle.format.specs.Layout.Directory.{Directory}
 use Rattle.format.specs.Layout.Tree.{Forest}
 use Rattle.format.specs.Rules.Entries.{blankFields, storageFields, streamFields, commonFields, entryFields, entryRight, entryRules}
-use Rattle.format.specs.Rules.Trees.{sound, isObject, sidesOrdered, everyNode, treeRules}
+use Rattle.format.specs.Rules.Trees.{sound, isObject, everyNode, treeRules}
 use Rattle.format.specs.Calls.Paths.{Path, wellFormed}
-use Rattle.format.specs.Calls.Find.{Child, missing, present, orElse, childNamed, Found, at as foundAt, refused, foundChild, enter, descend, resolve}
+use Rattle.format.specs.Calls.Find.{Child, missing, present, orElse, childNamed, Found, refused, foundChild, enter, descend, resolve}
 use Rattle.theory.specs.TreeViews.{rows, leftOf, rightOf, childOf, at, soundAt}
 use Rattle.theory.specs.TreeFind.{Searchable, reached}
 use Rattle.theory.proofs.Counts.{eqb-cases}

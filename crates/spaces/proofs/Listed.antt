@@ -1,12 +1,12 @@
 -- Where a volume is ready, the lists reach every unit of either kind, and the places that they give are those of its space.
-use Prim.Native.Nat.{ℕ, _+_, _*_, _/_, _%_, _≤_, _<_}
+use Prim.Native.Nat.{ℕ, _+_, _*_, _/_, _≤_, _<_}
 use mathlib.Core.Path.{_≡_, refl, sym, _∙_, ap}
 use mathlib.Core.List.{List}
 use native.Mathlib.Nat.{mul-comm}
 use native.Mathlib.Omega.{arith}
 use lib.ListN.{length, getD}
 use Rattle.format.specs.Basics.Bytes.{Bytes}
-use Rattle.format.specs.Layout.Geometry.{Geometry, sectorCount, sectorPlace, placeIn, cellsIn, miniBytes}
+use Rattle.format.specs.Layout.Geometry.{Geometry, sectorCount, placeIn, cellsIn, miniBytes}
 use Rattle.format.specs.Layout.Header.{fatCount}
 use Rattle.format.specs.Layout.Tables.{difatEntry, cellPlaceIn, fatSectors, sectorSpace}
 use Rattle.format.specs.Layout.Volume.{Volume, volume, miniSpace, miniFatSectors}
@@ -18,7 +18,7 @@ use Rattle.tables.specs.Sized.{ImageSized, F}
 use Rattle.tables.proofs.Places.{sector-inside, cells-bytes}
 use Rattle.volume.specs.Opened.{Readied}
 use Rattle.volume.specs.declared.Volume.{Volume as Opened}
-use Rattle.spaces.specs.Spaces.{spaceOf, listedPlace, listedSpace, cellList, CellListed, UnitListed}
+use Rattle.spaces.specs.Spaces.{spaceOf, listedPlace, listedSpace, CellListed, UnitListed}
 use Rattle.spaces.specs.declared.Kind.{Kind}
 use Rattle.spaces.specs.declared.Kind.the-variants.{Sectors, Minis}
 use Rattle.spaces.proofs.Stands.{sectors-stand, minis-stand, minis-same, sector-cell, mini-cell, mini-listed, mini-place-is}

@@ -1,12 +1,10 @@
 -- Places by the lists: they fit the machine's numbers, and where a volume is ready they are those of its spaces.
-use Prim.Native.Nat.{ℕ, _+_, _*_, _/_, _%_, _≤_, _<_}
-use mathlib.Core.Path.{_≡_, refl, sym, _∙_, ap}
-use mathlib.Core.List.{List}
+use Prim.Native.Nat.{ℕ, _+_, _*_, _%_, _≤_, _<_}
+use mathlib.Core.Path.{_≡_}
 use native.Mathlib.Nat.{mod-lt, mul-le-mul}
 use native.Mathlib.Omega.{arith}
 use mir.Syntax.{w64}
 use mir.Val.{Fits}
-use lib.ListN.{length, getD}
 use Rattle.format.specs.Layout.Geometry.{Geometry, sectorPlace}
 use Rattle.spaces.specs.declared.Kind.{Kind}
 use Rattle.spaces.specs.declared.Unit.{Unit}

@@ -7,7 +7,7 @@ use Prim.Native.Nat.{ℕ, _*_, _≤_, _<_}
 use native.Mathlib.Omega.{arith}
 use native.Mathlib.Decide.{decLt}
 use lib.Dec.{ltb}
-use lib.ListN.{length, take, getD, set}
+use lib.ListN.{length, take, getD}
 use lib.Seq.{take-append-le, take-take, length-take-le}
 use borrow.Author.Tests.{ltb-true, ltb-false}
 use Rattle.format.specs.Basics.Lists.{count, fit}

@@ -1,23 +1,22 @@
 -- The free units: what a chain may take of them.
-use mathlib.Core.Path.{_≡_, refl, sym, ap, ap₂, _∙_}
-use mathlib.Core.Logic.{_≢_, _⊎_, inl, inr}
-use mathlib.Core.Bool.{Bool, true, false, cond}
-use mathlib.Core.List.{List, [], _∷_, _++_}
-use Prim.Native.Nat.{min, ℕ, zero, suc, _+_, _≤_, _<_}
+use mathlib.Core.Path.{_≡_, refl, sym, _∙_}
+use mathlib.Core.Logic.{_⊎_, inl, inr}
+use mathlib.Core.Bool.{Bool, true, false}
+use mathlib.Core.List.{List, _++_}
+use Prim.Native.Nat.{min, ℕ, _+_, _≤_, _<_}
 use native.Mathlib.Omega.{arith}
-use native.Mathlib.Decide.{ℕ-discrete, decLe, decLt}
+use native.Mathlib.Decide.{decLt}
 use lib.Dec.{eqb}
-use lib.ListN.{length-take, length, take, drop, length-append, drop-of-length-le}
-use lib.Seq.{take-take, take-all, drop-append-le, take-append-le}
-use borrow.Author.Tests.{eq-eqb, ne-eqb, eqb-true}
-use Rattle.format.specs.Basics.Lists.{bit, count, pickBelow}
+use lib.ListN.{length-take, length, take, length-append}
+use lib.Seq.{take-take, take-append-le}
+use borrow.Author.Tests.{eqb-true}
+use Rattle.format.specs.Basics.Lists.{bit, count}
 use Rattle.format.specs.Layout.Chain.{END, FREE, isFree, freeBelow}
-use Rattle.theory.specs.Links.{Linked, freed, chained, rechain}
+use Rattle.theory.specs.Links.{Linked}
 use Rattle.theory.specs.Owned.{MayBecome}
 use Rattle.theory.proofs.Counts.{count-append, count-split, pigeonhole}
-use Rattle.theory.proofs.Picks.{pick-above, pick-below, one-ne, one-self, length-one}
+use Rattle.theory.proofs.Picks.{pick-above, pick-below}
 use Rattle.theory.proofs.Chains.{linked-once, linked-below, linked-not-free}
-use Rattle.theory.proofs.Relinks.{chained-linked, rechain-out}
 
 bit-le : (b : Bool) → bit b ≤ 1
 bit-le true = omega arith

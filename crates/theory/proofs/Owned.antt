@@ -2,11 +2,11 @@
 use mathlib.Core.Path.{_≡_, sym, ap, _∙_}
 use mathlib.Core.Logic.{_≢_, inl, inr}
 use mathlib.Core.Bool.{not}
-use mathlib.Core.List.{List, [], _++_}
+use mathlib.Core.List.{List, []}
 use Prim.Native.Nat.{ℕ, _+_, _≤_, _<_}
 use native.Mathlib.Omega.{arith}
 use native.Mathlib.Decide.{ℕ-discrete, decLt}
-use lib.ListN.{length, take, getD, set, length-set}
+use lib.ListN.{length, getD, set, length-set}
 use lib.Seq.{getD-set-same, getD-set-other}
 use borrow.Author.Tests.{eq-eqb, ne-eqb}
 use Rattle.format.specs.Basics.Lists.{bit, count}
@@ -19,7 +19,6 @@ use Rattle.theory.proofs.Picks.{length-pick, pick-both}
 use Rattle.theory.proofs.OwnerCounts.{owners-at, owners-two, owners-set, owner-place, sum-owners}
 use Rattle.theory.proofs.Chains.{linked-agree, linked-below, linked-not-free}
 use Rattle.theory.proofs.Relinks.{freed-out, freed-in, chained-out, chained-linked}
-use Rattle.theory.proofs.FreeUnits.{resized-becomes}
 
 module _ (N : ℕ) (lim : N ≤ END) (sys : List ℕ) (f : ℕ → ℕ) (L : List (List ℕ)) (o : Owned N sys f L) where
   pub owners-below : (s : ℕ) → 0 < owners s L → s < N

@@ -1,6 +1,6 @@
 -- The marks of all chains together, and what they say of group 18: over any space of units.
-use mathlib.Core.Path.{_≡_, refl, sym, ap, ap₂, _∙_}
-use mathlib.Core.Logic.{_⊎_, inl, inr, ⊎-elim}
+use mathlib.Core.Path.{_≡_, refl, sym, ap, _∙_}
+use mathlib.Core.Logic.{inl, inr, ⊎-elim}
 use mathlib.Core.Bool.{Bool, true, false, not, _&&_, _||_, or-true, or-false}
 use mathlib.Core.List.{List, [], _∷_, _++_}
 use Prim.Native.Nat.{ℕ, zero, suc, _+_, _≤_, _<_}
@@ -8,7 +8,7 @@ use native.Mathlib.Omega.{arith}
 use native.Mathlib.Decide.{decLt}
 use lib.Dec.{eqb, ltb}
 use borrow.Author.Tests.{lt-ltb, le-ltb, ltb-true, ltb-false, eqb-true, eqb-false}
-use Rattle.format.specs.Basics.Lists.{all, allBelow, bit, count, member}
+use Rattle.format.specs.Basics.Lists.{all, allBelow, count, member}
 use Rattle.format.specs.Layout.Chain.{END, FREE, chain, units, isFree}
 use Rattle.format.specs.Layout.Space.{Space}
 use Rattle.format.specs.Rules.Owners.{ownerRule, ownerRight, ownersIn}

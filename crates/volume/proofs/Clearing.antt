@@ -1,15 +1,14 @@
 -- The work buffer for group 16: marks of sectors without a mark, and the directory's list before the FAT's.
-use Prim.Native.Nat.{ℕ, _+_, _-_, _*_, _/_, _≤_, _<_}
-use mathlib.Core.Path.{_≡_, sym, _∙_, ap}
-use mathlib.Core.Logic.{inl, inr}
+use Prim.Native.Nat.{ℕ, _+_, _-_, _*_, _/_, _≤_}
+use mathlib.Core.Path.{_≡_, ap}
+use mathlib.Core.Logic.{inl}
 use mathlib.Core.Bool.{Bool}
-use mathlib.Core.List.{List, []}
+use mathlib.Core.List.{List}
 use native.Mathlib.Omega.{arith}
-use lib.ListN.{length, getD}
+use lib.ListN.{length}
 use Rattle.format.specs.Basics.Bytes.{Bytes}
 use Rattle.format.specs.Layout.Geometry.{Geometry, sectorCount}
 use Rattle.format.specs.Layout.Tables.{fatCell}
-use Rattle.format.specs.Rules.Length.{workNeed}
 use Rattle.format.specs.Calls.Buffers.{workCleared}
 use Rattle.theory.specs.Marks.{marks, Owning}
 use Rattle.theory.proofs.OwnerMarks.{owning-same}

@@ -1,18 +1,17 @@
 -- How many mini sectors and mini FAT sectors there can be, and the rules on the mini FAT's cells.
-use Prim.Native.Nat.{ℕ, _+_, _*_, _/_, _%_, _≤_, _<_}
-use mathlib.Core.Path.{_≡_, refl, sym, _∙_, ap}
+use Prim.Native.Nat.{ℕ, _*_, _/_, _%_, _≤_, _<_}
+use mathlib.Core.Path.{_≡_, refl, sym, _∙_}
 use mathlib.Core.Bool.{Bool, true, false, _&&_}
-use mathlib.Core.List.{List}
-use native.Mathlib.Nat.{mul-le-mul-left, mul-le-mul-right, add-mul}
+use native.Mathlib.Nat.{mul-le-mul-right, add-mul}
 use native.Mathlib.Omega.{arith}
-use lib.Dec.{leb, eqb}
+use lib.Dec.{eqb}
 use lib.ListN.{length}
 use borrow.Author.Tests.{le-leb, lt-leb}
 use Rattle.format.specs.Basics.Lists.{allBelow}
 use Rattle.format.specs.Basics.Bytes.{Bytes}
 use Rattle.format.specs.Layout.Geometry.{Geometry, sectorCount, miniBytes, cellsIn}
 use Rattle.format.specs.Layout.Need.{roundUp}
-use Rattle.format.specs.Layout.Chain.{END, chain}
+use Rattle.format.specs.Layout.Chain.{chain}
 use Rattle.format.specs.Layout.Space.{chainFor}
 use Rattle.format.specs.Layout.Header.{miniFatStart, miniFatCount}
 use Rattle.format.specs.Layout.Entry.{size, start}

@@ -1,7 +1,7 @@
 -- The walks along the chains that the system has, by what `format` says of them.
-use Prim.Native.Nat.{ℕ, _+_, _*_, _%_, _≤_, _<_}
-use mathlib.Core.Path.{_≡_, refl, sym, _∙_, ap, ap₂}
-use mathlib.Core.Bool.{Bool, true, false, not, _&&_}
+use Prim.Native.Nat.{ℕ, _%_, _<_}
+use mathlib.Core.Path.{_≡_, _∙_, ap₂}
+use mathlib.Core.Bool.{true, false}
 use mathlib.Core.List.{List}
 use native.Mathlib.Omega.{arith}
 use lib.Dec.{eqb}
@@ -10,8 +10,8 @@ use borrow.Author.Tests.{eq-eqb, ne-eqb}
 use Rattle.format.specs.Basics.Bytes.{Bytes, u32at}
 use Rattle.format.specs.Layout.Geometry.{Geometry, sectorCount, miniBytes}
 use Rattle.format.specs.Layout.Need.{roundUp}
-use Rattle.format.specs.Layout.Chain.{END, chain, units}
-use Rattle.format.specs.Layout.Space.{Space, chainFor, unitsFor}
+use Rattle.format.specs.Layout.Chain.{chain, units}
+use Rattle.format.specs.Layout.Space.{chainFor, unitsFor}
 use Rattle.format.specs.Layout.Header.{miniFatStart, miniFatCount}
 use Rattle.format.specs.Layout.Entry.{size, start}
 use Rattle.format.specs.Layout.Tables.{fatCell, sectorSpace}
@@ -19,13 +19,9 @@ use Rattle.format.specs.Layout.Volume.{volume, root, directory, directorySector
 use Rattle.format.specs.Rules.Directory.{directoryRules}
 use Rattle.format.specs.Rules.Mini.{miniFatChain, miniStreamChain}
 use Rattle.theory.specs.Marks.{marks}
-use Rattle.theory.proofs.Tests.{clash}
 use Rattle.tables.specs.Sized.{ImageSized}
-use Rattle.tables.specs.Work.{Wrote}
-use Rattle.tables.proofs.WorkLaws.{wrote-none}
-use Rattle.chains.specs.Answers.{markAnswer, isBroken, Remarked, ChainsMarked}
+use Rattle.chains.specs.Answers.{markAnswer, Remarked, ChainsMarked}
 use Rattle.chains.specs.declared.Marked.{Marked}
-use Rattle.chains.specs.declared.Marked.the-variants.{Broken, Fresh, Shared}
 use Rattle.chains.proofs.Owners.{marked-chain}
 use Rattle.kinds.specs.declared.Geometry.{Geometry as Sizes}
 use Rattle.kinds.specs.Sizes.{geometryOf}

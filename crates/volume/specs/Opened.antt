@@ -2,7 +2,7 @@
 use Prim.Native.Nat.{ℕ, _*_, _/_, _≤_}
 use mathlib.Core.Path.{_≡_}
 use mathlib.Core.Logic.{_≢_}
-use mathlib.Core.Bool.{Bool, cond, _||_}
+use mathlib.Core.Bool.{cond, _||_}
 use mathlib.Core.List.{List}
 use lib.Dec.{eqb}
 use lib.ListN.{length}
@@ -16,10 +16,7 @@ use Rattle.kinds.specs.declared.Geometry.{Geometry as Sizes}
 use Rattle.kinds.specs.Sizes.{geometryOf}
 use Rattle.kinds.specs.Numbers.{numberOf}
 use Rattle.tables.specs.Work.{Wrote, Holds}
-use Rattle.tables.specs.declared.Tables.{Tables}
 use Rattle.chains.specs.Answers.{unitAt}
-use Rattle.directory.specs.declared.Directory.{Directory}
-use Rattle.minis.specs.declared.Minis.{Minis}
 use Rattle.volume.specs.Passed.{ListsStand}
 use Rattle.volume.specs.declared.Volume.{Volume}
 use Rattle.volume.specs.declared.Opened.{Opened}

@@ -10,7 +10,7 @@ use Rattle.format.specs.Basics.Lists.{allBelow}
 use Rattle.format.specs.Layout.Geometry.{Geometry, sectorCount}
 use Rattle.format.specs.Layout.Header.{miniFatCount}
 use Rattle.format.specs.Layout.Tables.{fatCell}
-use Rattle.format.specs.Layout.Volume.{Volume, volume, directorySectorsOf, miniSpace, miniStreamSectors}
+use Rattle.format.specs.Layout.Volume.{Volume, volume, directorySectorsOf, miniSpace}
 use Rattle.format.specs.Rules.Length.{workNeed}
 use Rattle.format.specs.Rules.Cells.{restFree}
 use Rattle.format.specs.Rules.Tables.{tableRules}

@@ -1,5 +1,4 @@
 use borrow.Author.Needs.{needs}
-use native.Mathlib.Omega.{arith}
 use Rattle.kinds.proofs.number.Statement.{statement}
 use Rattle.kinds.proofs.number.Tie as tie
 

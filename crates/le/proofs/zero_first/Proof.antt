@@ -1,9 +1,8 @@
 use borrow.Author.Needs.{needs}
-use Prim.Native.Nat.{_≤_, _<_, _-_}
+use Prim.Native.Nat.{_≤_, _-_}
 use mathlib.Core.Path.{_≡_, refl, _∙_}
-use mathlib.Core.List.{_++_, append-nil}
+use mathlib.Core.List.{_++_}
 use lib.ListN.{length, replicate, drop, length-set}
-use lib.Seq.{drop-length}
 use borrow.Author.Fill.{fill-more}
 use native.Mathlib.Omega.{arith}
 use Rattle.format.specs.Calls.Buffers.{workCleared}

@@ -2,7 +2,6 @@ use borrow.Author.Needs.{needs}
 use mathlib.Core.Path.{_≡_, ap₂, sym, _∙_, subst}
 use mathlib.Core.Bool.{false}
 use borrow.Author.Tests.{eq-eqb, ne-eqb}
-use native.Mathlib.Omega.{arith}
 use Rattle.format.specs.Layout.Entry.{isStream}
 use Rattle.format.specs.Calls.Find.{childNamed}
 use Rattle.theory.specs.TreeViews.{childOf, at}

@@ -8,7 +8,7 @@ use Rattle.format.specs.Layout.Space.{chainFor, unitsFor}
 use Rattle.format.specs.Layout.Volume.{volume}
 use Rattle.theory.proofs.RoundUp.{round-lt}
 use Rattle.kinds.specs.Sizes.{geometryOf}
-use Rattle.spaces.specs.Spaces.{spaceOf, listedSpace}
+use Rattle.spaces.specs.Spaces.{spaceOf}
 use Rattle.spaces.proofs.Listed.{unit-same, unit-many, units-stand, unit-listed, unit-place}
 use Rattle.reading.proofs.Reading.{Reading, ReadingFrom, none-read, reading-start, reading-below, reading-inner, reading-room, reading-more, reading-step, reading-done}
 use Rattle.reading.proofs.read_units.Statement.{statement}

@@ -1,4 +1,3 @@
-use mathlib.Core.Path.{sym}
 use borrow.Author.Tests.{lt-ltb, le-ltb}
 use Rattle.format.specs.Layout.Need.{cutoff}
 use Rattle.spaces.specs.Spaces.{kindFor}

@@ -8,7 +8,7 @@ use Rattle.format.specs.Layout.Entry.{isStream}
 use Rattle.format.specs.Layout.Directory.{Directory}
 use Rattle.format.specs.Layout.Tree.{forest}
 use Rattle.format.specs.Calls.Paths.{Path, names, wellFormed}
-use Rattle.format.specs.Calls.Find.{missing, present, childNamed, refused, foundChild, enter, descend, resolve}
+use Rattle.format.specs.Calls.Find.{present, childNamed, refused, foundChild, enter, descend, resolve}
 use Rattle.theory.specs.TreeViews.{childOf, at}
 use Rattle.theory.specs.TreeFind.{reached}
 

@@ -12,7 +12,6 @@ use Rattle.kinds.specs.declared.Answer.the-variants.{BadLength, ShortWork}
 use Rattle.theory.proofs.Loops.{said-yes, said-no}
 use Rattle.frame.proofs.Final.{sized3}
 use Rattle.frame.proofs.Lengths.{allowed-short}
-use Rattle.tables.specs.Sized.{ImageSized}
 use Rattle.tables.specs.Work.{Wrote}
 use Rattle.tables.proofs.Allowed.{allowed-sized}
 use Rattle.tables.proofs.WorkLaws.{wrote-cleared}

@@ -1,9 +1,8 @@
 use borrow.Author.Needs.{needs}
 use Prim.Native.Nat.{_+_, max}
-use mathlib.Core.Path.{_≡_, refl, sym, _∙_, ap}
-use mathlib.Core.Bool.{true, false, not}
+use mathlib.Core.Path.{_≡_, refl, _∙_, ap}
+use mathlib.Core.Bool.{false, not}
 use mathlib.Core.List.{[], _++_}
-use native.Mathlib.Omega.{arith}
 use lib.Dec.{ltb}
 use lib.ListN.{length, take}
 use borrow.Author.Tests.{not-false}

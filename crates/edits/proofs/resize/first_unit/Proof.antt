@@ -1,8 +1,6 @@
 use borrow.Author.Needs.{needs}
 use mathlib.Core.Path.{sym, _∙_, ap}
-use mathlib.Core.List.{List}
 use lib.ListN.{take}
-use Prim.Native.Nat.{ℕ}
 use Rattle.format.specs.Layout.Chain.{startOf}
 use Rattle.edits.proofs.Gathering.{first-taken}
 use Rattle.edits.proofs.resize.first_unit.Statement.{statement}

@@ -1,13 +1,12 @@
 use borrow.Author.Needs.{needs}
 use mathlib.Core.Path.{_≡_, sym, _∙_, ap, ap₂}
-use mathlib.Core.Bool.{true, false, not, _&&_, _||_}
+use mathlib.Core.Bool.{true, not, _&&_, _||_}
 use native.Mathlib.Omega.{arith}
 use Rattle.format.specs.Basics.Lists.{allBelow, joinBelow}
 use Rattle.format.specs.Layout.Tables.{sectorSpace}
 use Rattle.format.specs.Layout.Volume.{volume}
 use Rattle.format.specs.Rules.Owners.{ownersIn, ownedSectors, ownSectors}
 use Rattle.kinds.specs.Sizes.{geometryOf}
-use Rattle.tables.specs.Listed.{Listed}
 use Rattle.tables.proofs.WorkLaws.{listed-kept}
 use Rattle.chains.specs.Answers.{ChainsMarked}
 use Rattle.chains.proofs.Owners.{is-wrong, is-right}

@@ -1,7 +1,7 @@
 use borrow.Author.Needs.{needs}
-use mathlib.Core.Path.{_≡_, sym, _∙_, ap, subst}
+use mathlib.Core.Path.{sym, _∙_, ap, subst}
 use native.Mathlib.Omega.{arith}
-use lib.ListN.{length, drop, length-append, length-drop}
+use lib.ListN.{drop, length-append, length-drop}
 use lib.Seq.{length-take-le}
 use Rattle.format.specs.Basics.Bytes.{part}
 use Rattle.format.specs.Layout.Volume.{volume}

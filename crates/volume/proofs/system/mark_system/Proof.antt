@@ -3,7 +3,6 @@ use mathlib.Core.Path.{_≡_, refl, sym, _∙_, ap}
 use mathlib.Core.Bool.{true, false}
 use native.Mathlib.Omega.{arith}
 use lib.ListN.{length}
-use Rattle.format.specs.Layout.Geometry.{sectorCount}
 use Rattle.format.specs.Layout.Tables.{sectorSpace}
 use Rattle.format.specs.Layout.Volume.{volume, directorySectorsOf}
 use Rattle.format.specs.Rules.Mini.{miniFatChain}
