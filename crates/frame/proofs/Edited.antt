@@ -152,12 +152,6 @@ module _ (g : Geometry) (z : Sized g) (img : Bytes) (sp : Space) (secs D dirs us
   unfolding target zeroBehind withData zeroed
   edit-bytes u l k = blk3 u l k ∙ go (ltb n new) refl
     where
-      B : ℕ
-      B = sp .unit
-
-      d : ℕ → Bytes
-      d = block sp img
-
       go : (b : Bool) → ltb n new ≡ b
           → block sp (cond b (putChain sp ws i1 n (replicate (length ws * sp .unit - n) 0)) i1) u
           ≡ scatter (sp .unit) ws (cond b (zeroBehind (length ws * sp .unit) n (laid (block sp img) us)) (laid (block sp img) ws)) (block sp img) u

@@ -25,9 +25,6 @@ use Rattle.frame.proofs.Places.{thing-fits, things-apart, thing-index}
 -- ---- things of w bytes, c to a sector
 
 module _ (g : Geometry) (w c : ℕ) (e : g .sectorBytes ≡ c * w) (z : 0 < g .sectorBytes) (len : ℕ) (secs : List ℕ) (t : Table g len secs) where
-  S : ℕ
-  S = g .sectorBytes
-
   pub thing-far : (x y i j : ℕ) → x ≢ y → x < c * length secs → y < c * length secs → i < w → j < w
       → placeIn g secs (w * x) + i ≢ placeIn g secs (w * y) + j
   unfolding placeIn

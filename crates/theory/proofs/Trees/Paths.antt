@@ -4,12 +4,10 @@ use mathlib.Core.Bool.{true, false}
 use mathlib.Core.List.{List, [], _∷_}
 use Prim.Native.Nat.{ℕ}
 use Rattle.format.specs.Layout.Name.{Name}
-use Rattle.format.specs.Layout.Entry.{isStream}
 use Rattle.format.specs.Layout.Directory.{Directory}
 use Rattle.format.specs.Layout.Tree.{forest}
 use Rattle.format.specs.Calls.Paths.{Path, names, wellFormed}
-use Rattle.format.specs.Calls.Find.{present, childNamed, refused, foundChild, enter, descend, resolve}
-use Rattle.theory.specs.TreeViews.{childOf, at}
+use Rattle.format.specs.Calls.Find.{refused, enter, descend, resolve}
 use Rattle.theory.specs.TreeFind.{reached}
 
 module _ (d : Directory) where
@@ -26,11 +24,3 @@ module _ (d : Directory) where
   unfolding descend enter
   descend-refused a [] = refl
   descend-refused a (n ∷ ns) = descend-refused a ns
-
-  -- ---- one name
-
-  module _ (x : ℕ) (n : Name) (ns : List Name) where
-    module _ (s : isStream (d .entry x) ≡ false) where
-      pub descend-present : (y : ℕ) → childNamed d n (at d (childOf d x)) ≡ present y (at d (childOf d y)) → descend d (reached d x) (n ∷ ns) ≡ descend d (reached d y) ns
-      unfolding descend enter foundChild
-      descend-present y e = rw (s, e)
