@@ -49,6 +49,9 @@ extern "C" {
 #define CFB_STREAM 2u
 #define CFB_ROOT 5u
 
+/* The longest image, in bytes. */
+#define CFB_GREATEST_IMAGE 8388608u
+
 /* How many 32-bit numbers the work buffer needs for an image of n bytes. */
 #define CFB_WORK_NEED(n) (13u * ((size_t)(n) / 512u))
 
