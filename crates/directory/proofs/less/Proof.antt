@@ -12,9 +12,7 @@ out : (c : tie.After-compare) → let p = c .before .before .before .before .bef
     c .compare .result ≡ ordering (name (entriesOf (p .d) (p .img .now) .entry (p .x .0))) (name (entriesOf (p .d) (p .img .now) .entry (p .y .0)))
 out c =
     let p = c .before .before .before .before .before .pre in
-    let e = entry-is (p .0) _ (p .1 .0 .inside) in
-    let f = entry-is (p .0) _ (p .1 .1 .inside) in
-    cc
+    rw (c .compare .ensures, c .before .place2 .ensures, c .before .before .place .ensures, entry-is (p .0) _ (p .1 .0 .inside), entry-is (p .0) _ (p .1 .1 .inside))
 
 pub less-spec : {M : Type 1} → statement M
 less-spec =

@@ -8,4 +8,4 @@ order-to-spec =
     (tie.spec
     (λ c κs. let p = c .before .before .before .pre in placed (p .0) _ (p .1 .inside))  -- place-requires
     (λ c κs. let p = c .before .before .before .before .pre in named-at (p .0) _ (p .1 .inside) (p .1) _ (c .place .ensures))  -- compare-name-requires
-    (λ c. let p = c .before .before .before .before .before .pre in let e = entry-is (p .0) _ (p .1 .inside) in cc))  -- returns
+    (λ c. let p = c .before .before .before .before .before .pre in rw (c .compare-name .ensures, c .before .place .ensures, entry-is (p .0) _ (p .1 .inside))))  -- returns

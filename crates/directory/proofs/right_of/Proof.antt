@@ -9,4 +9,4 @@ right-of-spec =
     (tie.spec
     (λ c κs. let p = c .before .before in placed (p .pre .0) _ (p .pre .1))  -- place-requires
     (λ c κs. let p = c .before .before .before in omega (arith, c .place .ensures, place-inside (p .pre .0) _ (p .pre .1)))  -- right-requires
-    (λ c. let p = c .before .before .before .before in let e = entry-is (p .pre .0) _ (p .pre .1) in cc))  -- returns
+    (λ c. let p = c .before .before .before .before in rw (c .right .ensures, c .before .place .ensures, entry-is (p .pre .0) _ (p .pre .1))))  -- returns

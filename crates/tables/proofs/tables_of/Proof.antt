@@ -14,4 +14,4 @@ tables-of-spec =
     (λ c. search needs)  -- mul-t9
     (λ c. search needs)  -- add-t10
     (λ c. search needs)  -- sub-t11
-    (λ c. cc))  -- returns
+    (λ c. rw (c .sector-count .ensures, c .before .u32-at2 .ensures, c .before .before .u32-at .ensures)))  -- returns

@@ -11,4 +11,4 @@ put-cell-spec =
     (λ c κs. search needs)  -- cell-place-requires
     (λ c κs. search needs)  -- put-u32-requires
     (λ c. search needs)  -- same-length
-    (λ c. cc))  -- returns
+    (λ c. rw (c .before .before .put-u32 .ensures, c .before .before .before .before .cell-place .ensures)))  -- returns

@@ -12,4 +12,4 @@ put-entry-spec =
     (λ c. search needs)  -- add-put-u64
     (λ c κs. search needs)  -- put-u64-requires
     (λ c. search needs)  -- same-length
-    (λ c. cc))  -- returns
+    (λ c. rw (c .before .before .put-u64 .ensures, c .before .before .before .before .before .before .put-u32 .ensures, c .before .before .before .before .before .before .before .before .place .ensures)))  -- returns

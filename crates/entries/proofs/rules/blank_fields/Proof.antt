@@ -16,4 +16,4 @@ blank-fields-spec =
     (λ c κs. search needs)  -- child-requires
     (λ c κs. search needs)  -- is-none-requires-3
     (λ c κs. search needs)  -- zeros-requires-2
-    (λ c. cc))  -- returns
+    (λ c. rw (c .zeros2 .ensures, c .before .is-none3 .ensures, c .before .before .child .ensures, c .before .before .before .is-none2 .ensures, c .before .before .before .before .right .ensures, c .before .before .before .before .before .is-none .ensures, c .before .before .before .before .before .before .left .ensures, c .before .before .before .before .before .before .before .zeros .ensures)))  -- returns

@@ -10,4 +10,4 @@ common-fields-spec =
     (tie.spec
     (λ c κs. search needs)  -- colour-requires
     (λ c κs. search needs)  -- zeros-requires
-    (λ c. cc))  -- returns
+    (λ c. rw (c .zeros .ensures, c .before .colour .ensures)))  -- returns

@@ -23,4 +23,4 @@ name-fields-spec =
     name-right (entryAt (a .img .now) (a .p))
     (omega (arith, n .name-bytes .ensures, c .before .before .before .if1 .left))
     (omega (arith, n .name-bytes .ensures, c .before .before .if2 .left)) in
-    cc))  -- returns-3
+    rw (c .legal-units .ensures, c .before .half .ensures, n .name-bytes .ensures, q)))  -- returns-3

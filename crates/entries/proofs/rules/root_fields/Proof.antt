@@ -14,4 +14,4 @@ root-fields-spec =
     (λ c κs. search needs)  -- right-requires
     (λ c κs. search needs)  -- is-none-requires-2
     (λ c κs. search needs)  -- zeros-requires
-    (λ c. cc))  -- returns
+    (λ c. rw (c .zeros .ensures, c .before .is-none2 .ensures, c .before .before .right .ensures, c .before .before .before .is-none .ensures, c .before .before .before .before .left .ensures)))  -- returns

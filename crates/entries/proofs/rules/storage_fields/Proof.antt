@@ -11,4 +11,4 @@ storage-fields-spec =
     (λ c κs. search needs)  -- name-fields-requires
     (λ c κs. search needs)  -- start-requires
     (λ c κs. search needs)  -- zeros-requires
-    (λ c. cc))  -- returns
+    (λ c. rw (c .zeros .ensures, c .before .start .ensures, c .before .before .name-fields .ensures)))  -- returns

@@ -15,4 +15,4 @@ stream-fields-spec =
     (λ c κs. search needs)  -- zeros-requires
     (λ c κs. search needs)  -- zeros-requires-2
     (λ c κs. search needs)  -- zeros-requires-3
-    (λ c. cc))  -- returns
+    (λ c. rw (c .zeros3 .ensures, c .before .zeros2 .ensures, c .before .before .zeros .ensures, c .before .before .before .is-none .ensures, c .before .before .before .before .child .ensures, c .before .before .before .before .before .name-fields .ensures)))  -- returns

@@ -20,4 +20,4 @@ black-spec =
     (λ c κs. search needs)  -- is-none-requires
     (λ c. sym (topBlack-none _ _ (none-yes (c .before .is-none .ensures) (c .if1 .taken) refl)))  -- returns
     (λ c κs. (c .before .before .before .before .pre .0, stands c .inside))  -- colour-of-requires
-    (λ c. let q = topBlack-at _ _ (stands (c .before)) in cc))  -- returns-2
+    (λ c. rw (topBlack-at _ _ (stands (c .before)), c .colour-of .ensures)))  -- returns-2

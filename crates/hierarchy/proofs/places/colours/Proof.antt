@@ -15,4 +15,4 @@ colours-spec =
     (λ c κs. (c .before .before .before .before .before .before .pre .0, rw (c .right-of .ensures) (standing _ _ (c .before .before .before .before .before .before .pre .1) .right-sound)))  -- black-requires-2
     (λ c κs. (c .before .before .before .before .before .before .before .pre .0, c .before .before .before .before .before .before .before .pre .1 .inside))  -- child-of-requires
     (λ c κs. (c .before .before .before .before .before .before .before .before .pre .0, rw (c .child-of .ensures) (standing _ _ (c .before .before .before .before .before .before .before .before .pre .1) .below-sound)))  -- black-requires-3
-    (λ c. cc))  -- returns
+    (λ c. rw (c .black3 .ensures, c .before .child-of .ensures, c .before .before .black2 .ensures, c .before .before .before .right-of .ensures, c .before .before .before .before .black .ensures, c .before .before .before .before .before .left-of .ensures, c .before .before .before .before .before .before .colour-of .ensures)))  -- returns

@@ -11,4 +11,4 @@ place-ok-spec =
     (λ c κs. search needs)  -- left-ordered-requires
     (λ c κs. search needs)  -- right-ordered-requires
     (λ c κs. (c .before .before .before .before .pre .0, c .before .before .before .before .pre .1 .1))  -- colours-requires
-    (λ c. cc))  -- returns
+    (λ c. rw (c .colours .ensures, c .before .right-ordered .ensures, c .before .before .left-ordered .ensures)))  -- returns

@@ -26,4 +26,4 @@ table-counts-spec =
     let few : c .cells .result ≤ 1024 = rw (c .cells .ensures) (cells-few (p .pre)) in
     omega (arith, mul-le-mul-right f few, c .before .before .before .u32-at .ok))  -- mul-result
     (λ c κs. search needs)  -- difat-need-requires
-    (λ c. cc))  -- returns
+    (λ c. rw (c .difat-need .ensures, c .before .cells .ensures, c .before .before .sector-count .ensures, c .before .before .before .u32-at2 .ensures, c .before .before .before .before .u32-at .ensures)))  -- returns
