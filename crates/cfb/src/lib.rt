@@ -1,46 +1,33 @@
 // The public calls. Nobody has to check first: no call requires anything, and every call ends and answers.
 ghost use mathlib.Core.Path.{_≡_};
 ghost use Rattle.format.specs.Layout.Geometry.{version3};
-ghost use Prim.Native.Nat.{_≤_, _<_};
-ghost use lib.ListN.{length};
-ghost use Rattle.format.specs.Rules.Length.{workNeed};
 ghost use Rattle.format.specs.Calls.Call.{validate as validateCall, find as findCall, read as readCall, overwrite as overwriteCall, setLength as lengthCall, list as listCall};
 ghost use Rattle.format.specs.Calls.Reply.{plain, reply};
-ghost use Rattle.format.specs.Calls.Buffers.{workCleared, imageAfter, outAfter, workAfter};
+ghost use Rattle.format.specs.Calls.Buffers.{imageAfter, outAfter, workAfter};
 ghost use Rattle.kinds.specs.Numbers.{numberOf};
 ghost use Rattle.queries.specs.Replies.{findReply, readReply, listReply};
-use edits::overwrite::overwrite_in;
-use edits::resize::set_length_in;
 use kinds::Answer;
-use le::zero_first;
+use opened::close;
+use opened::find_opened;
+use opened::list_opened;
+use opened::open_image;
+use opened::overwrite_opened;
+use opened::read_opened;
+use opened::set_length_opened;
 use queries::find::Find;
-use queries::find::find_in;
 use queries::list::List;
-use queries::list::list_in;
 use queries::read::Read;
-use queries::read::read_in;
-use tables::work_need;
 use volume::Opened;
-use volume::open_volume;
-
-// Leaves the work buffer as a call does.
-fn clear(image: &[u8], work: &mut [u32])
-    requires { ⌜ length (now image) < 0x1_0000_0000 ⌝ }
-    requires { ⌜ workNeed (length (now image)) ≤ length (now work) ⌝ }
-    ensures { λ _. ⌜ now (work .exit) ≡ workCleared (workNeed (length (now (image .entry)))) (now (work .entry)) ⌝ }
-{
-    zero_first(work, work_need(image.len()));
-}
 
 // Whether an image keeps all rules; where not, the first group that it breaks.
 pub fn validate(image: &[u8], work: &mut [u32]) -> Answer
     ensures { λ r. ⌜ plain (numberOf r) ≡ reply version3 (now (image .entry)) (validateCall (now (work .entry))) ⌝ }
     ensures { λ _. ⌜ now (work .exit) ≡ workAfter version3 (now (image .entry)) (validateCall (now (work .entry))) ⌝ }
 {
-    match open_volume(image, work) {
+    match open_image(image, work) {
         Opened::Refused(answer) => answer,
-        Opened::Ready(_) => {
-            clear(image, work);
+        Opened::Ready(v) => {
+            close(image, work, v);
             Answer::Done
         }
     }
@@ -51,11 +38,11 @@ pub fn find(image: &[u8], work: &mut [u32], path: &[u16]) -> Find
     ensures { λ r. ⌜ findReply r ≡ reply version3 (now (image .entry)) (findCall (now (path .entry)) (now (work .entry))) ⌝ }
     ensures { λ _. ⌜ now (work .exit) ≡ workAfter version3 (now (image .entry)) (findCall (now (path .entry)) (now (work .entry))) ⌝ }
 {
-    match open_volume(image, work) {
+    match open_image(image, work) {
         Opened::Refused(a) => Find::Refused(a),
         Opened::Ready(v) => {
-            let r = find_in(path, image, work, v);
-            clear(image, work);
+            let r = find_opened(image, work, v, path);
+            close(image, work, v);
             r
         }
     }
@@ -67,11 +54,11 @@ pub fn read(image: &[u8], work: &mut [u32], path: &[u16], offset: u64, out: &mut
     ensures { λ _. ⌜ now (out .exit) ≡ outAfter version3 (now (image .entry)) (readCall (now (path .entry)) offset (now (out .entry)) (now (work .entry))) ⌝ }
     ensures { λ _. ⌜ now (work .exit) ≡ workAfter version3 (now (image .entry)) (readCall (now (path .entry)) offset (now (out .entry)) (now (work .entry))) ⌝ }
 {
-    match open_volume(image, work) {
+    match open_image(image, work) {
         Opened::Refused(a) => Read::Refused(a),
         Opened::Ready(v) => {
-            let r = read_in(path, image, work, v, offset, out);
-            clear(image, work);
+            let r = read_opened(image, work, v, path, offset, out);
+            close(image, work, v);
             r
         }
     }
@@ -89,11 +76,11 @@ pub fn overwrite(
     ensures { λ _. ⌜ now (image .exit) ≡ imageAfter version3 (now (image .entry)) (overwriteCall (now (path .entry)) offset (now (bytes .entry)) (now (work .entry))) ⌝ }
     ensures { λ _. ⌜ now (work .exit) ≡ workAfter version3 (now (image .entry)) (overwriteCall (now (path .entry)) offset (now (bytes .entry)) (now (work .entry))) ⌝ }
 {
-    match open_volume(image, work) {
+    match open_image(image, work) {
         Opened::Refused(a) => a,
         Opened::Ready(v) => {
-            let r = overwrite_in(path, image, work, v, offset, bytes);
-            clear(image, work);
+            let r = overwrite_opened(image, work, v, path, offset, bytes);
+            close(image, work, v);
             r
         }
     }
@@ -105,11 +92,11 @@ pub fn set_length(image: &mut [u8], work: &mut [u32], path: &[u16], length: u64)
     ensures { λ _. ⌜ now (image .exit) ≡ imageAfter version3 (now (image .entry)) (lengthCall (now (path .entry)) length (now (work .entry))) ⌝ }
     ensures { λ _. ⌜ now (work .exit) ≡ workAfter version3 (now (image .entry)) (lengthCall (now (path .entry)) length (now (work .entry))) ⌝ }
 {
-    match open_volume(image, work) {
+    match open_image(image, work) {
         Opened::Refused(a) => a,
         Opened::Ready(v) => {
-            let r = set_length_in(path, image, work, v, length);
-            clear(image, work);
+            let r = set_length_opened(image, work, v, path, length);
+            close(image, work, v);
             r
         }
     }
@@ -121,11 +108,11 @@ pub fn list(image: &[u8], work: &mut [u32], out: &mut [u8]) -> List
     ensures { λ _. ⌜ now (out .exit) ≡ outAfter version3 (now (image .entry)) (listCall (now (out .entry)) (now (work .entry))) ⌝ }
     ensures { λ _. ⌜ now (work .exit) ≡ workAfter version3 (now (image .entry)) (listCall (now (out .entry)) (now (work .entry))) ⌝ }
 {
-    match open_volume(image, work) {
+    match open_image(image, work) {
         Opened::Refused(a) => List::Refused(a),
         Opened::Ready(v) => {
-            let r = list_in(image, work, v, out);
-            clear(image, work);
+            let r = list_opened(image, work, v, out);
+            close(image, work, v);
             r
         }
     }

@@ -15,6 +15,8 @@ use queries::find::Find;
 use queries::list::List;
 use queries::read::Read;
 
+pub mod opened_calls;
+
 #[no_mangle]
 pub extern "C" fn cfb_validate(image: &[u8], work: &mut [u32]) -> u32
     ensures { λ r. ⌜ plain r ≡ reply version3 (now (image .entry)) (validateCall (now (work .entry))) ⌝ }

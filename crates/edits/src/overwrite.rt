@@ -4,7 +4,6 @@ ghost use mathlib.Core.List.{[]};
 ghost use Prim.Native.Nat.{_+_, _≤_};
 ghost use lib.Dec.{ltb};
 ghost use lib.ListN.{length};
-ghost use Rattle.format.specs.Rules.Length.{workNeed};
 ghost use Rattle.format.specs.Calls.Call.{overwrite as overwriteCall};
 ghost use Rattle.format.specs.Calls.Overwrite.{overwritten};
 ghost use Rattle.format.specs.Calls.Answer.{answerIn};
@@ -52,7 +51,7 @@ fn put_in_stream(
     requires { ⌜ StreamAt (volumeIn v (now img)) e ⌝ }
     requires { ⌜ offset + length (now bytes) ≤ e .size ⌝ }
     ensures { λ _. ⌜ now (img .exit) ≡ overwritten (volumeIn v (now (img .entry))) (now (img .entry)) (e .id .0) offset (now (bytes .entry)) ⌝ }
-    ensures { λ _. ⌜ Wrote (now (work .entry)) (now (work .exit)) 0 (workNeed (length (now (img .entry)))) ⌝ }
+    ensures { λ _. ⌜ Wrote (now (work .entry)) (now (work .exit)) 0 (v .stream) ⌝ }
 {
     let kind = kind_for(e.size);
     let n = units_for(e.size, unit_bytes(v, kind) as u64) as usize;
@@ -82,7 +81,7 @@ pub fn overwrite_in(
     requires { ⌜ Open v (now img) (now work) ⌝ }
     ensures { λ r. ⌜ numberOf r ≡ answerIn (geometryOf (v .tables .geometry)) (volumeIn v (now (img .entry))) (overwriteCall (now (path .entry)) offset (now (bytes .entry)) []) ⌝ }
     ensures { λ _. ⌜ now (img .exit) ≡ imageIn (geometryOf (v .tables .geometry)) (volumeIn v (now (img .entry))) (now (img .entry)) (overwriteCall (now (path .entry)) offset (now (bytes .entry)) []) ⌝ }
-    ensures { λ _. ⌜ Wrote (now (work .entry)) (now (work .exit)) 0 (workNeed (length (now (img .entry)))) ⌝ }
+    ensures { λ _. ⌜ Wrote (now (work .entry)) (now (work .exit)) 0 (v .stream) ⌝ }
 {
     let f = find_in(path, img, work, v);
     let Find::Entry(e) = f else {

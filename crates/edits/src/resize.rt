@@ -6,7 +6,6 @@ ghost use mathlib.Core.List.{[], _++_};
 ghost use Prim.Native.Nat.{_+_, _*_, _-_, _≤_, _<_, max};
 ghost use lib.Dec.{ltb};
 ghost use lib.ListN.{length, take};
-ghost use Rattle.format.specs.Rules.Length.{workNeed};
 ghost use Rattle.format.specs.Layout.Chain.{chain, units, startOf};
 ghost use Rattle.format.specs.Layout.Space.{freeUnits};
 ghost use Rattle.format.specs.Calls.Call.{setLength as lengthCall};
@@ -158,7 +157,7 @@ fn change_length(img: &mut [u8], work: &mut [u32], v: Volume, e: Object, new: u6
     requires { ⌜ new ≢ e .size ⌝ }
     ensures { λ r. ⌜ numberOf r ≡ lengthAnswer (geometryOf (v .tables .geometry)) (volumeIn v (now (img .entry))) (e .size) new ⌝ }
     ensures { λ r. ⌜ now (img .exit) ≡ onZero (numberOf r) (resized (volumeIn v (now (img .entry))) (now (img .entry)) (e .id .0) new) (now (img .entry)) ⌝ }
-    ensures { λ _. ⌜ Wrote (now (work .entry)) (now (work .exit)) 0 (workNeed (length (now (img .entry)))) ⌝ }
+    ensures { λ _. ⌜ Wrote (now (work .entry)) (now (work .exit)) 0 (v .stream) ⌝ }
 {
     let kind = kind_for(greatest(e.size, new));
     let bytes = unit_bytes(v, kind) as u64;
@@ -187,7 +186,7 @@ pub fn set_length_in(path: &[u16], img: &mut [u8], work: &mut [u32], v: Volume, 
     requires { ⌜ Open v (now img) (now work) ⌝ }
     ensures { λ r. ⌜ numberOf r ≡ answerIn (geometryOf (v .tables .geometry)) (volumeIn v (now (img .entry))) (lengthCall (now (path .entry)) new []) ⌝ }
     ensures { λ _. ⌜ now (img .exit) ≡ imageIn (geometryOf (v .tables .geometry)) (volumeIn v (now (img .entry))) (now (img .entry)) (lengthCall (now (path .entry)) new []) ⌝ }
-    ensures { λ _. ⌜ Wrote (now (work .entry)) (now (work .exit)) 0 (workNeed (length (now (img .entry)))) ⌝ }
+    ensures { λ _. ⌜ Wrote (now (work .entry)) (now (work .exit)) 0 (v .stream) ⌝ }
 {
     let f = find_in(path, img, work, v);
     let Find::Entry(e) = f else {

@@ -37,7 +37,7 @@ use Rattle.history.proofs.AnswerNumbers.{cond-not-26, first-not-26, iff
 use Rattle.history.proofs.Room.{free-minis, free-sectors}
 use Rattle.frame.proofs.EntryFacts.{root-plain}
 
-verdict-accepted : (g : Geometry) (img : Bytes) (n : ℕ) → Accepted g img → verdict g img n ≡ cond (leb (workNeed (length img)) n) 0 2
+pub verdict-accepted : (g : Geometry) (img : Bytes) (n : ℕ) → Accepted g img → verdict g img n ≡ cond (leb (workNeed (length img)) n) 0 2
 unfolding verdict groups check
 verdict-accepted g img n h =
     let j = accepted-kept g img h in

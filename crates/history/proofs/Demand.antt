@@ -31,7 +31,7 @@ use Rattle.frame.specs.Frame.{Frame}
 use Rattle.theory.proofs.Refusals.{RefusedLow, resolve-stream-low}
 use Rattle.history.proofs.Room.{allocated-sectors, allocated-minis}
 use Rattle.history.proofs.Answers.{answers-0-iff, answers-26-iff, write-answer, length-answer}
-use Rattle.history.proofs.EditStep.{write-step}
+use Rattle.history.proofs.EditStep.{preserved-itself, write-step}
 use Rattle.history.proofs.LengthStep.{length-step}
 use Rattle.history.proofs.Filled.{frame-sized, Sized}
 use Rattle.history.specs.Step.{Step, CallStep, After, lengthRows}
@@ -75,7 +75,7 @@ module _ (g : Geometry) (pos : 0 < g .sectorBytes) (fr : Frame g) (img : Bytes) 
       }
 
   unchanged-step : Step g img img (rowsOf g img)
-  unchanged-step = record { accepted = acc; setting = refl; rows = refl }
+  unchanged-step = record { accepted = acc; kept = preserved-itself g img acc; setting = refl; rows = refl }
 
   -- ---- one call
 

@@ -1,6 +1,6 @@
 -- An edit of the stream that a path leads to leaves an accepted image, with the same setting and the row changed.
 use Prim.Native.Nat.{ℕ, _+_, _≤_, _<_}
-use mathlib.Core.Path.{_≡_, ap, ap₂, _∙_}
+use mathlib.Core.Path.{_≡_, refl, ap, ap₂, _∙_}
 use mathlib.Core.Bool.{Bool, false}
 use mathlib.Core.List.{List, [], map}
 use lib.ListN.{length}
@@ -35,6 +35,61 @@ use Rattle.history.proofs.Finding.{is-stream, is-inside, hit-is-found, 
 use Rattle.history.proofs.Written.{write-changed, write-contents}
 use Rattle.frame.proofs.EntryFacts.{root-plain}
 use Rattle.history.specs.Step.{Step}
+
+-- an image that stays is preserved
+pub preserved-itself : (g : Geometry) (img : Bytes) → Accepted g img → Preserved g img img
+preserved-itself g img acc =
+    let j = accepted-kept g img acc in
+    record {
+      length = refl;
+      header = j .header;
+      tables = j .tables;
+      parts = record {
+        fat = refl;
+        difat = refl;
+        directorySectors = refl;
+        miniFat = refl;
+        miniStream = refl;
+        directoryStart = refl;
+        miniFatStart = refl;
+        miniFatCount = refl;
+        entryCount = refl;
+        sectorLimit = refl;
+        sectorCells = refl;
+        sectorUnit = refl;
+        miniLimit = refl;
+        miniCells = refl;
+        miniUnit = refl;
+      };
+    }
+
+-- one edit after the other
+pub preserved-trans : {g : Geometry} {a b c : Bytes} → Preserved g a b → Preserved g b c → Preserved g a c
+preserved-trans x y =
+    let p = x .parts in
+    let q = y .parts in
+    record {
+      length = y .length ∙ x .length;
+      header = y .header;
+      tables = y .tables;
+      parts = record {
+        fat = q .fat ∙ p .fat;
+        difat = q .difat ∙ p .difat;
+        directorySectors = q .directorySectors ∙ p .directorySectors;
+        miniFat = q .miniFat ∙ p .miniFat;
+        miniStream = q .miniStream ∙ p .miniStream;
+        directoryStart = q .directoryStart ∙ p .directoryStart;
+        miniFatStart = q .miniFatStart ∙ p .miniFatStart;
+        miniFatCount = q .miniFatCount ∙ p .miniFatCount;
+        entryCount = q .entryCount ∙ p .entryCount;
+        sectorLimit = q .sectorLimit ∙ p .sectorLimit;
+        sectorCells = q .sectorCells ∙ p .sectorCells;
+        sectorUnit = q .sectorUnit ∙ p .sectorUnit;
+        miniLimit = q .miniLimit ∙ p .miniLimit;
+        miniCells = q .miniCells ∙ p .miniCells;
+        miniUnit = q .miniUnit ∙ p .miniUnit;
+      };
+    }
 
 setting : Geometry → ℕ → ℕ → ℕ → ℕ → Setting
 setting g a b c d = record { geometry = g; sectors = a; minis = b; fixed = c; work = d }
@@ -83,7 +138,7 @@ module _ (g : Geometry) (pos : 0 < g .sectorBytes) (fr : Frame g) (img : Bytes) 
         (inside-forest v img good sized) (hit-is-found v img good sized rootPlain p found) (found-hit-everywhere v img good sized rootPlain p found)
 
     pub edit-step : Step g img img′ (map (change p f) (rowsOf g img))
-    edit-step = record { accepted = edit-accepted; setting = edit-setting; rows = edit-rows }
+    edit-step = record { accepted = edit-accepted; kept = kept; setting = edit-setting; rows = edit-rows }
 
   -- ---- an overwrite that answers 0
 

@@ -16,10 +16,12 @@ use Rattle.format.specs.History.Rows.{Row, rowsOf}
 use Rattle.format.specs.History.Setting.{settingOf}
 use Rattle.format.specs.History.Step.{change, rowsStep, rowsAfter}
 use Rattle.format.specs.History.Claim.{after, Holds}
+use Rattle.frame.specs.Edits.{Preserved}
 
--- from img to an accepted image img′ of the same setting, whose rows are rows′
+-- from img to an accepted image img′ of the same setting, whose rows are rows′. The system's sectors are where they were.
 pub record Step (g : Geometry) (img img′ : Bytes) (rows′ : List Row) : Type 0 where
   pub accepted : Accepted g img′
+  pub kept : Preserved g img img′
   pub setting : settingOf g img′ ≡ settingOf g img
   pub rows : rowsOf g img′ ≡ rows′
 

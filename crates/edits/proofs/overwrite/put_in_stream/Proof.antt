@@ -14,7 +14,7 @@ use Rattle.spaces.proofs.Listed.{unit-same, unit-many}
 use Rattle.unitlists.proofs.Limits.{limit-work}
 use Rattle.edits.specs.Streams.{volumeIn}
 use Rattle.edits.proofs.Streams.{stream-start, stream-placed, stream-room}
-use Rattle.edits.proofs.Gathering.{gathered-wrote, gathered-ready, gathered-within, old-short}
+use Rattle.edits.proofs.Gathering.{gathered-wrote, gathered-ready, old-short}
 use Rattle.edits.proofs.Overwrites.{over-chain, over-writable, over-room, over-written}
 use Rattle.edits.proofs.overwrite.put_in_stream.Statement.{statement}
 use Rattle.edits.proofs.overwrite.put_in_stream.Tie as tie
@@ -66,4 +66,4 @@ put-in-stream-spec =
     (λ c.
     let p = c .before .before .before .before .before .before .before .before .before .before .before .before .before .before .before .before .before .before .before .before in
     let l = c .before .before .before .before .before .before .before in
-    (c .before .before .put-bytes .ensures ∙ rw (c .before .before .before .before .before .before .before .before .before .before .before .before .before .before .before .before .kind-for .ensures) (over-written (p .pre .0) (p .pre .1 .0) _ (many (c .before .before .before .before .before .before .before .before .before .before .before .before .before .before)) (listed l) (own l) (within l) _ _ (p .pre .1 .1)), gathered-within (p .pre .0 .ready) (wrote l))))  -- returns
+    (c .before .before .put-bytes .ensures ∙ rw (c .before .before .before .before .before .before .before .before .before .before .before .before .before .before .before .before .kind-for .ensures) (over-written (p .pre .0) (p .pre .1 .0) _ (many (c .before .before .before .before .before .before .before .before .before .before .before .before .before .before)) (listed l) (own l) (within l) _ _ (p .pre .1 .1)), wrote l)))  -- returns

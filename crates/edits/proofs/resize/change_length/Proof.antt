@@ -18,7 +18,7 @@ use Rattle.spaces.specs.Spaces.{kindFor, spaceOf, listedSpace}
 use Rattle.spaces.proofs.Listed.{unit-same, unit-many}
 use Rattle.edits.specs.Streams.{volumeIn}
 use Rattle.edits.proofs.Streams.{stream-start, stream-placed, stream-room}
-use Rattle.edits.proofs.Gathering.{gathered-ready, gathered-within}
+use Rattle.edits.proofs.Gathering.{gathered-ready}
 use Rattle.edits.proofs.Resizes.{too-few, enough-free, resize-chain, resize-writable, resize-entry, resize-tail, resize-written}
 use Rattle.edits.proofs.resize.change_length.Statement.{statement}
 use Rattle.edits.proofs.resize.change_length.Tie as tie
@@ -80,7 +80,7 @@ change-length-spec =
     (λ c. search needs)  -- same-length-2
     (λ c.
     let p = c .before .before .before .before .before .before .before .before .before .before .before .before .before .before .before .before .before in
-    (too-few (p .pre .0) (p .pre .1 .0) (p .args .new) (p .pre .1 .1 .0) _ _ (many (c .before .before .before .before .before .before .before .before .before .before .before)) (wanted (c .before .before .before .before .before .before .before .before .before .before)) (c .if1 .taken) (gathered (c .before .before .before)), (refl, gathered-within (p .pre .0 .ready) (c .before .before .before .gather .ensures .1 .1 .1))))  -- returns
+    (too-few (p .pre .0) (p .pre .1 .0) (p .args .new) (p .pre .1 .1 .0) _ _ (many (c .before .before .before .before .before .before .before .before .before .before .before)) (wanted (c .before .before .before .before .before .before .before .before .before .before)) (c .if1 .taken) (gathered (c .before .before .before)), (refl, c .before .before .before .gather .ensures .1 .1 .1)))  -- returns
     (λ c κs.
     let p = c .before .before .before .before .before .before .before .before .before .before .before .before .before .before .before .before .before .before .before in
     let o = p .pre .0 in
@@ -94,4 +94,4 @@ change-length-spec =
     (λ c.
     let p = c .before .before .before .before .before .before .before .before .before .before .before .before .before .before .before .before .before .before .before .before .before .before in
     let e = c .before .before .before .before .before in
-    (enough e .1, (c .before .before .rewrite .ensures ∙ rw (kind-is (c .before .before .before .before .before .before .before .before .before .before .before .before .before .before .before .before .before .before)) (resize-written (p .pre .0) (p .pre .1 .0) (p .args .new) (p .pre .1 .1 .0) _ _ (many (c .before .before .before .before .before .before .before .before .before .before .before .before .before .before .before .before)) (wanted (c .before .before .before .before .before .before .before .before .before .before .before .before .before .before .before)) (listed e) _ (first (c .before .before .before .before .before .before .before .before .before .before .before)) (mine e) (all e) (enough e .0) (p .pre .1 .1 .1)), gathered-within (p .pre .0 .ready) (c .before .before .before .before .before .before .before .before .gather .ensures .1 .1 .1)))))  -- returns-2
+    (enough e .1, (c .before .before .rewrite .ensures ∙ rw (kind-is (c .before .before .before .before .before .before .before .before .before .before .before .before .before .before .before .before .before .before)) (resize-written (p .pre .0) (p .pre .1 .0) (p .args .new) (p .pre .1 .1 .0) _ _ (many (c .before .before .before .before .before .before .before .before .before .before .before .before .before .before .before .before)) (wanted (c .before .before .before .before .before .before .before .before .before .before .before .before .before .before .before)) (listed e) _ (first (c .before .before .before .before .before .before .before .before .before .before .before)) (mine e) (all e) (enough e .0) (p .pre .1 .1 .1)), c .before .before .before .before .before .before .before .before .gather .ensures .1 .1 .1))))  -- returns-2

@@ -33,7 +33,7 @@ use Rattle.volume.specs.declared.Opened.the-variants.{Ready}
 use Rattle.volume.proofs.Opening.{left-cleared}
 use Rattle.queries.specs.Inside.{Open, replyIn, outIn}
 use Rattle.edits.specs.Images.{imageIn}
-use Rattle.cfb.proofs.Calls.{left-is, ready-is}
+use Rattle.opened.proofs.Validated.{left-is, ready-is}
 
 -- ---- answers after validation
 

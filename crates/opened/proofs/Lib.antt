@@ -1,0 +1,8 @@
+-- Laws for the calls on an opened volume.
+pub mod Validated
+pub mod Inside
+pub mod Ready
+pub mod Numbers
+pub mod Kept
+pub mod Calls
+pub mod Sequence

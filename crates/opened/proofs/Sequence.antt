@@ -1,0 +1,174 @@
+-- Opening, any list of calls and closing give and leave what a validation and the same plain calls do.
+use Prim.Native.Nat.{ℕ, _≤_}
+use mathlib.Core.Path.{_≡_, refl, sym, _∙_, ap, ap₂, subst}
+use mathlib.Core.Bool.{false}
+use mathlib.Core.List.{List, [], _∷_}
+use native.Mathlib.Omega.{arith}
+use lib.ListN.{length}
+use Rattle.format.specs.Basics.Bytes.{Bytes}
+use Rattle.format.specs.Layout.Geometry.{Geometry}
+use Rattle.format.specs.Layout.Volume.{Volume, volume}
+use Rattle.format.specs.Rules.Length.{workNeed}
+use Rattle.format.specs.Rules.Verdict.{verdict}
+use Rattle.format.specs.Calls.Call.{Call, validate, find, read, overwrite, setLength, list, workOf, outOf}
+use Rattle.format.specs.Calls.Answer.{answerIn}
+use Rattle.format.specs.Calls.Reply.{Reply, plain, reply, done, onZero}
+use Rattle.format.specs.Calls.Buffers.{workCleared, edited, handedOut, imageAfter, outAfter, workAfter}
+use Rattle.format.specs.History.Claim.{isEdit}
+use Rattle.theory.proofs.Tests.{clash}
+use Rattle.tables.specs.Work.{Wrote}
+use Rattle.tables.proofs.WorkLaws.{wrote-none, wrote-two, wrote-cleared}
+use Rattle.volume.specs.declared.Volume.{Volume as Place}
+use Rattle.volume.specs.declared.Opened.the-variants.{Ready}
+use Rattle.volume.proofs.Opening.{cleared-same}
+use Rattle.queries.specs.Inside.{replyIn, outIn}
+use Rattle.edits.specs.Images.{imageIn}
+use Rattle.opened.proofs.Inside.{reply-in, image-in, out-in, work-in}
+use Rattle.opened.proofs.Validated.{reply-is}
+use Rattle.opened.proofs.Numbers.{reading-keeps}
+use Rattle.opened.specs.OpenVolume.{OpenVolume}
+use Rattle.opened.specs.Opening.{OpeningRight}
+use Rattle.opened.specs.Sequence.{lent, Given, given, plainGiven, plainImage, plainWork, Left, OpenedCalls}
+use Rattle.opened.proofs.Calls.{opened-zero, opened-length}
+
+-- ---- what the work buffer holds is no part of it
+
+pub lent-work : (w : List ℕ) (c : Call) → workOf (lent w c) ≡ w
+unfolding lent workOf
+lent-work w (validate work) = refl
+lent-work w (find path work) = refl
+lent-work w (read path offset out work) = refl
+lent-work w (overwrite path offset bytes work) = refl
+lent-work w (setLength path new work) = refl
+lent-work w (list out work) = refl
+
+module _ (g : Geometry) (v : Volume) (img : Bytes) (w w′ : List ℕ) where
+  any-reply : (c : Call) → replyIn g v (lent w c) ≡ replyIn g v (lent w′ c)
+  unfolding lent replyIn answerIn done
+  any-reply (validate work) = refl
+  any-reply (find path work) = refl
+  any-reply (read path offset out work) = refl
+  any-reply (overwrite path offset bytes work) = refl
+  any-reply (setLength path new work) = refl
+  any-reply (list out work) = refl
+
+  any-out : (c : Call) → outIn g v img (lent w c) ≡ outIn g v img (lent w′ c)
+  unfolding lent outIn answerIn handedOut outOf
+  any-out (validate work) = refl
+  any-out (find path work) = refl
+  any-out (read path offset out work) = refl
+  any-out (overwrite path offset bytes work) = refl
+  any-out (setLength path new work) = refl
+  any-out (list out work) = refl
+
+  any-image : (c : Call) → imageIn g v img (lent w c) ≡ imageIn g v img (lent w′ c)
+  unfolding lent imageIn answerIn edited
+  any-image (validate work) = refl
+  any-image (find path work) = refl
+  any-image (read path offset out work) = refl
+  any-image (overwrite path offset bytes work) = refl
+  any-image (setLength path new work) = refl
+  any-image (list out work) = refl
+
+-- ---- one call
+
+module _ {g : Geometry} {v : Place} {img : Bytes} {w : List ℕ} (s : OpenVolume g v img w) (c : Call) where
+  lent-zero : (w′ : List ℕ) → workNeed (length img) ≤ length w′ → verdict g img (length (workOf (lent w′ c))) ≡ 0
+  lent-zero w′ h = opened-zero s (length (workOf (lent w′ c))) (omega (arith, ap length (lent-work w′ c)))
+
+  module _ (w′ : List ℕ) (h : workNeed (length img) ≤ length w′) where
+    -- the plain call, lent another work buffer
+    pub step-given : given g img (lent w c) ≡ given g img (lent w′ c)
+    step-given =
+        let z = lent-zero w (s .room) in
+        let z′ = lent-zero w′ h in
+        ap₂ (λ (r : Reply) (o : Bytes). record { reply = r; out = o })
+        (reply-in g img (lent w c) z ∙ any-reply g (volume g img) img w w′ c ∙ sym (reply-in g img (lent w′ c) z′))
+        (out-in g img (lent w c) z ∙ any-out g (volume g img) img w w′ c ∙ sym (out-in g img (lent w′ c) z′))
+
+    pub step-image : imageAfter g img (lent w c) ≡ imageAfter g img (lent w′ c)
+    step-image = image-in g img (lent w c) (lent-zero w (s .room)) ∙ any-image g (volume g img) img w w′ c ∙ sym (image-in g img (lent w′ c) (lent-zero w′ h))
+
+    step-work : workAfter g img (lent w′ c) ≡ workCleared (workNeed (length img)) w′
+    step-work = sym (work-in g img (lent w′ c) (lent-zero w′ h) (wrote-none _ 0 _) refl) ∙ ap (workCleared (workNeed (length img))) (lent-work w′ c)
+
+  -- where the plain calls' work buffer is the opened volume's, cleared, it is so again
+  pub step-cleared : {img₁ : Bytes} {w₁ : List ℕ} → Left g v img w c img₁ w₁ → (w′ : List ℕ) → w′ ≡ workCleared (workNeed (length img)) w
+      → (workNeed (length img) ≤ length w′) × (workAfter g img (lent w′ c) ≡ workCleared (workNeed (length img₁)) w₁)
+  step-cleared {img₁} {w₁} l w′ e =
+      let q = wrote-cleared (workNeed (length img)) w w′ e (s .room) in
+      let h : workNeed (length img) ≤ length w′ = omega (arith, q .long, s .room) in
+      let k : length img₁ ≡ length img = ap length (l .image) ∙ opened-length s (lent w c) in
+      (h, step-work w′ h ∙ cleared-same (workNeed (length img)) q ∙ sym (cleared-same (workNeed (length img)) (l .wrote)) ∙ ap (λ n. workCleared (workNeed n) w₁) (sym k))
+
+-- ---- any list of calls
+
+abbrev Same : Geometry → Bytes → List ℕ → List Call → List Given → Bytes → List ℕ → Type 0
+Same g img w cs xs img′ w′ = (xs ≡ plainGiven g img w cs) × ((img′ ≡ plainImage g img w cs) × (workCleared (workNeed (length img′)) w′ ≡ plainWork g img w cs))
+
+sequence-same : (g : Geometry) (v : Place) (img : Bytes) (w p : List ℕ) (cs : List Call) (xs : List Given) (img′ : Bytes) (w′ : List ℕ)
+    → OpenVolume g v img w → p ≡ workCleared (workNeed (length img)) w → OpenedCalls g v img w cs xs img′ w′ → Same g img p cs xs img′ w′
+unfolding plainGiven plainImage plainWork
+sequence-same g v img w p [] [] img′ w′ s e o = (refl, (o .0, ap₂ (λ i k. workCleared (workNeed (length i)) k) (o .0) (o .1) ∙ sym e))
+sequence-same g v img w p [] (x ∷ xs) img′ w′ s e o = absurd o
+sequence-same g v img w p (c ∷ cs) [] img′ w′ s e o = absurd o
+sequence-same g v img w p (c ∷ cs) (x ∷ xs) img′ w′ s e (img₁, w₁, (y, (l, o))) =
+    let k = step-cleared s c l p e in
+    let i = l .image ∙ step-image s c p (k .0) in
+    let r = sequence-same g v img₁ w₁ (workAfter g img (lent p c)) cs xs img′ w′ (l .opened) (k .1) o in
+    let t = subst (λ j. Same g j (workAfter g img (lent p c)) cs xs img′ w′) i r in
+    (ap₂ (λ (a : Given) (b : List Given). a ∷ b) (y ∙ step-given s c p (k .0)) (t .0), t .1)
+
+-- opening is a validation
+none-out : (g : Geometry) (v : Volume) (img : Bytes) (w : List ℕ) → outIn g v img (validate w) ≡ []
+unfolding outIn onZero answerIn handedOut
+none-out g v img w = refl
+
+pub open-once : (g : Geometry) (v : Place) (img : Bytes) (w w₁ : List ℕ) (cs : List Call) (xs : List Given) (img′ : Bytes) (w₂ w₃ : List ℕ)
+    → OpeningRight g img w w₁ (Ready v) → OpenedCalls g v img w₁ cs xs img′ w₂ → w₃ ≡ workCleared (workNeed (length img′)) w₂
+    → let first : Given = record { reply = plain 0; out = [] } in
+    (first ∷ xs ≡ plainGiven g img w (validate [] ∷ cs)) × ((img′ ≡ plainImage g img w (validate [] ∷ cs)) × (w₃ ≡ plainWork g img w (validate [] ∷ cs)))
+unfolding plainGiven plainImage plainWork lent
+open-once g v img w w₁ cs xs img′ w₂ w₃ q o e =
+    let s = q .1 .0 in
+    let h : workNeed (length img) ≤ length w = omega (arith, q .1 .1 .long, s .room) in
+    let p = step-work s (validate []) w h ∙ sym (cleared-same (workNeed (length img)) (q .1 .1)) in
+    let r = sequence-same g v img w₁ (workAfter g img (validate w)) cs xs img′ w₂ s p o in
+    let i : img ≡ imageAfter g img (validate w) = sym (reading-keeps g img w [] 0 [] .0) in
+    let t = subst (λ j. Same g j (workAfter g img (validate w)) cs xs img′ w₂) i r in
+    let out = none-out g (volume g img) img w in
+    (ap₂ (λ (a : Given) (b : List Given). a ∷ b) (ap₂ (λ (a : Reply) (b : Bytes). record { reply = a; out = b }) (sym (reply-is g img w ∙ ap plain (q .0))) (sym (out-in g img (validate w) (lent-zero s (validate []) w h) ∙ out))) (t .0), (t .1 .0, e ∙ t .1 .1))
+
+-- ---- a call that is lent the image to read: an edit's contract says in so many words what it leaves
+
+reading-same : (g : Geometry) (img : Bytes) (w : List ℕ) (c : Call) → isEdit c ≡ false → imageAfter g img (lent w c) ≡ img
+unfolding lent isEdit
+reading-same g img w (validate work) h = reading-keeps g img w [] 0 [] .0
+reading-same g img w (find path work) h = reading-keeps g img w path 0 [] .1 .0
+reading-same g img w (read path offset out work) h = reading-keeps g img w path offset out .1 .1 .0
+reading-same g img w (overwrite path offset bytes work) h = absurd (clash refl h)
+reading-same g img w (setLength path new work) h = absurd (clash refl h)
+reading-same g img w (list out work) h = reading-keeps g img w [] 0 out .1 .1 .1
+
+-- a listing
+pub left-read : {g : Geometry} {v : Place} {img : Bytes} {w w₁ : List ℕ} (c : Call) → isEdit c ≡ false → OpenVolume g v img w₁ → Wrote w w₁ 0 (workNeed (length img)) → Left g v img w c img w₁
+left-read {g} {img = img} {w = w} c e k r = record { image = sym (reading-same g img w c e); opened = k; wrote = r }
+
+-- a find and a read leave the work buffer too
+pub left-same : {g : Geometry} {v : Place} {img : Bytes} {w : List ℕ} (c : Call) → isEdit c ≡ false → OpenVolume g v img w → Left g v img w c img w
+left-same {w = w} c e k = left-read c e k (wrote-none w 0 _)
+
+-- ---- a plain call is an opening, the call on the opened volume, and a closing
+
+module _ {g : Geometry} {v : Place} {img : Bytes} {w w₁ : List ℕ} (q : OpeningRight g img w w₁ (Ready v)) (c : Call) where
+  long-enough : workNeed (length img) ≤ length w
+  long-enough = omega (arith, q .1 .1 .long, q .1 .0 .room)
+
+  pub plain-given : given g img (lent w₁ c) ≡ given g img (lent w c)
+  plain-given = step-given (q .1 .0) c w long-enough
+
+  pub plain-image : imageAfter g img (lent w₁ c) ≡ imageAfter g img (lent w c)
+  plain-image = step-image (q .1 .0) c w long-enough
+
+  pub plain-work : {w₂ w₃ : List ℕ} → Wrote w₁ w₂ 0 (workNeed (length img)) → w₃ ≡ workCleared (workNeed (length img)) w₂ → w₃ ≡ workAfter g img (lent w c)
+  plain-work r e = e ∙ cleared-same (workNeed (length img)) (wrote-two (q .1 .1) r) ∙ sym (step-work (q .1 .0) c w long-enough)

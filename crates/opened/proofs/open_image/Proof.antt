@@ -1,0 +1,15 @@
+use borrow.Author.Needs.{needs}
+use Rattle.format.specs.Layout.Geometry.{version3}
+use Rattle.opened.proofs.Calls.{opening-right}
+use Rattle.opened.proofs.open_image.Statement.{statement}
+use Rattle.opened.proofs.open_image.Tie as tie
+
+pub open-image-spec : {M : Type 1} → statement M
+open-image-spec =
+    tie.close
+    (tie.spec
+    (λ c κs. search needs)  -- open-volume-requires
+    (λ c. search needs)  -- same-length
+    (λ c.
+    let a = c .before .before .before .before .before .before .args in
+    opening-right version3 (a .image .now) (a .work .now) (c .before .before .open-volume .last .1 .0) (c .before .before .open-volume .result) (c .before .before .open-volume .ensures)))  -- returns

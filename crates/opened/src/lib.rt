@@ -1,0 +1,112 @@
+// A volume opened once, for any number of calls, and closed. Each call gives what the plain call gives, and leaves the volume opened.
+ghost use mathlib.Core.Path.{_≡_};
+ghost use lib.ListN.{length};
+ghost use Rattle.format.specs.Layout.Geometry.{version3};
+ghost use Rattle.format.specs.Rules.Length.{workNeed};
+ghost use Rattle.format.specs.Calls.Call.{find as findCall, read as readCall, overwrite as overwriteCall, setLength as lengthCall, list as listCall};
+ghost use Rattle.format.specs.Calls.Reply.{plain, reply};
+ghost use Rattle.format.specs.Calls.Buffers.{workCleared, imageAfter, outAfter};
+ghost use Rattle.kinds.specs.Numbers.{numberOf};
+ghost use Rattle.tables.specs.Work.{Wrote};
+ghost use Rattle.queries.specs.Replies.{findReply, readReply, listReply};
+ghost use Rattle.opened.specs.OpenVolume.{OpenVolume};
+ghost use Rattle.opened.specs.Opening.{OpeningRight};
+use edits::overwrite::overwrite_in;
+use edits::resize::set_length_in;
+use kinds::Answer;
+use le::zero_first;
+use queries::find::Find;
+use queries::find::find_in;
+use queries::list::List;
+use queries::list::list_in;
+use queries::read::Read;
+use queries::read::read_in;
+use tables::work_need;
+use volume::Opened;
+use volume::Volume;
+use volume::open_volume;
+
+// Validates an image and opens it.
+pub fn open_image(image: &[u8], work: &mut [u32]) -> Opened
+    ensures { λ r. ⌜ OpeningRight version3 (now (image .entry)) (now (work .entry)) (now (work .exit)) r ⌝ }
+{
+    open_volume(image, work)
+}
+
+// Leaves the work buffer as a plain call does.
+pub fn close(image: &[u8], work: &mut [u32], v: Volume)
+    requires { ⌜ OpenVolume version3 v (now image) (now work) ⌝ }
+    ensures { λ _. ⌜ now (work .exit) ≡ workCleared (workNeed (length (now (image .entry)))) (now (work .entry)) ⌝ }
+{
+    zero_first(work, work_need(image.len()));
+}
+
+// The entry that a path leads to: its number, its type and its size.
+pub fn find_opened(image: &[u8], work: &[u32], v: Volume, path: &[u16]) -> Find
+    requires { ⌜ OpenVolume version3 v (now image) (now work) ⌝ }
+    ensures { λ r. ⌜ findReply r ≡ reply version3 (now (image .entry)) (findCall (now (path .entry)) (now (work .entry))) ⌝ }
+{
+    find_in(path, image, work, v)
+}
+
+// Bytes of the stream that a path leads to, from an offset on: as many as are left of it and as the out buffer holds.
+pub fn read_opened(
+    image: &[u8],
+    work: &[u32],
+    v: Volume,
+    path: &[u16],
+    offset: u64,
+    out: &mut [u8],
+) -> Read
+    requires { ⌜ OpenVolume version3 v (now image) (now work) ⌝ }
+    ensures { λ r. ⌜ readReply r ≡ reply version3 (now (image .entry)) (readCall (now (path .entry)) offset (now (out .entry)) (now (work .entry))) ⌝ }
+    ensures { λ _. ⌜ now (out .exit) ≡ outAfter version3 (now (image .entry)) (readCall (now (path .entry)) offset (now (out .entry)) (now (work .entry))) ⌝ }
+{
+    read_in(path, image, work, v, offset, out)
+}
+
+// Puts bytes into the stream that a path leads to, from an offset on. They have to end within the stream.
+pub fn overwrite_opened(
+    image: &mut [u8],
+    work: &mut [u32],
+    v: Volume,
+    path: &[u16],
+    offset: u64,
+    bytes: &[u8],
+) -> Answer
+    requires { ⌜ OpenVolume version3 v (now image) (now work) ⌝ }
+    ensures { λ r. ⌜ plain (numberOf r) ≡ reply version3 (now (image .entry)) (overwriteCall (now (path .entry)) offset (now (bytes .entry)) (now (work .entry))) ⌝ }
+    ensures { λ _. ⌜ now (image .exit) ≡ imageAfter version3 (now (image .entry)) (overwriteCall (now (path .entry)) offset (now (bytes .entry)) (now (work .entry))) ⌝ }
+    ensures { λ _. ⌜ OpenVolume version3 v (now (image .exit)) (now (work .exit)) ⌝ }
+    ensures { λ _. ⌜ Wrote (now (work .entry)) (now (work .exit)) 0 (workNeed (length (now (image .entry)))) ⌝ }
+{
+    overwrite_in(path, image, work, v, offset, bytes)
+}
+
+// Gives the stream that a path leads to another length: cut there, or with zero bytes up to there.
+pub fn set_length_opened(
+    image: &mut [u8],
+    work: &mut [u32],
+    v: Volume,
+    path: &[u16],
+    new: u64,
+) -> Answer
+    requires { ⌜ OpenVolume version3 v (now image) (now work) ⌝ }
+    ensures { λ r. ⌜ plain (numberOf r) ≡ reply version3 (now (image .entry)) (lengthCall (now (path .entry)) new (now (work .entry))) ⌝ }
+    ensures { λ _. ⌜ now (image .exit) ≡ imageAfter version3 (now (image .entry)) (lengthCall (now (path .entry)) new (now (work .entry))) ⌝ }
+    ensures { λ _. ⌜ OpenVolume version3 v (now (image .exit)) (now (work .exit)) ⌝ }
+    ensures { λ _. ⌜ Wrote (now (work .entry)) (now (work .exit)) 0 (workNeed (length (now (image .entry)))) ⌝ }
+{
+    set_length_in(path, image, work, v, new)
+}
+
+// A line for each object, in an out buffer that has room for all of them.
+pub fn list_opened(image: &[u8], work: &mut [u32], v: Volume, out: &mut [u8]) -> List
+    requires { ⌜ OpenVolume version3 v (now image) (now work) ⌝ }
+    ensures { λ r. ⌜ listReply r ≡ reply version3 (now (image .entry)) (listCall (now (out .entry)) (now (work .entry))) ⌝ }
+    ensures { λ _. ⌜ now (out .exit) ≡ outAfter version3 (now (image .entry)) (listCall (now (out .entry)) (now (work .entry))) ⌝ }
+    ensures { λ _. ⌜ OpenVolume version3 v (now (image .entry)) (now (work .exit)) ⌝ }
+    ensures { λ _. ⌜ Wrote (now (work .entry)) (now (work .exit)) 0 (workNeed (length (now (image .entry)))) ⌝ }
+{
+    list_in(image, work, v, out)
+}
