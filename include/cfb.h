@@ -11,6 +11,8 @@
  *
  * A path is given in 16-bit units (UTF-16, in the machine's byte order) with their number, and no zero behind them. Its names
  * are parted by '/', with none at either end; the empty path is the root. Small and capital letters a to z are the same.
+ *
+ * cfb_opened.h has the same calls on an image that is validated once for all of them, and asks something of the caller for it.
  */
 #ifndef CFB_H
 #define CFB_H

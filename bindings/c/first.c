@@ -1,7 +1,6 @@
 /* A first use from C: lists a compound file, prints the end of its stream Site/log, adds a line to it, and writes the changed
  * file where a second name is given: first FILE [NEW]. */
-#include <stdio.h>
-#include <stdlib.h>
+#include "shared.h"
 #include "cfb.h"
 
 /* Adds bytes at the end of a stream. The answer is 0, or the number of the refusal: then the image is as it was. */
@@ -15,50 +14,6 @@ uint32_t append(uint8_t *image, size_t image_len, uint32_t *work, size_t work_le
     if (answer == CFB_DONE)
         answer = cfb_overwrite(image, image_len, work, work_len, path, path_len, size, bytes, bytes_len);
     return answer;
-}
-
-/* Ends the program with a message. */
-static void fail(const char *what, const char *why) {
-    fprintf(stderr, "first: %s: %s\n", what, why);
-    exit(1);
-}
-
-/* Ends the program where a call was refused. */
-static void expect_done(const char *call, uint32_t answer) {
-    if (answer != CFB_DONE) {
-        fprintf(stderr, "first: %s: refused %u\n", call, (unsigned)answer);
-        exit(1);
-    }
-}
-
-/* Memory for so many elements. One more is asked for: no pointer may be NULL, and malloc(0) may give that. */
-static void *room(size_t count, size_t size) {
-    void *memory = malloc((count + 1) * size);
-    if (memory == NULL)
-        fail("malloc", "no memory");
-    return memory;
-}
-
-static uint8_t *read_file(const char *name, size_t *length) {
-    FILE *file = fopen(name, "rb");
-    if (file == NULL)
-        fail(name, "cannot be opened");
-    long end = fseek(file, 0, SEEK_END) == 0 ? ftell(file) : -1;
-    if (end < 0)
-        fail(name, "has no length");
-    rewind(file);
-    uint8_t *bytes = room((size_t)end, 1);
-    *length = fread(bytes, 1, (size_t)end, file);
-    if (*length != (size_t)end)
-        fail(name, "cannot be read");
-    fclose(file);
-    return bytes;
-}
-
-static void write_file(const char *name, const uint8_t *bytes, size_t length) {
-    FILE *file = fopen(name, "wb");
-    if (file == NULL || fwrite(bytes, 1, length, file) != length || fclose(file) != 0)
-        fail(name, "cannot be written");
 }
 
 /* Prints the listing, in an out buffer that is made longer until it fits, up to a megabyte. */

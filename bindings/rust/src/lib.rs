@@ -20,17 +20,30 @@
 //! assert_eq!(find(&image, &mut work, &path("Site/logs")), Err(Refusal::NotFound));
 //! # Ok::<(), Refusal>(())
 //! ```
+//!
+//! For many calls on one image, open it once: a [`Volume`] has the same calls, and validates when it is opened. A
+//! [`ReadOnlyVolume`] does so with an image that is not to be changed.
 
 #![deny(unsafe_code, missing_docs)]
 
+mod answers;
 mod calls;
 mod entry;
+mod objects;
+mod opened;
+mod read_only;
 mod refusal;
+mod stream;
+mod volume;
 
 pub use entry::{Entry, Kind};
+pub use objects::{Object, Objects};
+pub use read_only::ReadOnlyVolume;
 pub use refusal::Refusal;
+pub use stream::Stream;
+pub use volume::Volume;
 
-use refusal::answered;
+use answers::{answered, counted, found};
 
 /// How many numbers the work buffer needs for an image of so many bytes.
 pub const fn work_need(image_len: usize) -> usize {
@@ -53,9 +66,7 @@ pub fn validate(image: &[u8], work: &mut [u32]) -> Result<(), Refusal> {
 ///
 /// Refusals: 20, 21 and 22. Of 21 and 22 the first name that fails decides.
 pub fn find(image: &[u8], work: &mut [u32], path: &[u16]) -> Result<Entry, Refusal> {
-    let (answer, number, kind, size) = calls::find(image, work, path);
-    answered(answer)?;
-    Ok(Entry { number, kind: Kind::of(kind), size })
+    found(calls::find(image, work, path))
 }
 
 /// Copies the bytes of a stream from an offset on to the out buffer, and gives their number: as many as are left of the
@@ -64,9 +75,7 @@ pub fn find(image: &[u8], work: &mut [u32], path: &[u16]) -> Result<Entry, Refus
 ///
 /// Refusals: 20 to 24.
 pub fn read(image: &[u8], work: &mut [u32], path: &[u16], offset: u64, out: &mut [u8]) -> Result<usize, Refusal> {
-    let (answer, count) = calls::read(image, work, path, offset, out);
-    answered(answer)?;
-    Ok(length(count))
+    counted(calls::read(image, work, path, offset, out))
 }
 
 /// Puts bytes into a stream from an offset on. They have to end within it. Nothing else of the image changes.
@@ -101,12 +110,5 @@ pub fn set_len(image: &mut [u8], work: &mut [u32], path: &[u16], new_len: u64) -
 ///
 /// Refusals: 27, where the listing is longer than the out buffer. How long it is the call does not say: try a longer one.
 pub fn list(image: &[u8], work: &mut [u32], out: &mut [u8]) -> Result<usize, Refusal> {
-    let (answer, count) = calls::list(image, work, out);
-    answered(answer)?;
-    Ok(length(count))
-}
-
-/// A count of bytes in an out buffer: at most the buffer's length.
-fn length(count: u64) -> usize {
-    usize::try_from(count).expect("a count is at most the out buffer's length")
+    counted(calls::list(image, work, out))
 }

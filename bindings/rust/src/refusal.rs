@@ -4,6 +4,7 @@
 
 use std::error::Error;
 use std::fmt;
+use std::io;
 
 /// Writes the enum, and the way from a number to it, from one table.
 macro_rules! refusals {
@@ -72,11 +73,17 @@ impl fmt::Display for Refusal {
 
 impl Error for Refusal {}
 
-/// A call's answer: 0, or a refusal.
-pub(crate) fn answered(number: u32) -> Result<(), Refusal> {
-    match number {
-        0 => Ok(()),
-        _ => Err(Refusal::from_number(number)
-            .unwrap_or_else(|| panic!("the linked library gave the answer {number}, which is none"))),
+/// For programs that speak of `std::io`: an image that is refused is invalid data (1, 10 to 18), a name that is not there is
+/// not found (21), too few free sectors are a full storage (26), and all others are an invalid input. The refusal is the
+/// error's inner one.
+impl From<Refusal> for io::Error {
+    fn from(refusal: Refusal) -> io::Error {
+        let kind = match refusal.number() {
+            1 | 10..=18 => io::ErrorKind::InvalidData,
+            21 => io::ErrorKind::NotFound,
+            26 => io::ErrorKind::StorageFull,
+            _ => io::ErrorKind::InvalidInput,
+        };
+        io::Error::new(kind, refusal)
     }
 }

@@ -1,18 +1,25 @@
 //! The calls on samples/site.cfb: a storage Site with the streams log (5,000 bytes) and Jets (70 bytes), no sector and no
-//! mini sector free.
+//! mini sector free. What holds for any image is tried on samples/nested.cfb too.
 
 mod edits;
+mod objects;
+mod opened;
 mod queries;
 mod readme;
 mod refusals;
+mod streams;
 
 use gyomrelas::{path, read, work_need};
 
-/// The sample, and a work buffer with one number more than needed, full of something else than zero.
-fn site() -> (Vec<u8>, Vec<u32>) {
-    let image = std::fs::read("../../samples/site.cfb").expect("the sample is there");
+/// A sample, and a work buffer with one number more than needed, full of something else than zero.
+fn sample(name: &str) -> (Vec<u8>, Vec<u32>) {
+    let image = std::fs::read(format!("../../samples/{name}")).expect("the sample is there");
     let work = vec![7; work_need(image.len()) + 1];
     (image, work)
+}
+
+fn site() -> (Vec<u8>, Vec<u32>) {
+    sample("site.cfb")
 }
 
 /// So many bytes of a line repeated.

@@ -1,6 +1,6 @@
 //! What is found, read and listed.
 
-use super::{content, jets, log, site};
+use super::{content, jets, log, sample, site};
 use gyomrelas::{find, list, path, read, validate, work_need, Entry, Kind};
 
 const LISTING: &[u8] = b"objects 3\nD 0 Site\nF 5000 Site/log\nF 70 Site/Jets\n";
@@ -74,8 +74,7 @@ fn the_work_buffer_is_zero_as_far_as_it_is_needed() {
 #[test]
 fn a_path_is_in_utf_16() {
     assert_eq!(path("Süd/𝄞"), [0x53, 0xfc, 0x64, 0x2f, 0xd834, 0xdd1e]);
-    let image = std::fs::read("../../samples/nested.cfb").expect("the sample is there");
-    let mut work = vec![0; work_need(image.len())];
+    let (image, mut work) = sample("nested.cfb");
     let south = find(&image, &mut work, &path("Pumps/Süd")).expect("there");
     assert_eq!((south.kind, south.size), (Kind::Storage, 0));
 }

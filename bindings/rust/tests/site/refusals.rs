@@ -8,7 +8,7 @@ const FAT: usize = 512;
 const MINI_FAT: usize = 11 * 512;
 const ROOT: usize = 4 * 512;
 const LOG: usize = ROOT + 2 * 128;
-const JETS: usize = ROOT + 3 * 128;
+pub const JETS: usize = ROOT + 3 * 128;
 
 #[test]
 fn numbers_and_refusals_belong_together() {
@@ -38,25 +38,33 @@ fn a_work_buffer_that_is_too_short() {
     assert_eq!(validate(&image, &mut work[..need]), Ok(()));
 }
 
+/// For each group of rules its number, and the sample with a rule of it broken.
+pub fn broken() -> impl Iterator<Item = (u32, Vec<u8>)> {
+    let end_of_chain: u32 = 0xFFFF_FFFE;
+    let breaks: [(u32, Vec<(usize, u32)>); 9] = [
+        (10, vec![(0, 0)]),                                         // the signature
+        (11, vec![(44, 0)]),                                        // no FAT sector
+        (12, vec![(FAT + 4, 1000)]),                                // a sector behind the image
+        (13, vec![(48, end_of_chain)]),                             // no directory
+        (14, vec![(ROOT + 68, 1)]),                                 // a sibling of the root
+        (15, vec![(ROOT + 76, u32::MAX)]),                          // nothing below the root
+        (16, vec![(ROOT + 120, 127)]),                              // half a mini sector
+        (17, vec![(LOG + 120, 5121)]),                              // a sector more than its chain has
+        (18, vec![(JETS + 120, 64), (MINI_FAT + 4, end_of_chain)]), // a mini sector that nobody owns
+    ];
+    breaks.into_iter().map(|(number, changes)| {
+        let (mut image, _) = site();
+        for (place, value) in changes {
+            image[place..place + 4].copy_from_slice(&value.to_le_bytes());
+        }
+        (number, image)
+    })
+}
+
 #[test]
 fn an_image_that_breaks_a_rule() {
-    let end_of_chain: u32 = 0xFFFF_FFFE;
-    let breaks: [(u32, &[(usize, u32)]); 9] = [
-        (10, &[(0, 0)]),                                         // the signature
-        (11, &[(44, 0)]),                                        // no FAT sector
-        (12, &[(FAT + 4, 1000)]),                                // a sector behind the image
-        (13, &[(48, end_of_chain)]),                             // no directory
-        (14, &[(ROOT + 68, 1)]),                                 // a sibling of the root
-        (15, &[(ROOT + 76, u32::MAX)]),                          // nothing below the root
-        (16, &[(ROOT + 120, 127)]),                              // half a mini sector
-        (17, &[(LOG + 120, 5121)]),                              // a sector more than its chain has
-        (18, &[(JETS + 120, 64), (MINI_FAT + 4, end_of_chain)]), // a mini sector that nobody owns
-    ];
-    for (number, changes) in breaks {
-        let (mut image, mut work) = site();
-        for (place, value) in changes {
-            image[*place..place + 4].copy_from_slice(&value.to_le_bytes());
-        }
+    for (number, mut image) in broken() {
+        let (_, mut work) = site();
         let answer = validate(&image, &mut work).map_err(Refusal::number);
         assert_eq!(answer, Err(number));
         // every call looks at the whole image first
