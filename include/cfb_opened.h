@@ -7,7 +7,7 @@
  * buffer; only the work buffer differs, which stays the volume's. Answers 1, 2 and 10 to 18 come from cfb_open alone.
  *
  * Of pointers the same is asked as in cfb.h. No pointer is kept, and nothing is allocated. cfb_opened_find and cfb_opened_read
- * write to none of the three, so threads may call them at the same time.
+ * write to none of the three.
  */
 #ifndef CFB_OPENED_H
 #define CFB_OPENED_H

@@ -1,7 +1,28 @@
-/* Many calls on one validation: opens a compound file, lists it, counts the lines of its stream Site/log piece by piece, adds a
- * line to it, counts again, and closes. Then the changed image is validated: opened FILE. */
+/* Many calls on one validation: adds up the bytes of the stream Site/log of a compound file; then opens the file, lists it,
+ * counts the lines of the stream, adds a line to it, counts again, and closes. Then the changed image is validated: opened FILE. */
 #include "shared.h"
 #include "cfb_opened.h"
+
+/* Adds up the bytes of a stream, which it reads piece by piece on one validation. */
+uint32_t sum_bytes(const uint8_t *image, size_t image_len, uint32_t *work, size_t work_len, const uint16_t *path,
+                   size_t path_len, uint64_t *sum) {
+    cfb_volume volume;
+    uint8_t piece[300];
+    uint64_t offset = 0, count;
+    *sum = 0;
+    uint32_t answer = cfb_open(image, image_len, work, work_len, &volume);
+    if (answer != CFB_DONE)
+        return answer;
+    do {
+        answer = cfb_opened_read(image, image_len, work, work_len, &volume, path, path_len, offset, piece, sizeof piece,
+                                 &count);
+        for (uint64_t i = 0; i < count; i++)
+            *sum += piece[i];
+        offset += count;
+    } while (count != 0); /* at the stream's end, and after a refusal, it is 0 */
+    cfb_close(image, image_len, work, work_len, &volume);
+    return answer;
+}
 
 /* What every call is given. While the volume is open, only the calls write to any of it. */
 struct file {
@@ -67,6 +88,10 @@ int main(int argc, char **argv) {
     file.image = read_file(argv[1], &file.image_len);
     file.work_len = CFB_WORK_NEED(file.image_len);
     file.work = room(file.work_len, sizeof *file.work);
+
+    uint64_t sum;
+    expect_done("sum", sum_bytes(file.image, file.image_len, file.work, file.work_len, path, path_len, &sum));
+    printf("bytes add up to %llu\n", (unsigned long long)sum);
 
     expect_done("open", cfb_open(file.image, file.image_len, file.work, file.work_len, &file.volume));
     print_listing(&file);

@@ -2,20 +2,26 @@
 
 const README: &str = include_str!("../../../../README.md");
 
-/// The README's one block of a language.
-fn block(language: &str) -> &'static str {
-    let (_, rest) = README.split_once(&format!("```{language}\n")).expect("a block");
-    let (block, rest) = rest.split_once("```").expect("its end");
-    assert!(!rest.contains(&format!("```{language}\n")));
-    block
+/// The README's blocks of a language, of which there are two: plain calls, and calls on an opened volume.
+fn blocks(language: &str) -> [&'static str; 2] {
+    let begin = format!("```{language}\n");
+    let mut blocks = README.split(&begin).skip(1).map(|rest| {
+        let (block, _) = rest.split_once("```").expect("its end");
+        block
+    });
+    let two = [blocks.next().expect("a block"), blocks.next().expect("a second block")];
+    assert_eq!(blocks.next(), None);
+    two
 }
 
 #[test]
-fn the_first_use_from_rust_is_the_example() {
-    assert_eq!(block("rust"), include_str!("../../examples/first.rs"));
+fn the_uses_from_rust_are_the_examples() {
+    assert_eq!(blocks("rust"), [include_str!("../../examples/first.rs"), include_str!("../../examples/volume.rs")]);
 }
 
 #[test]
-fn the_first_use_from_c_stands_in_the_program() {
-    assert!(include_str!("../../../c/first.c").contains(block("c")));
+fn the_uses_from_c_stand_in_the_programs() {
+    let [plain, opened] = blocks("c").map(|block| block.split_once("\n\n").expect("an include and a function").1);
+    assert!(include_str!("../../../c/first.c").contains(plain));
+    assert!(include_str!("../../../c/opened.c").contains(opened));
 }
