@@ -1,4 +1,4 @@
--- The answer number of each call ("What the desk answers").
+-- The answer number of each call.
 use Prim.Native.Nat.{ℕ, zero, suc, _+_}
 use mathlib.Core.Bool.{cond}
 use lib.Dec.{ltb}

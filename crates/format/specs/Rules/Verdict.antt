@@ -1,4 +1,4 @@
--- The verdict on an image: 0, 1, 2, or the number of the first group that it breaks ("What the desk answers").
+-- The verdict on an image: 0, 1, 2, or the number of the first group that it breaks.
 use mathlib.Core.Path.{_≡_}
 use Prim.Native.Nat.{ℕ}
 use mathlib.Core.Bool.{Bool, true, false}
