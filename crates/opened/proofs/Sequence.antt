@@ -1,7 +1,7 @@
 -- Opening, any list of calls and closing give and leave what a validation and the same plain calls do.
-use Prim.Native.Nat.{ℕ, _≤_}
+use Prim.Native.Nat.{ℕ, zero, suc, _≤_}
 use mathlib.Core.Path.{_≡_, refl, sym, _∙_, ap, ap₂, subst}
-use mathlib.Core.Bool.{false}
+use mathlib.Core.Bool.{true, false}
 use mathlib.Core.List.{List, [], _∷_}
 use native.Mathlib.Omega.{arith}
 use lib.ListN.{length}
@@ -10,6 +10,7 @@ use Rattle.format.specs.Layout.Geometry.{Geometry}
 use Rattle.format.specs.Layout.Volume.{Volume, volume}
 use Rattle.format.specs.Rules.Length.{workNeed}
 use Rattle.format.specs.Rules.Verdict.{verdict}
+use Rattle.format.specs.Calls.Paths.{Path}
 use Rattle.format.specs.Calls.Call.{Call, validate, find, read, overwrite, setLength, list, workOf, outOf}
 use Rattle.format.specs.Calls.Answer.{answerIn}
 use Rattle.format.specs.Calls.Reply.{Reply, plain, reply, done, onZero}
@@ -119,10 +120,35 @@ sequence-same g v img w p (c ∷ cs) (x ∷ xs) img′ w′ s e (img₁, w₁, (
     let t = subst (λ j. Same g j (workAfter g img (lent p c)) cs xs img′ w′) i r in
     (ap₂ (λ (a : Given) (b : List Given). a ∷ b) (y ∙ step-given s c p (k .0)) (t .0), t .1)
 
--- opening is a validation
-none-out : (g : Geometry) (v : Volume) (img : Bytes) (w : List ℕ) → outIn g v img (validate w) ≡ []
-unfolding outIn onZero answerIn handedOut
-none-out g v img w = refl
+-- ---- what a call hands out: without an out buffer nothing beside its reply
+
+handed : (g : Geometry) (img : Bytes) (c : Call) {r : Reply} {o : Bytes} → r ≡ reply g img c → o ≡ outAfter g img c → record { reply = r; out = o } ≡ given g img c
+handed g img c e h = ap₂ (λ (a : Reply) (b : Bytes). record { reply = a; out = b }) e h
+
+nothing : (n : ℕ) → onZero {A = Bytes} n [] [] ≡ []
+unfolding onZero
+nothing zero = refl
+nothing (suc n) = refl
+
+module _ (g : Geometry) (img : Bytes) (w : List ℕ) where
+  validate-out : outAfter g img (validate w) ≡ []
+  unfolding outAfter handedOut outOf
+  validate-out = nothing _
+
+  find-out : (path : Path) → outAfter g img (find path w) ≡ []
+  unfolding outAfter handedOut outOf
+  find-out path = nothing _
+
+  edit-out : (c : Call) → isEdit c ≡ true → outAfter g img (lent w c) ≡ []
+  unfolding outAfter handedOut outOf lent isEdit
+  edit-out (validate work) h = validate-out
+  edit-out (find path work) h = find-out path
+  edit-out (read path offset out work) h = absurd (clash h refl)
+  edit-out (overwrite path offset bytes work) h = nothing _
+  edit-out (setLength path new work) h = nothing _
+  edit-out (list out work) h = absurd (clash h refl)
+
+-- ---- opening is a validation
 
 pub open-once : (g : Geometry) (v : Place) (img : Bytes) (w w₁ : List ℕ) (cs : List Call) (xs : List Given) (img′ : Bytes) (w₂ w₃ : List ℕ)
     → OpeningRight g img w w₁ (Ready v) → OpenedCalls g v img w₁ cs xs img′ w₂ → w₃ ≡ workCleared (workNeed (length img′)) w₂
@@ -136,8 +162,8 @@ open-once g v img w w₁ cs xs img′ w₂ w₃ q o e =
     let r = sequence-same g v img w₁ (workAfter g img (validate w)) cs xs img′ w₂ s p o in
     let i : img ≡ imageAfter g img (validate w) = sym (reading-keeps g img w [] 0 [] .0) in
     let t = subst (λ j. Same g j (workAfter g img (validate w)) cs xs img′ w₂) i r in
-    let out = none-out g (volume g img) img w in
-    (ap₂ (λ (a : Given) (b : List Given). a ∷ b) (ap₂ (λ (a : Reply) (b : Bytes). record { reply = a; out = b }) (sym (reply-is g img w ∙ ap plain (q .0))) (sym (out-in g img (validate w) (lent-zero s (validate []) w h) ∙ out))) (t .0), (t .1 .0, e ∙ t .1 .1))
+    let first = handed g img (validate w) (sym (reply-is g img w ∙ ap plain (q .0))) (sym (validate-out g img w)) in
+    (ap₂ (λ (a : Given) (b : List Given). a ∷ b) first (t .0), (t .1 .0, e ∙ t .1 .1))
 
 -- ---- a call that is lent the image to read: an edit's contract says in so many words what it leaves
 
@@ -157,6 +183,39 @@ left-read {g} {img = img} {w = w} c e k r = record { image = sym (reading-same g
 -- a find and a read leave the work buffer too
 pub left-same : {g : Geometry} {v : Place} {img : Bytes} {w : List ℕ} (c : Call) → isEdit c ≡ false → OpenVolume g v img w → Left g v img w c img w
 left-same {w = w} c e k = left-read c e k (wrote-none w 0 _)
+
+-- ---- what a call on an opened volume ensures makes one step of a list of calls
+
+abbrev pub Step : Geometry → Place → Bytes → List ℕ → Call → Given → Bytes → List ℕ → Type 0
+Step g v img w c x img₁ w₁ = (x ≡ given g img (lent w c)) × Left g v img w c img₁ w₁
+
+pub edit-step : {g : Geometry} {v : Place} (img : Bytes) {img₁ : Bytes} {w w₁ : List ℕ} (c : Call) {r : Reply} → isEdit c ≡ true
+    → (r ≡ reply g img (lent w c)) × ((img₁ ≡ imageAfter g img (lent w c)) × (OpenVolume g v img₁ w₁ × Wrote w w₁ 0 (workNeed (length img))))
+    → Step g v img w c (record { reply = r; out = [] }) img₁ w₁
+edit-step {g} img {w = w} c h i =
+    (handed g img (lent w c) (i .0) (sym (edit-out g img w c h)), record { image = i .1 .0; opened = i .1 .1 .0; wrote = i .1 .1 .1 })
+
+pub list-step : {g : Geometry} {v : Place} {img : Bytes} {w w₁ : List ℕ} (c : Call) {r : Reply} {o : Bytes} → isEdit c ≡ false
+    → (r ≡ reply g img (lent w c)) × ((o ≡ outAfter g img (lent w c)) × (OpenVolume g v img w₁ × Wrote w w₁ 0 (workNeed (length img))))
+    → Step g v img w c (record { reply = r; out = o }) img w₁
+list-step {g} {img = img} {w = w} c h i = (handed g img (lent w c) (i .0) (i .1 .0), left-read c h (i .1 .1 .0) (i .1 .1 .1))
+
+pub read-step : {g : Geometry} {v : Place} {img : Bytes} {w : List ℕ} (c : Call) {r : Reply} {o : Bytes} → isEdit c ≡ false → OpenVolume g v img w
+    → (r ≡ reply g img (lent w c)) × (o ≡ outAfter g img (lent w c)) → Step g v img w c (record { reply = r; out = o }) img w
+read-step {g} {img = img} {w = w} c h k i = (handed g img (lent w c) (i .0) (i .1), left-same c h k)
+
+pub find-step : {g : Geometry} {v : Place} {img : Bytes} {w : List ℕ} (path : Path) {r : Reply} → OpenVolume g v img w → r ≡ reply g img (find path w)
+    → Step g v img w (find path []) (record { reply = r; out = [] }) img w
+unfolding lent isEdit
+find-step {g} {img = img} {w = w} path k i = read-step (find path []) refl k (i, sym (find-out g img w path))
+
+-- the volume is opened behind the list too
+pub still-opened : (g : Geometry) (v : Place) (img : Bytes) (w : List ℕ) (cs : List Call) (xs : List Given) (img′ : Bytes) (w′ : List ℕ)
+    → OpenVolume g v img w → OpenedCalls g v img w cs xs img′ w′ → OpenVolume g v img′ w′
+still-opened g v img w [] [] img′ w′ s o = rw (o .0, o .1) s
+still-opened g v img w [] (x ∷ xs) img′ w′ s o = absurd o
+still-opened g v img w (c ∷ cs) [] img′ w′ s o = absurd o
+still-opened g v img w (c ∷ cs) (x ∷ xs) img′ w′ s (img₁, w₁, (y, (l, o))) = still-opened g v img₁ w₁ cs xs img′ w′ (l .opened) o
 
 -- ---- a plain call is an opening, the call on the opened volume, and a closing
 

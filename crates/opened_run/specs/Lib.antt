@@ -1,0 +1,2 @@
+-- What the calls in a row are stated with.
+pub mod Row
