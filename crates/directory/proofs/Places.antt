@@ -17,7 +17,7 @@ use Rattle.format.specs.Rules.Entries.{entryRight, entryRules, entryFields}
 use Rattle.kinds.specs.Sizes.{geometryOf}
 use Rattle.theory.proofs.Tests.{below-at}
 use Rattle.theory.proofs.Scale.{scale-div, scale-mod, scale-below}
-use Rattle.tables.specs.Sized.{ImageSized}
+use Rattle.header.specs.Sized.{ImageSized}
 use Rattle.tables.specs.Work.{Wrote}
 use Rattle.tables.proofs.Places.{sector-inside}
 use Rattle.entries.specs.Entry.{entryAt, NamedAt}

@@ -8,7 +8,7 @@ use Rattle.format.specs.Layout.Geometry.{sectorCount, sectorPlace, entriesIn}
 use Rattle.format.specs.Layout.Directory.{Directory}
 use Rattle.format.specs.Layout.Volume.{directorySectorsOf, directory}
 use Rattle.kinds.specs.Sizes.{geometryOf}
-use Rattle.tables.specs.Sized.{ImageSized}
+use Rattle.header.specs.Sized.{ImageSized}
 use Rattle.tables.specs.declared.Tables.{Tables}
 use Rattle.entries.specs.Entry.{Named}
 use Rattle.directory.specs.declared.Directory.{Directory as Where}

@@ -19,7 +19,7 @@ use Rattle.format.specs.Layout.Volume.{volume, root, directory, directorySector
 use Rattle.format.specs.Rules.Directory.{directoryRules}
 use Rattle.format.specs.Rules.Mini.{miniFatChain, miniStreamChain}
 use Rattle.theory.specs.Marks.{marks}
-use Rattle.tables.specs.Sized.{ImageSized}
+use Rattle.header.specs.Sized.{ImageSized}
 use Rattle.chains.specs.Answers.{markAnswer, Remarked, ChainsMarked}
 use Rattle.chains.specs.declared.Marked.{Marked}
 use Rattle.chains.proofs.Owners.{marked-chain}

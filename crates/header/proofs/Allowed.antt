@@ -1,4 +1,4 @@
--- An image of an allowed length is sized as the functions on tables require.
+-- An image of an allowed length is sized as the functions on its header and tables require.
 use Prim.Native.Nat.{_≤_}
 use mathlib.Core.Path.{_≡_}
 use mathlib.Core.Bool.{true}
@@ -9,7 +9,7 @@ use Rattle.format.specs.Layout.Geometry.{Geometry}
 use Rattle.format.specs.Rules.Length.{lengthAllowed}
 use Rattle.frame.specs.Kept.{Sized}
 use Rattle.frame.proofs.Lengths.{allowed-least, allowed-short, allowed-long, allowed-few, allowed-many}
-use Rattle.tables.specs.Sized.{ImageSized}
+use Rattle.header.specs.Sized.{ImageSized}
 
 pub allowed-sized : (g : Geometry) (img : Bytes) → Sized g → g .sectorBytes ≤ 4096 → lengthAllowed g (length img) ≡ true → ImageSized g img
 allowed-sized g img z k h =

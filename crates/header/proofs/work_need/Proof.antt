@@ -1,7 +1,7 @@
 use borrow.Author.Needs.{needs}
 use Rattle.format.specs.Rules.Length.{workNeed}
-use Rattle.tables.proofs.work_need.Statement.{statement}
-use Rattle.tables.proofs.work_need.Tie as tie
+use Rattle.header.proofs.work_need.Statement.{statement}
+use Rattle.header.proofs.work_need.Tie as tie
 
 pub work-need-spec : {M : Type 1} → statement M
 unfolding workNeed

@@ -1,9 +1,9 @@
 use borrow.Author.Needs.{needs}
 use mathlib.Core.Path.{refl}
 use Rattle.format.specs.Layout.Geometry.{sectorCount}
-use Rattle.tables.proofs.Places.{one-sector}
-use Rattle.tables.proofs.sector_count.Statement.{statement}
-use Rattle.tables.proofs.sector_count.Tie as tie
+use Rattle.header.proofs.Sectors.{one-sector}
+use Rattle.header.proofs.sector_count.Statement.{statement}
+use Rattle.header.proofs.sector_count.Tie as tie
 
 pub sector-count-spec : {M : Type 1} → statement M
 unfolding sectorCount

@@ -1,7 +1,7 @@
 use borrow.Author.Needs.{needs}
 use Rattle.format.specs.Rules.Length.{lengthAllowed, leastImage, greatestImage}
-use Rattle.tables.proofs.length_allowed.Statement.{statement}
-use Rattle.tables.proofs.length_allowed.Tie as tie
+use Rattle.header.proofs.length_allowed.Statement.{statement}
+use Rattle.header.proofs.length_allowed.Tie as tie
 
 pub length-allowed-spec : {M : Type 1} → statement M
 unfolding lengthAllowed leastImage greatestImage

@@ -1,9 +1,9 @@
 use borrow.Author.Needs.{needs}
 use Rattle.kinds.specs.Sizes.{geometryOf}
-use Rattle.tables.proofs.Header.{header-numbers}
+use Rattle.header.proofs.HeaderNumbers.{header-numbers}
 use native.Mathlib.Omega.{arith}
-use Rattle.tables.proofs.header_rules.Statement.{statement}
-use Rattle.tables.proofs.header_rules.Tie as tie
+use Rattle.header.proofs.header_rules.Statement.{statement}
+use Rattle.header.proofs.header_rules.Tie as tie
 
 pub header-rules-spec : {M : Type 1} → statement M
 header-rules-spec =

@@ -3,7 +3,7 @@ use Prim.Native.Nat.{ℕ, _+_, _*_, _/_, _%_, _≤_, _<_}
 use mathlib.Core.Path.{_≡_}
 use lib.ListN.{length}
 use Rattle.format.specs.Basics.Bytes.{Bytes, u32at}
-use Rattle.format.specs.Layout.Geometry.{Geometry, sectorCount, sectorPlace}
+use Rattle.format.specs.Layout.Geometry.{Geometry, sectorCount}
 
 pub record ImageSized (g : Geometry) (img : Bytes) : Type 0 where
   -- the sector size
@@ -23,7 +23,3 @@ F img = u32at img 44
 
 abbrev pub D : Bytes → ℕ
 D img = u32at img 72
-
--- the number that stands at index i of a sector of 32-bit numbers
-unfoldable pub wordIn : Geometry → Bytes → ℕ → ℕ → ℕ
-wordIn g img s i = u32at img (sectorPlace g s + 4 * i)
