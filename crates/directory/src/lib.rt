@@ -8,13 +8,14 @@ ghost use Rattle.kinds.specs.Ordering.{ordering};
 ghost use Rattle.directory.specs.Listed.{countOf, entriesOf, placeOf, Listed, Placed, NamedIn};
 use entries::child;
 use entries::colour;
-use entries::kind;
+use entries::entry_type;
 use entries::left;
 use entries::names::compare;
 use entries::names::compare_name;
 use entries::right;
 use entries::rules::entry_fields;
 use kinds::EntryId;
+use kinds::EntryType;
 use kinds::Geometry;
 use kinds::Order;
 use kinds::Sector;
@@ -52,12 +53,12 @@ pub fn place(work: &[u32], d: Directory, x: EntryId) -> usize
     Sector(work[list + i / per]).place(g) + 128 * (i % per)
 }
 
-pub fn kind_of(img: &[u8], work: &[u32], d: Directory, x: EntryId) -> u8
+pub fn type_of(img: &[u8], work: &[u32], d: Directory, x: EntryId) -> EntryType
     requires { ⌜ Listed d (now img) (now work) ⌝ }
     requires { ⌜ x .0 < entriesOf d (now img) .count ⌝ }
-    ensures { λ r. ⌜ r ≡ kindOf (entriesOf d (now (img .entry)) .entry (x .0)) ⌝ }
+    ensures { λ r. ⌜ r .0 ≡ kindOf (entriesOf d (now (img .entry)) .entry (x .0)) ⌝ }
 {
-    kind(img, place(work, d, x))
+    entry_type(img, place(work, d, x))
 }
 
 pub fn colour_of(img: &[u8], work: &[u32], d: Directory, x: EntryId) -> u8
@@ -98,8 +99,8 @@ pub fn object(img: &[u8], work: &[u32], d: Directory, x: EntryId) -> bool
     requires { ⌜ x .0 < entriesOf d (now img) .count ⌝ }
     ensures { λ r. ⌜ r ≡ isObject (entriesOf d (now (img .entry))) (x .0) ⌝ }
 {
-    let k = kind_of(img, work, d, x);
-    (k == 1) | (k == 2)
+    let t = type_of(img, work, d, x);
+    t.is_storage() | t.is_stream()
 }
 
 // ---- names
@@ -134,12 +135,12 @@ pub fn entry_rules(img: &[u8], work: &[u32], d: Directory) -> bool
     ensures { λ r. ⌜ r ≡ entryRules (entriesOf d (now (img .entry))) ⌝ }
 {
     let n = d.count();
-    let mut i = 0;
-    while i < n {
-        if !entry_fields(img, place(work, d, EntryId(i as u32)), i) {
+    let mut x = EntryId::ROOT;
+    while x.index() < n {
+        if !entry_fields(img, place(work, d, x), x) {
             return false;
         }
-        i += 1;
+        x = x.next();
     }
     true
 }

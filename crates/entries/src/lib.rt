@@ -6,6 +6,7 @@ ghost use Rattle.format.specs.Basics.Bytes.{byteAt, u16at, u32at, part, allZero
 ghost use Rattle.format.specs.Layout.Entry.{nameBytes, kind as kindOf, colour as colourOf, left as leftOf, right as rightOf, child as childOf, start as startOf, size as sizeOf};
 ghost use Rattle.entries.specs.Entry.{entryAt, Field};
 use kinds::EntryId;
+use kinds::EntryType;
 use le::all_zero;
 use le::u16_at;
 use le::u32_at;
@@ -46,11 +47,11 @@ fn zeros(img: &[u8], p: usize, o: usize, n: usize) -> bool
 
 // ---- fields
 
-pub fn kind(img: &[u8], p: usize) -> u8
+pub fn entry_type(img: &[u8], p: usize) -> EntryType
     requires { ⌜ p + 128 ≤ length (now img) ⌝ }
-    ensures { λ r. ⌜ r ≡ kindOf (entryAt (now (img .entry)) p) ⌝ }
+    ensures { λ r. ⌜ r .0 ≡ kindOf (entryAt (now (img .entry)) p) ⌝ }
 {
-    byte(img, p, 66)
+    EntryType(byte(img, p, 66))
 }
 
 pub fn colour(img: &[u8], p: usize) -> u8

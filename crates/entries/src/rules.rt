@@ -7,8 +7,8 @@ ghost use Rattle.format.specs.Rules.Entries.{blankFields, nameFields, streamFie
 ghost use Rattle.entries.specs.Entry.{entryAt, Field, unitLegal};
 use super::child;
 use super::colour;
+use super::entry_type;
 use super::half;
-use super::kind;
 use super::left;
 use super::name_bytes;
 use super::names::legal_unit;
@@ -16,6 +16,7 @@ use super::names::unit;
 use super::right;
 use super::start;
 use super::zeros;
+use kinds::EntryId;
 
 // Whether the first n units of the name are legal.
 fn legal_units(img: &[u8], p: usize, n: usize) -> bool
@@ -89,17 +90,17 @@ fn common_fields(img: &[u8], p: usize) -> bool
     (colour(img, p) <= 1) & zeros(img, p, 124, 4)
 }
 
-// Entry i, which stands at p.
-pub fn entry_fields(img: &[u8], p: usize, i: usize) -> bool
+// Entry x, which stands at p.
+pub fn entry_fields(img: &[u8], p: usize, x: EntryId) -> bool
     requires { ⌜ p + 128 ≤ length (now img) ⌝ }
-    ensures { λ r. ⌜ r ≡ entryFields i (entryAt (now (img .entry)) p) ⌝ }
+    ensures { λ r. ⌜ r ≡ entryFields (x .0) (entryAt (now (img .entry)) p) ⌝ }
 {
-    let k = kind(img, p);
-    if i == 0 {
-        return (k == 5) & root_fields(img, p) & common_fields(img, p);
+    let t = entry_type(img, p);
+    if x.is_root() {
+        return t.is_root() & root_fields(img, p) & common_fields(img, p);
     }
-    (((k == 0) & blank_fields(img, p))
-        | ((k == 1) & storage_fields(img, p))
-        | ((k == 2) & stream_fields(img, p)))
+    ((t.is_blank() & blank_fields(img, p))
+        | (t.is_storage() & storage_fields(img, p))
+        | (t.is_stream() & stream_fields(img, p)))
         & common_fields(img, p)
 }

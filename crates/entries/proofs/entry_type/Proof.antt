@@ -1,11 +1,11 @@
 use borrow.Author.Needs.{needs}
 use Rattle.format.specs.Layout.Entry.{kind}
-use Rattle.entries.proofs.kind.Statement.{statement}
-use Rattle.entries.proofs.kind.Tie as tie
+use Rattle.entries.proofs.entry_type.Statement.{statement}
+use Rattle.entries.proofs.entry_type.Tie as tie
 
-pub kind-spec : {M : Type 1} → statement M
+pub entry-type-spec : {M : Type 1} → statement M
 unfolding kind
-kind-spec =
+entry-type-spec =
     tie.close
     (tie.spec
     (λ c κs. search needs)  -- byte-requires
