@@ -37,7 +37,7 @@ pub record Placed (d : Where) (work : List ℕ) (x : ℕ) : Type 0 where
   pub room : d .list + d .sectors ≤ length work
   pub inside : x / entriesIn (geometryOf (d .geometry)) < d .sectors
 
-pub record Listed (d : Where) (img : Bytes) (work : List ℕ) : Type 0 where
+pub record DirectoryListed (d : Where) (img : Bytes) (work : List ℕ) : Type 0 where
   pub sized : ImageSized (geometryOf (d .geometry)) img
   pub count : d .sectors ≡ length (directorySectorsOf (geometryOf (d .geometry)) img)
   pub some : 0 < d .sectors

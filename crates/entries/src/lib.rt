@@ -3,7 +3,8 @@ ghost use mathlib.Core.Path.{_≡_};
 ghost use Prim.Native.Nat.{_+_, _≤_};
 ghost use lib.ListN.{length};
 ghost use Rattle.format.specs.Basics.Bytes.{byteAt, u16at, u32at, part, allZero};
-ghost use Rattle.format.specs.Layout.Entry.{nameBytes, kind as kindOf, colour as colourOf, left as leftOf, right as rightOf, child as childOf, start as startOf, size as sizeOf};
+ghost use Rattle.format.specs.Layout.Entry.{nameBytes, kind as kindOf, colour as colourOf, start as startOf, size as sizeOf};
+ghost use Rattle.format.specs.Layout.Entry.{left as leftOf, right as rightOf, child as childOf};
 ghost use Rattle.entries.specs.Entry.{entryAt, Field};
 use kinds::EntryId;
 use kinds::EntryType;
@@ -13,7 +14,6 @@ use le::u32_at;
 use le::u64_at;
 
 pub mod names;
-pub mod rules;
 
 // ---- bytes at offset o
 
@@ -24,7 +24,7 @@ fn byte(img: &[u8], p: usize, o: usize) -> u8
     img[p + o]
 }
 
-fn half(img: &[u8], p: usize, o: usize) -> u16
+pub fn half(img: &[u8], p: usize, o: usize) -> u16
     requires { ⌜ Field (now img) p o 2 ⌝ }
     ensures { λ r. ⌜ r ≡ u16at (entryAt (now (img .entry)) p) o ⌝ }
 {
@@ -38,7 +38,7 @@ fn word(img: &[u8], p: usize, o: usize) -> u32
     u32_at(img, p + o)
 }
 
-fn zeros(img: &[u8], p: usize, o: usize, n: usize) -> bool
+pub fn zeros(img: &[u8], p: usize, o: usize, n: usize) -> bool
     requires { ⌜ Field (now img) p o n ⌝ }
     ensures { λ r. ⌜ r ≡ allZero (part (entryAt (now (img .entry)) p) o n) ⌝ }
 {

@@ -22,7 +22,7 @@ use Rattle.frame.specs.Groups.{ImageGroups}
 use Rattle.kinds.specs.Sizes.{geometryOf}
 use Rattle.header.specs.Sized.{ImageSized, F, D}
 use Rattle.tables.specs.Listed.{Listed}
-use Rattle.directory.specs.Listed.{Listed as DirectoryListed}
+use Rattle.directory.specs.Listed.{DirectoryListed}
 use Rattle.directory.specs.declared.Directory.{Directory}
 use Rattle.minis.specs.Listed.{Listed as MiniListed}
 use Rattle.minis.specs.declared.Minis.{Minis}
