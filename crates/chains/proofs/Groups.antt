@@ -20,7 +20,7 @@ use Rattle.format.specs.Layout.Volume.{directorySectorsOf, volume}
 use Rattle.format.specs.Rules.Cells.{plainCell, tableMark, fatCellRight, spareCellFree, restFree, cellRules}
 use Rattle.format.specs.Rules.Directory.{someChain, directoryRules}
 use Rattle.theory.proofs.Marks.{chain-end, chain-step}
-use Rattle.tables.specs.Sized.{F}
+use Rattle.header.specs.Sized.{F}
 use Rattle.tables.specs.Listed.{Listed}
 use Rattle.tables.proofs.Places.{cells-short as short}
 use Rattle.chains.specs.Answers.{lengthAnswer}

@@ -1,10 +1,8 @@
 -- An entry of 128 bytes that stands at a byte place of an image.
 use Prim.Native.Nat.{ℕ, _+_, _≤_}
-use mathlib.Core.Bool.{Bool}
 use lib.ListN.{length}
 use Rattle.format.specs.Basics.Bytes.{Bytes, part}
-use Rattle.format.specs.Layout.Name.{legalUnit}
-use Rattle.format.specs.Layout.Entry.{nameBytes, nameUnit}
+use Rattle.format.specs.Layout.Entry.{nameBytes}
 
 abbrev pub entryAt : Bytes → ℕ → Bytes
 entryAt img p = part img p 128
@@ -22,7 +20,3 @@ pub record Named (e : Bytes) : Type 0 where
 pub record NamedAt (img : Bytes) (p : ℕ) : Type 0 where
   pub whole : p + 128 ≤ length img
   pub named : Named (entryAt img p)
-
--- the test of one unit of the name
-abbrev pub unitLegal : Bytes → ℕ → Bool
-unitLegal e i = legalUnit (nameUnit e i)

@@ -3,16 +3,17 @@ ghost use mathlib.Core.Path.{_≡_};
 ghost use Prim.Native.Nat.{_+_, _≤_};
 ghost use lib.ListN.{length};
 ghost use Rattle.format.specs.Basics.Bytes.{byteAt, u16at, u32at, part, allZero};
-ghost use Rattle.format.specs.Layout.Entry.{nameBytes, kind as kindOf, colour as colourOf, left as leftOf, right as rightOf, child as childOf, start as startOf, size as sizeOf};
+ghost use Rattle.format.specs.Layout.Entry.{nameBytes, kind as kindOf, colour as colourOf, start as startOf, size as sizeOf};
+ghost use Rattle.format.specs.Layout.Entry.{left as leftOf, right as rightOf, child as childOf};
 ghost use Rattle.entries.specs.Entry.{entryAt, Field};
 use kinds::EntryId;
+use kinds::EntryType;
 use le::all_zero;
 use le::u16_at;
 use le::u32_at;
 use le::u64_at;
 
 pub mod names;
-pub mod rules;
 
 // ---- bytes at offset o
 
@@ -23,7 +24,7 @@ fn byte(img: &[u8], p: usize, o: usize) -> u8
     img[p + o]
 }
 
-fn half(img: &[u8], p: usize, o: usize) -> u16
+pub fn half(img: &[u8], p: usize, o: usize) -> u16
     requires { ⌜ Field (now img) p o 2 ⌝ }
     ensures { λ r. ⌜ r ≡ u16at (entryAt (now (img .entry)) p) o ⌝ }
 {
@@ -37,7 +38,7 @@ fn word(img: &[u8], p: usize, o: usize) -> u32
     u32_at(img, p + o)
 }
 
-fn zeros(img: &[u8], p: usize, o: usize, n: usize) -> bool
+pub fn zeros(img: &[u8], p: usize, o: usize, n: usize) -> bool
     requires { ⌜ Field (now img) p o n ⌝ }
     ensures { λ r. ⌜ r ≡ allZero (part (entryAt (now (img .entry)) p) o n) ⌝ }
 {
@@ -46,11 +47,11 @@ fn zeros(img: &[u8], p: usize, o: usize, n: usize) -> bool
 
 // ---- fields
 
-pub fn kind(img: &[u8], p: usize) -> u8
+pub fn entry_type(img: &[u8], p: usize) -> EntryType
     requires { ⌜ p + 128 ≤ length (now img) ⌝ }
-    ensures { λ r. ⌜ r ≡ kindOf (entryAt (now (img .entry)) p) ⌝ }
+    ensures { λ r. ⌜ r .0 ≡ kindOf (entryAt (now (img .entry)) p) ⌝ }
 {
-    byte(img, p, 66)
+    EntryType(byte(img, p, 66))
 }
 
 pub fn colour(img: &[u8], p: usize) -> u8

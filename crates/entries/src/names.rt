@@ -1,4 +1,4 @@
-// The names of entries: their units, and their order.
+// The names of entries: their 16-bit units, and their order.
 ghost use mathlib.Core.Path.{_≡_};
 ghost use Prim.Native.Nat.{_+_, _*_, _≤_};
 ghost use lib.ListN.{length};
@@ -13,7 +13,7 @@ use kinds::Order;
 // ---- units
 
 // How many units the name has, without the zero unit that ends it.
-pub fn units(img: &[u8], p: usize) -> usize
+pub fn name_units(img: &[u8], p: usize) -> usize
     requires { ⌜ p + 128 ≤ length (now img) ⌝ }
     ensures { λ r. ⌜ r ≡ length (name (entryAt (now (img .entry)) p)) ⌝ }
 {
@@ -24,7 +24,7 @@ pub fn units(img: &[u8], p: usize) -> usize
     n / 2 - 1
 }
 
-pub fn unit(img: &[u8], p: usize, i: usize) -> u16
+pub fn name_unit(img: &[u8], p: usize, i: usize) -> u16
     requires { ⌜ Field (now img) p (2 * i) 2 ⌝ }
     ensures { λ r. ⌜ r ≡ nameUnit (entryAt (now (img .entry)) p) i ⌝ }
 {
@@ -58,8 +58,8 @@ pub fn compare(img: &[u8], p: usize, q: usize) -> Order
     requires { ⌜ NamedAt (now img) q ⌝ }
     ensures { λ r. ⌜ r ≡ ordering (name (entryAt (now (img .entry)) p)) (name (entryAt (now (img .entry)) q)) ⌝ }
 {
-    let n = units(img, p);
-    let m = units(img, q);
+    let n = name_units(img, p);
+    let m = name_units(img, q);
     if n < m {
         return Order::Less;
     }
@@ -68,8 +68,8 @@ pub fn compare(img: &[u8], p: usize, q: usize) -> Order
     }
     let mut i: usize = 0;
     while i < n {
-        let x = fold(unit(img, p, i));
-        let y = fold(unit(img, q, i));
+        let x = fold(name_unit(img, p, i));
+        let y = fold(name_unit(img, q, i));
         if x < y {
             return Order::Less;
         }
@@ -87,7 +87,7 @@ pub fn compare_name(want: &[u16], img: &[u8], q: usize) -> Order
     ensures { λ r. ⌜ r ≡ ordering (now (want .entry)) (name (entryAt (now (img .entry)) q)) ⌝ }
 {
     let n = want.len();
-    let k = units(img, q);
+    let k = name_units(img, q);
     if n < k {
         return Order::Less;
     }
@@ -97,7 +97,7 @@ pub fn compare_name(want: &[u16], img: &[u8], q: usize) -> Order
     let mut i: usize = 0;
     while i < n {
         let x = fold(want[i]);
-        let y = fold(unit(img, q, i));
+        let y = fold(name_unit(img, q, i));
         if x < y {
             return Order::Less;
         }

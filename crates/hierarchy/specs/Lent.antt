@@ -4,12 +4,12 @@ use mathlib.Core.List.{List}
 use lib.ListN.{length}
 use Rattle.format.specs.Basics.Bytes.{Bytes}
 use Rattle.theory.specs.TreeWalk.{WalkRoom}
-use Rattle.directory.specs.Listed.{countOf, entriesOf, Listed}
+use Rattle.directory.specs.Listed.{countOf, entriesOf, DirectoryListed}
 use Rattle.directory.specs.declared.Directory.{Directory as Where}
 
 -- room for the marks
 pub record Room (d : Where) (img : Bytes) (work : List ℕ) (base : ℕ) : Type 0 where
-  pub listed : Listed d img work
+  pub listed : DirectoryListed d img work
   pub apart : d .list + d .sectors ≤ base
   pub room : base + countOf d ≤ length work
 

@@ -47,6 +47,9 @@ impl Geometry {
     }
 }
 
+// Streams of fewer bytes lie in mini sectors, others in sectors.
+pub const CUTOFF: u64 = 4096;
+
 // ---- sectors
 
 pub struct Sector(pub u32);
@@ -59,6 +62,8 @@ impl Sector {
     pub const FATSECT: Sector = Sector(0xFFFF_FFFD);
 
     pub const DIFSECT: Sector = Sector(0xFFFF_FFFC);
+
+    pub const FIRST: Sector = Sector(0);
 
     pub fn is_free(self) -> bool
         ensures { λ r. ⌜ r ≡ eqb (self .0) FREE ⌝ }
@@ -98,6 +103,14 @@ impl Sector {
         (self.0 as usize) < n
     }
 
+    // The one after it.
+    pub fn next(self) -> Sector
+        requires { ⌜ self .0 < 0xFFFF_FFFF ⌝ }
+        ensures { λ r. ⌜ r .0 ≡ self .0 + 1 ⌝ }
+    {
+        Sector(self.0 + 1)
+    }
+
     // The byte where it starts.
     pub fn place(self, g: Geometry) -> usize
         requires { ⌜ g .bytes ≤ 4096 ⌝ }
@@ -115,6 +128,8 @@ impl MiniSector {
     pub const FREE: MiniSector = MiniSector(0xFFFF_FFFF);
 
     pub const END: MiniSector = MiniSector(0xFFFF_FFFE);
+
+    pub const FIRST: MiniSector = MiniSector(0);
 
     pub fn is_free(self) -> bool
         ensures { λ r. ⌜ r ≡ eqb (self .0) FREE ⌝ }
@@ -139,6 +154,14 @@ impl MiniSector {
     {
         (self.0 as usize) < n
     }
+
+    // The one after it.
+    pub fn next(self) -> MiniSector
+        requires { ⌜ self .0 < 0xFFFF_FFFF ⌝ }
+        ensures { λ r. ⌜ r .0 ≡ self .0 + 1 ⌝ }
+    {
+        MiniSector(self.0 + 1)
+    }
 }
 
 // ---- entries
@@ -157,6 +180,12 @@ impl EntryId {
         self.0 == EntryId::NOSTREAM.0
     }
 
+    pub fn is_root(self) -> bool
+        ensures { λ r. ⌜ r ≡ eqb (self .0) 0 ⌝ }
+    {
+        self.0 == EntryId::ROOT.0
+    }
+
     pub fn index(self) -> usize
         ensures { λ r. ⌜ r ≡ self .0 ⌝ }
     {
@@ -167,6 +196,51 @@ impl EntryId {
         ensures { λ r. ⌜ r ≡ ltb (self .0) n ⌝ }
     {
         (self.0 as usize) < n
+    }
+
+    // The one after it.
+    pub fn next(self) -> EntryId
+        requires { ⌜ self .0 < 0xFFFF_FFFF ⌝ }
+        ensures { λ r. ⌜ r .0 ≡ self .0 + 1 ⌝ }
+    {
+        EntryId(self.0 + 1)
+    }
+}
+
+// The type of an entry.
+pub struct EntryType(pub u8);
+
+impl EntryType {
+    pub const BLANK: EntryType = EntryType(0);
+
+    pub const STORAGE: EntryType = EntryType(1);
+
+    pub const STREAM: EntryType = EntryType(2);
+
+    pub const ROOT: EntryType = EntryType(5);
+
+    pub fn is_blank(self) -> bool
+        ensures { λ r. ⌜ r ≡ eqb (self .0) 0 ⌝ }
+    {
+        self.0 == EntryType::BLANK.0
+    }
+
+    pub fn is_storage(self) -> bool
+        ensures { λ r. ⌜ r ≡ eqb (self .0) 1 ⌝ }
+    {
+        self.0 == EntryType::STORAGE.0
+    }
+
+    pub fn is_stream(self) -> bool
+        ensures { λ r. ⌜ r ≡ eqb (self .0) 2 ⌝ }
+    {
+        self.0 == EntryType::STREAM.0
+    }
+
+    pub fn is_root(self) -> bool
+        ensures { λ r. ⌜ r ≡ eqb (self .0) 5 ⌝ }
+    {
+        self.0 == EntryType::ROOT.0
     }
 }
 

@@ -17,7 +17,7 @@ use Rattle.theory.proofs.Trees.Grow.{grow-none}
 use Rattle.theory.proofs.Trees.Stand.{stand, standing}
 use Rattle.tables.specs.Work.{Wrote}
 use Rattle.tables.proofs.WorkLaws.{wrote-none, wrote-set, wrote-two}
-use Rattle.directory.specs.Listed.{countOf, entriesOf, Listed}
+use Rattle.directory.specs.Listed.{countOf, entriesOf, DirectoryListed}
 use Rattle.directory.specs.declared.Directory.{Directory as Where}
 use Rattle.directory.proofs.Places.{directory-kept}
 use Rattle.listing.specs.Walks.{pairs, spine}
@@ -54,7 +54,7 @@ pairs-push w n x p h =
 
 -- the descent from x is at y
 pub record Pushing (d : Where) (img : Bytes) (x p : ℕ) (w₀ : List ℕ) (n₀ y : ℕ) (w : List ℕ) (n : ℕ) : Type 0 where
-  pub listed : Listed d img w
+  pub listed : DirectoryListed d img w
   pub apart : 2 * countOf d ≤ d .list
   pub tree-sound : soundAt (entriesOf d img) y ≡ true
   pub same : spine p (at (entriesOf d img) y) ++ pairs w n ≡ spine p (at (entriesOf d img) x) ++ pairs w₀ n₀

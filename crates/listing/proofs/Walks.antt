@@ -17,7 +17,7 @@ use Rattle.theory.proofs.Trees.Nodes.{shape-sound, entries-few}
 use Rattle.tables.specs.Work.{Wrote}
 use Rattle.tables.proofs.WorkLaws.{wrote-none, wrote-two}
 use Rattle.entries.specs.Entry.{entryAt, NamedAt}
-use Rattle.directory.specs.Listed.{countOf, entriesOf, placeOf, Listed}
+use Rattle.directory.specs.Listed.{countOf, entriesOf, placeOf, DirectoryListed}
 use Rattle.directory.specs.declared.Directory.{Directory as Where}
 use Rattle.directory.proofs.Places.{directory-kept, count-is, entry-is}
 use Rattle.listing.specs.Lines.{lineLength}
@@ -29,7 +29,7 @@ use Rattle.listing.proofs.Walked.{Walked, pathOf, countCome, walk-start
 
 -- what both walks are lent
 pub record Lent (d : Where) (img : Bytes) (w : List ℕ) : Type 0 where
-  pub listed : Listed d img w
+  pub listed : DirectoryListed d img w
   pub rules : entryRules (entriesOf d img) ≡ true
   pub trees : treeRules (entriesOf d img) ≡ true
   pub apart : 2 * countOf d ≤ d .list

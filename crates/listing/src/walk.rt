@@ -15,7 +15,7 @@ ghost use Rattle.format.specs.Calls.Listing.{firstLine, listing};
 ghost use Rattle.theory.specs.TreeViews.{at, soundAt};
 ghost use Rattle.tables.specs.Work.{Wrote};
 ghost use Rattle.entries.specs.Entry.{entryAt, NamedAt};
-ghost use Rattle.directory.specs.Listed.{countOf, entriesOf, Listed};
+ghost use Rattle.directory.specs.Listed.{countOf, entriesOf, DirectoryListed};
 ghost use Rattle.listing.specs.Lines.{beforeLength, firstWord};
 ghost use Rattle.listing.specs.Walks.{pairs, spine, turned, Turning, measured};
 use super::line_length;
@@ -34,7 +34,7 @@ use text::put_decimal;
 
 // Puts the left spine of the tree that x names on the stack of n pairs, and returns the stack's new height.
 fn push(img: &[u8], work: &mut [u32], d: Directory, n: usize, x: EntryId, parent: u32) -> usize
-    requires { ⌜ Listed d (now img) (now work) ⌝ }
+    requires { ⌜ DirectoryListed d (now img) (now work) ⌝ }
     requires { ⌜ 2 * countOf d ≤ d .list ⌝ }
     requires { ⌜ soundAt (entriesOf d (now img)) (x .0) ≡ true ⌝ }
     requires { ⌜ n + length (entries (at (entriesOf d (now img)) (x .0))) ≤ countOf d ⌝ }
@@ -67,7 +67,7 @@ fn path_length(img: &[u8], p: usize, parent: u32) -> u32
 
 // Takes the entry of pair k off, puts its right side on the stack and then the tree below it, and returns the stack's new height.
 fn turn(img: &[u8], work: &mut [u32], d: Directory, k: usize) -> usize
-    requires { ⌜ Listed d (now img) (now work) ⌝ }
+    requires { ⌜ DirectoryListed d (now img) (now work) ⌝ }
     requires { ⌜ 2 * countOf d ≤ d .list ⌝ }
     requires { ⌜ entryRules (entriesOf d (now img)) ≡ true ⌝ }
     requires { ⌜ Turning (entriesOf d (now img)) (countOf d) k (getD (now work) (2 * k) 0) (getD (now work) (2 * k + 1) 0) ⌝ }
@@ -113,7 +113,7 @@ fn with_first(objects: usize, bytes: usize, most: usize) -> Measured
 
 // Adds up the listing's length, as long as it is no more than `most`.
 pub fn measure(img: &[u8], work: &mut [u32], d: Directory, most: usize) -> Measured
-    requires { ⌜ Listed d (now img) (now work) ⌝ }
+    requires { ⌜ DirectoryListed d (now img) (now work) ⌝ }
     requires { ⌜ entryRules (entriesOf d (now img)) ≡ true ⌝ }
     requires { ⌜ treeRules (entriesOf d (now img)) ≡ true ⌝ }
     requires { ⌜ 2 * countOf d ≤ d .list ⌝ }
@@ -170,7 +170,7 @@ fn put_first(out: &mut [u8], objects: usize) -> usize
 
 // Writes the listing, which the out buffer has room for. A line's parent path is copied from the line before, whose path begins with it.
 pub fn write(img: &[u8], work: &mut [u32], d: Directory, objects: usize, out: &mut [u8])
-    requires { ⌜ Listed d (now img) (now work) ⌝ }
+    requires { ⌜ DirectoryListed d (now img) (now work) ⌝ }
     requires { ⌜ entryRules (entriesOf d (now img)) ≡ true ⌝ }
     requires { ⌜ treeRules (entriesOf d (now img)) ≡ true ⌝ }
     requires { ⌜ 2 * countOf d ≤ d .list ⌝ }

@@ -13,7 +13,7 @@ use Rattle.format.specs.Layout.Tables.{cellIn, cellPlaceIn}
 use Rattle.format.specs.Layout.Volume.{miniCells, miniSpace}
 use Rattle.kinds.specs.Sizes.{geometryOf}
 use Rattle.theory.proofs.Scale.{scale-div, scale-mod, scale-below}
-use Rattle.tables.specs.Sized.{wordIn}
+use Rattle.tables.specs.Words.{wordIn}
 use Rattle.tables.specs.Work.{Wrote}
 use Rattle.tables.proofs.Places.{cells-some, cells-bytes, cells-short as short}
 use Rattle.tables.proofs.WorkLaws.{wrote-none, wrote-set}

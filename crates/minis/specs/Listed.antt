@@ -11,7 +11,7 @@ use Rattle.format.specs.Layout.Header.{miniFatCount, miniFatStart}
 use Rattle.format.specs.Layout.Tables.{fatCell}
 use Rattle.format.specs.Layout.Volume.{miniFatSectors, miniSpace}
 use Rattle.kinds.specs.Sizes.{geometryOf}
-use Rattle.tables.specs.Sized.{ImageSized}
+use Rattle.header.specs.Sized.{ImageSized}
 use Rattle.tables.specs.declared.Tables.{Tables}
 use Rattle.minis.specs.declared.Minis.{Minis}
 

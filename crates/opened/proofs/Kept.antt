@@ -20,9 +20,9 @@ use Rattle.theory.proofs.Tests.{both}
 use Rattle.frame.specs.Edits.{Preserved}
 use Rattle.frame.specs.Groups.{ImageGroups}
 use Rattle.kinds.specs.Sizes.{geometryOf}
-use Rattle.tables.specs.Sized.{ImageSized, F, D}
+use Rattle.header.specs.Sized.{ImageSized, F, D}
 use Rattle.tables.specs.Listed.{Listed}
-use Rattle.directory.specs.Listed.{Listed as DirectoryListed}
+use Rattle.directory.specs.Listed.{DirectoryListed}
 use Rattle.directory.specs.declared.Directory.{Directory}
 use Rattle.minis.specs.Listed.{Listed as MiniListed}
 use Rattle.minis.specs.declared.Minis.{Minis}

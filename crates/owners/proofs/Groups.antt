@@ -24,7 +24,7 @@ use Rattle.theory.specs.Marks.{Owning, covered}
 use Rattle.theory.proofs.Counts.{count-append}
 use Rattle.theory.proofs.OwnerMarks.{owners-by-marks}
 use Rattle.theory.proofs.Tests.{leb-not, below-ext, below-both}
-use Rattle.tables.specs.Sized.{ImageSized}
+use Rattle.header.specs.Sized.{ImageSized}
 use Rattle.directory.proofs.Room.{table-once, unmarked}
 use Rattle.owners.specs.Streams.{largeRight, smallRight, systemChains}
 

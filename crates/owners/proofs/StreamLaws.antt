@@ -24,13 +24,13 @@ use Rattle.chains.specs.declared.Marked.{Marked}
 use Rattle.chains.specs.declared.Marked.the-variants.{Fresh}
 use Rattle.chains.proofs.Owners.{marked-chain, marked-none}
 use Rattle.entries.specs.Entry.{entryAt}
-use Rattle.directory.specs.Listed.{entriesOf, placeOf, Listed}
+use Rattle.directory.specs.Listed.{entriesOf, placeOf, DirectoryListed}
 use Rattle.directory.specs.declared.Directory.{Directory as Where}
 use Rattle.directory.proofs.Places.{entry-is}
 use Rattle.owners.specs.Streams.{isLarge, isSmall, largeRight, smallRight}
 
 -- the entry that stands at its place
-pub entry-read : {d : Where} {img : Bytes} {work : List ℕ} (g : Sizes) (x p : ℕ) → Listed d img work → d .geometry ≡ g → x < entriesOf d img .count → p ≡ placeOf d work x
+pub entry-read : {d : Where} {img : Bytes} {work : List ℕ} (g : Sizes) (x p : ℕ) → DirectoryListed d img work → d .geometry ≡ g → x < entriesOf d img .count → p ≡ placeOf d work x
     → entryAt img p ≡ volume (geometryOf g) img .directory .entry x
 unfolding volume
 entry-read {img = img} g x p l e h q = ap (entryAt img) q ∙ sym (entry-is l x h) ∙ ap (λ k. directory (geometryOf k) img .entry x) e

@@ -13,7 +13,7 @@ ghost use Rattle.theory.specs.Marks.{marks, Closed, covered};
 ghost use Rattle.kinds.specs.Sizes.{geometryOf};
 ghost use Rattle.tables.specs.Listed.{Listed as FatListed};
 ghost use Rattle.chains.specs.Answers.{ChainsMarked};
-ghost use Rattle.directory.specs.Listed.{entriesOf, Listed as DirectoryListed};
+ghost use Rattle.directory.specs.Listed.{entriesOf, DirectoryListed};
 ghost use Rattle.minis.specs.Listed.{Listed as MiniListed};
 ghost use Rattle.owners.specs.Streams.{largeRight, smallRight};
 use chains::Marked;

@@ -12,7 +12,7 @@ ghost use Rattle.theory.specs.Marks.{marks, Owning};
 ghost use Rattle.kinds.specs.Sizes.{geometryOf};
 ghost use Rattle.tables.specs.Work.{Wrote};
 ghost use Rattle.tables.specs.Listed.{Listed as FatListed};
-ghost use Rattle.directory.specs.Listed.{Listed as DirectoryListed};
+ghost use Rattle.directory.specs.Listed.{DirectoryListed};
 ghost use Rattle.minis.specs.Listed.{Listed as MiniListed};
 ghost use Rattle.owners.specs.Streams.{largeRight, smallRight, systemChains, ownersAnswer, isBroken, isRight};
 use super::mark_large_streams;

@@ -9,7 +9,7 @@ ghost use Rattle.format.specs.Rules.Trees.{treeRules};
 ghost use Rattle.format.specs.Calls.Paths.{wellFormed};
 ghost use Rattle.format.specs.Calls.Find.{enter as enterOf, resolve};
 ghost use Rattle.theory.specs.TreeFind.{reached};
-ghost use Rattle.directory.specs.Listed.{entriesOf, Listed};
+ghost use Rattle.directory.specs.Listed.{entriesOf, DirectoryListed};
 ghost use Rattle.paths.specs.Found.{firstName, foundOf, Inside};
 use directory::Directory;
 use directory::child_of;
@@ -80,7 +80,7 @@ pub enum Found {
 
 // One name further from entry x: the first of the rest of a path.
 fn enter(rest: &[u16], img: &[u8], work: &[u32], d: Directory, x: EntryId) -> Found
-    requires { ⌜ Listed d (now img) (now work) ⌝ }
+    requires { ⌜ DirectoryListed d (now img) (now work) ⌝ }
     requires { ⌜ entryRules (entriesOf d (now img)) ≡ true ⌝ }
     requires { ⌜ treeRules (entriesOf d (now img)) ≡ true ⌝ }
     requires { ⌜ x .0 < entriesOf d (now img) .count ⌝ }
@@ -98,7 +98,7 @@ fn enter(rest: &[u16], img: &[u8], work: &[u32], d: Directory, x: EntryId) -> Fo
 
 // The entry that a path leads to, or the refusal: a name at a time, the rest of the path handed on from behind the slash.
 pub fn find_entry(path: &[u16], img: &[u8], work: &[u32], d: Directory) -> Found
-    requires { ⌜ Listed d (now img) (now work) ⌝ }
+    requires { ⌜ DirectoryListed d (now img) (now work) ⌝ }
     requires { ⌜ entryRules (entriesOf d (now img)) ≡ true ⌝ }
     requires { ⌜ treeRules (entriesOf d (now img)) ≡ true ⌝ }
     ensures { λ r. ⌜ foundOf (entriesOf d (now (img .entry))) r ≡ resolve (entriesOf d (now (img .entry))) (now (path .entry)) ⌝ }

@@ -22,7 +22,7 @@ use Rattle.kinds.specs.Sizes.{geometryOf}
 use Rattle.kinds.specs.Numbers.{numberOf}
 use Rattle.kinds.specs.declared.Answer.{Answer}
 use Rattle.kinds.specs.declared.EntryId.{EntryId}
-use Rattle.directory.specs.Listed.{entriesOf, Listed}
+use Rattle.directory.specs.Listed.{entriesOf, DirectoryListed}
 use Rattle.paths.specs.Found.{foundOf, Inside}
 use Rattle.paths.specs.declared.Found.{Found as Way}
 use Rattle.paths.specs.declared.Found.the-variants.{At, Refused as Stopped}
@@ -58,7 +58,7 @@ module _ {v : Opened} {img : Bytes} {w : List ℕ} (o : Open v img w) where
   g = geometryOf (v .tables .geometry)
 
   -- what the way down a path asks
-  pub find-asks : Listed (v .directory) img w × ((entryRules (entriesOf (v .directory) img) ≡ true) × (treeRules (entriesOf (v .directory) img) ≡ true))
+  pub find-asks : DirectoryListed (v .directory) img w × ((entryRules (entriesOf (v .directory) img) ≡ true) × (treeRules (entriesOf (v .directory) img) ≡ true))
   unfolding volume
   find-asks =
       let e = sym (same-entries o) in

@@ -4,7 +4,7 @@ ghost use Prim.Native.Nat.{_<_};
 ghost use Rattle.format.specs.Layout.Entry.{kind as kindOf, size as sizeOf};
 ghost use Rattle.format.specs.Layout.Volume.{volume as volumeOf};
 ghost use Rattle.kinds.specs.Sizes.{geometryOf};
-ghost use Rattle.directory.specs.Listed.{entriesOf, Listed};
+ghost use Rattle.directory.specs.Listed.{entriesOf, DirectoryListed};
 ghost use Rattle.queries.specs.Replies.{refusalOf};
 ghost use Rattle.queries.specs.Inside.{Open, FindRight};
 use directory::Directory;
@@ -31,7 +31,7 @@ pub enum Find {
 
 // The entry of a number.
 fn object_at(img: &[u8], work: &[u32], d: Directory, x: EntryId) -> Object
-    requires { ⌜ Listed d (now img) (now work) ⌝ }
+    requires { ⌜ DirectoryListed d (now img) (now work) ⌝ }
     requires { ⌜ x .0 < entriesOf d (now img) .count ⌝ }
     ensures { λ r. ⌜ r ≡ record { id = x; kind = kindOf (entriesOf d (now (img .entry)) .entry (x .0)); size = sizeOf (entriesOf d (now (img .entry)) .entry (x .0)) } ⌝ }
 {

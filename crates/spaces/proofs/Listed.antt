@@ -14,7 +14,7 @@ use Rattle.theory.proofs.Below.{getD-below}
 use Rattle.frame.proofs.Places.{thing-fits, thing-index}
 use Rattle.frame.proofs.Blocks.{Units}
 use Rattle.kinds.specs.Sizes.{geometryOf}
-use Rattle.tables.specs.Sized.{ImageSized, F}
+use Rattle.header.specs.Sized.{ImageSized, F}
 use Rattle.tables.proofs.Places.{sector-inside, cells-bytes}
 use Rattle.volume.specs.Opened.{Readied}
 use Rattle.volume.specs.declared.Volume.{Volume as Opened}

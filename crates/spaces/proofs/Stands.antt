@@ -23,7 +23,7 @@ use Rattle.frame.proofs.Places.{thing-index}
 use Rattle.frame.proofs.Things.{thing-far, thing-room}
 use Rattle.frame.proofs.Blocks.{Units}
 use Rattle.kinds.specs.Sizes.{geometryOf}
-use Rattle.tables.specs.Sized.{ImageSized, F}
+use Rattle.header.specs.Sized.{ImageSized, F}
 use Rattle.tables.proofs.Places.{sector-inside}
 use Rattle.minis.proofs.ListLaws.{cells-cover}
 use Rattle.volume.specs.Opened.{Readied}

@@ -16,7 +16,7 @@ use Rattle.format.specs.Layout.Tables.{difatSector, difatEntry, fatCells}
 use Rattle.format.specs.Rules.Tables.{difatNeed, tableCounts, difatEnds, difatRest, tableSectors, tableMarks, tableRules}
 use Rattle.format.specs.Calls.Buffers.{workCleared}
 use Rattle.theory.proofs.Tests.{clash, both, below-at}
-use Rattle.tables.specs.Sized.{ImageSized, F, D}
+use Rattle.header.specs.Sized.{ImageSized, F, D}
 use Rattle.tables.specs.Work.{Wrote, Holds, WorkClear}
 use Rattle.tables.specs.Listed.{Listed, listPlace}
 use Rattle.tables.specs.Stages.{Counted, difatBelow, DifatArgs, DifatListed, Difats, ListArgs, ListMarked, ListLeft, StageArgs, Built, ListsLeft, MarksLeft, TablesLeft}

@@ -1,5 +1,5 @@
 -- What the functions on tables require and leave.
-pub mod Sized
+pub mod Words
 pub mod Work
 pub mod Listed
 pub mod Stages

@@ -8,7 +8,7 @@ use Rattle.format.specs.Layout.Geometry.{Geometry, sectorCount, cellsIn}
 use Rattle.format.specs.Layout.Tables.{difatEntry}
 use Rattle.kinds.specs.declared.Geometry.{Geometry as Sizes}
 use Rattle.kinds.specs.Sizes.{geometryOf}
-use Rattle.tables.specs.Sized.{ImageSized, F, D}
+use Rattle.header.specs.Sized.{ImageSized, F, D}
 use Rattle.tables.specs.declared.Tables.{Tables}
 
 -- n is N; the list starts at a place behind the marks of the sectors

@@ -11,7 +11,7 @@ use Rattle.format.specs.Basics.Bytes.{Bytes}
 use Rattle.format.specs.Layout.Geometry.{Geometry, sectorCount, cellsIn}
 use Rattle.format.specs.Layout.Tables.{difatEntry, difatSector, fatSectors, difatSectors}
 use Rattle.format.specs.Rules.Tables.{difatNeed, difatEnds, difatRest, tableSectors, tableMarks}
-use Rattle.tables.specs.Sized.{ImageSized, F, D}
+use Rattle.header.specs.Sized.{ImageSized, F, D}
 use Rattle.tables.specs.Work.{Wrote, Holds, WorkClear}
 use Rattle.tables.specs.Listed.{Listed, listPlace}
 

@@ -5,17 +5,21 @@ ghost use Rattle.format.specs.Layout.Geometry.{difatIn, headerDifat};
 ghost use Rattle.format.specs.Layout.Tables.{difatEntry};
 ghost use Rattle.format.specs.Rules.Tables.{difatNeed, tableCounts, difatRest, tableMarks, tableRules};
 ghost use Rattle.kinds.specs.Sizes.{geometryOf};
-ghost use Rattle.tables.specs.Sized.{ImageSized, F, D};
+ghost use Rattle.header.specs.Sized.{ImageSized, F, D};
 ghost use Rattle.tables.specs.Work.{Wrote, Holds, WorkClear};
 ghost use Rattle.tables.specs.Listed.{Listed};
 ghost use Rattle.tables.specs.Stages.{DifatArgs, DifatListed, Difats, ListArgs, ListLeft, TableMarked, TablesLeft, StageArgs, Built, ListsLeft, MarksLeft};
 use super::Tables;
 use super::cell_at;
-use super::sector_count;
 use super::word_in;
+use header::difat_count;
+use header::difat_in_header;
+use header::difat_start;
+use header::fat_count;
+use header::sector_count;
+use header::work_need;
 use kinds::Geometry;
 use kinds::Sector;
-use le::u32_at;
 use le::zero_first;
 
 // ---- counts
@@ -24,8 +28,8 @@ pub fn table_counts(img: &[u8], g: Geometry) -> bool
     requires { ⌜ ImageSized (geometryOf g) (now img) ⌝ }
     ensures { λ r. ⌜ r ≡ tableCounts (geometryOf g) (now (img .entry)) ⌝ }
 {
-    let f = u32_at(img, 44) as usize;
-    let d = u32_at(img, 72) as usize;
+    let f = fat_count(img) as usize;
+    let d = difat_count(img) as usize;
     let n = sector_count(img, g);
     (1 <= f) & (n <= g.cells() * f) & (d == difat_need(g, f))
 }
@@ -51,14 +55,14 @@ pub fn list_difats(img: &[u8], work: &mut [u32], g: Geometry, n: usize, at: usiz
     ensures { λ r. ⌜ DifatListed (geometryOf g) (now (img .entry)) (now (work .entry)) (now (work .exit)) at r ⌝ }
 {
     let link = g.difat();
-    let mut s = Sector(u32_at(img, 68));
+    let mut s = difat_start(img);
     let mut j = 0;
     while j < d {
         if !s.below(n) {
             return false;
         }
         work[at + j] = s.0;
-        s = word_in(img, g, s, link);
+        s = Sector(word_in(img, g, s, link));
         j += 1;
     }
     s.is_end()
@@ -71,10 +75,10 @@ pub fn difat_entry(img: &[u8], work: &[u32], g: Geometry, at: usize, i: usize) -
     ensures { λ r. ⌜ r .0 ≡ difatEntry (geometryOf g) (now (img .entry)) i ⌝ }
 {
     if i < 109 {
-        return Sector(u32_at(img, 76 + 4 * i));
+        return difat_in_header(img, g, i);
     }
     let per = g.difat();
-    word_in(img, g, Sector(work[at + (i - 109) / per]), (i - 109) % per)
+    Sector(word_in(img, g, Sector(work[at + (i - 109) / per]), (i - 109) % per))
 }
 
 // Lists the f FAT sectors, in front of the DIFAT sectors.
@@ -216,16 +220,17 @@ pub fn table_rules(img: &[u8], work: &mut [u32], g: Geometry) -> bool
     ensures { λ r. ⌜ r ≡ tableRules (geometryOf g) (now (img .entry)) ⌝ }
     ensures { λ r. ⌜ TablesLeft (geometryOf g) (now (img .entry)) (now (work .entry)) (now (work .exit)) r ⌝ }
 {
+    let need = work_need(img.len());
     let n = sector_count(img, g);
-    let f = u32_at(img, 44) as usize;
-    let d = u32_at(img, 72) as usize;
+    let f = fat_count(img) as usize;
+    let d = difat_count(img) as usize;
     if !table_counts(img, g) {
         return false;
     }
     if n < f + d {
         return false;
     }
-    let list = 13 * (img.len() / 512) - (f + d);
+    let list = need - (f + d);
     if !list_tables(img, work, g, n, f, d, list) {
         return false;
     }

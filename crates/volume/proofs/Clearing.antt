@@ -17,7 +17,7 @@ use Rattle.tables.specs.Work.{Wrote}
 use Rattle.tables.specs.Listed.{Listed, listPlace, tablesOf}
 use Rattle.tables.specs.declared.Tables.{Tables}
 use Rattle.tables.proofs.WorkLaws.{wrote-cleared, wrote-two, wrote-wider, listed-kept}
-use Rattle.directory.specs.Listed.{Listed as DirectoryListed, directoryAt}
+use Rattle.directory.specs.Listed.{DirectoryListed, directoryAt}
 use Rattle.directory.specs.declared.Directory.{Directory}
 use Rattle.directory.proofs.Room.{tables-apart}
 use Rattle.owners.proofs.Judged.{owning-cleared}

@@ -22,7 +22,7 @@ use Rattle.format.specs.Rules.Mini.{miniFatChain, miniStreamChain, miniCellRigh
 use Rattle.theory.proofs.Tests.{both}
 use Rattle.theory.proofs.Chains.{chain-short}
 use Rattle.theory.proofs.RoundUp.{round-enough}
-use Rattle.tables.specs.Sized.{ImageSized}
+use Rattle.header.specs.Sized.{ImageSized}
 use Rattle.tables.proofs.Places.{cells-short}
 use Rattle.minis.specs.Listed.{MiniCounts}
 use Rattle.volume.specs.Passed.{miniCellRules}

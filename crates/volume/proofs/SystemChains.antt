@@ -19,21 +19,21 @@ use Rattle.format.specs.Layout.Volume.{volume, root, directory, directorySector
 use Rattle.format.specs.Rules.Directory.{directoryRules}
 use Rattle.format.specs.Rules.Mini.{miniFatChain, miniStreamChain}
 use Rattle.theory.specs.Marks.{marks}
-use Rattle.tables.specs.Sized.{ImageSized}
+use Rattle.header.specs.Sized.{ImageSized}
 use Rattle.chains.specs.Answers.{markAnswer, Remarked, ChainsMarked}
 use Rattle.chains.specs.declared.Marked.{Marked}
 use Rattle.chains.proofs.Owners.{marked-chain}
 use Rattle.kinds.specs.declared.Geometry.{Geometry as Sizes}
 use Rattle.kinds.specs.Sizes.{geometryOf}
 use Rattle.entries.specs.Entry.{entryAt}
-use Rattle.directory.specs.Listed.{placeOf, Listed}
+use Rattle.directory.specs.Listed.{placeOf, DirectoryListed}
 use Rattle.directory.specs.declared.Directory.{Directory as Where}
 use Rattle.directory.proofs.Places.{root-inside}
 use Rattle.owners.proofs.StreamLaws.{entry-read}
 use Rattle.directory.proofs.Sectors.{directory-chain, directory-units}
 
 -- the entry at the root's place
-pub root-read : {d : Where} {img : Bytes} {w : List ℕ} (s : Sizes) (p : ℕ) → Listed d img w → d .geometry ≡ s → p ≡ placeOf d w 0 → entryAt img p ≡ directory (geometryOf s) img .entry 0
+pub root-read : {d : Where} {img : Bytes} {w : List ℕ} (s : Sizes) (p : ℕ) → DirectoryListed d img w → d .geometry ≡ s → p ≡ placeOf d w 0 → entryAt img p ≡ directory (geometryOf s) img .entry 0
 unfolding volume
 root-read s p l e q = entry-read s 0 p l e (root-inside l) q
 

@@ -17,7 +17,7 @@ use Rattle.tables.specs.Listed.{Listed, listPlace}
 use Rattle.tables.proofs.WorkLaws.{cleared, wrote-cleared, wrote-two, listed-kept}
 use Rattle.tables.specs.declared.Tables.{Tables}
 use Rattle.directory.specs.declared.Directory.{Directory as Where}
-use Rattle.directory.specs.Listed.{entriesOf, directoryAt, Listed as DirectoryListed}
+use Rattle.directory.specs.Listed.{entriesOf, directoryAt, DirectoryListed}
 use Rattle.directory.proofs.Places.{count-is}
 use Rattle.directory.proofs.Room.{walk-room}
 use Rattle.hierarchy.specs.Lent.{Lent}

@@ -21,7 +21,7 @@ use Rattle.kinds.specs.Sizes.{geometryOf}
 use Rattle.tables.specs.Work.{Wrote}
 use Rattle.tables.specs.Listed.{Listed, listPlace}
 use Rattle.tables.specs.declared.Tables.{Tables}
-use Rattle.directory.specs.Listed.{Listed as DirectoryListed}
+use Rattle.directory.specs.Listed.{DirectoryListed}
 use Rattle.directory.specs.declared.Directory.{Directory}
 use Rattle.minis.specs.Listed.{Listed as MiniListed, minisAt}
 use Rattle.minis.specs.declared.Minis.{Minis}

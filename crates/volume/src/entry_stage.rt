@@ -8,15 +8,15 @@ ghost use Rattle.kinds.specs.Sizes.{geometryOf};
 ghost use Rattle.tables.specs.Work.{Wrote};
 ghost use Rattle.tables.specs.Listed.{Listed as FatListed, listPlace, tablesOf};
 ghost use Rattle.theory.specs.TreeWalk.{WalkRoom};
-ghost use Rattle.directory.specs.Listed.{entriesOf, directoryAt, Listed};
+ghost use Rattle.directory.specs.Listed.{entriesOf, directoryAt, DirectoryListed};
 ghost use Rattle.volume.specs.Groups.{entryGroups};
 ghost use Rattle.volume.specs.Passed.{TablesHold};
 ghost use Rattle.volume.specs.Opened.{StageLeft};
 use super::Opened;
 use super::mini_stage::mini_groups;
 use directory::Directory;
-use directory::entry_rules;
 use directory::listed::list_directory;
+use entry_rules::entry_rules;
 use hierarchy::tree_rules;
 use kinds::Answer;
 use kinds::Geometry;
@@ -27,7 +27,7 @@ use tables::tables_of;
 fn open_directory(img: &[u8], work: &mut [u32], g: Geometry, n: usize) -> Directory
     requires { ⌜ TablesHold (geometryOf g) (now img) (now work) n ⌝ }
     ensures { λ r. ⌜ r ≡ directoryAt (tablesOf g (now (img .entry))) n 0 ⌝ }
-    ensures { λ r. ⌜ Listed r (now (img .entry)) (now (work .exit)) ⌝ }
+    ensures { λ r. ⌜ DirectoryListed r (now (img .entry)) (now (work .exit)) ⌝ }
     ensures { λ r. ⌜ WalkRoom (entriesOf r (now (img .entry))) n (now (work .exit)) ⌝ }
     ensures { λ _. ⌜ FatListed (geometryOf g) (now (img .entry)) (now (work .exit)) (sectorCount (geometryOf g) (now (img .entry))) (listPlace (now (img .entry))) ⌝ }
     ensures { λ _. ⌜ Wrote (now (work .entry)) (now (work .exit)) 0 (workNeed (length (now (img .entry)))) ⌝ }

@@ -12,7 +12,7 @@ ghost use Rattle.theory.specs.Marks.{marks, Closed};
 ghost use Rattle.kinds.specs.Sizes.{geometryOf};
 ghost use Rattle.tables.specs.Listed.{Listed as FatListed};
 ghost use Rattle.chains.specs.Answers.{ChainsMarked};
-ghost use Rattle.directory.specs.Listed.{Listed as DirectoryListed};
+ghost use Rattle.directory.specs.Listed.{DirectoryListed};
 ghost use Rattle.owners.specs.Streams.{systemChains};
 use chains::Marked;
 use chains::mark_bytes;

@@ -1,7 +1,7 @@
 // Groups 10 to 13.
 ghost use Rattle.format.specs.Rules.Verdict.{groups};
 ghost use Rattle.kinds.specs.Sizes.{geometryOf};
-ghost use Rattle.tables.specs.Sized.{ImageSized};
+ghost use Rattle.header.specs.Sized.{ImageSized};
 ghost use Rattle.tables.specs.Work.{WorkClear};
 ghost use Rattle.volume.specs.Opened.{StageLeft};
 use super::Opened;

@@ -8,7 +8,7 @@ use Rattle.format.specs.Layout.Geometry.{sectorCount, cellsIn}
 use Rattle.format.specs.Layout.Tables.{sectorSpace}
 use Rattle.format.specs.Rules.Cells.{spareCellFree}
 use Rattle.kinds.specs.Sizes.{geometryOf}
-use Rattle.tables.specs.Sized.{F}
+use Rattle.header.specs.Sized.{F}
 use Rattle.theory.proofs.Loops.{said-yes, said-no, below-none, below-more, below-not}
 use Rattle.chains.proofs.Groups.{rest-is, spare-free, cells-short}
 use Rattle.chains.proofs.cells_rest.Statement.{statement}

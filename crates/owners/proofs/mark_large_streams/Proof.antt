@@ -10,7 +10,7 @@ use Rattle.kinds.specs.Sizes.{geometryOf}
 use Rattle.theory.specs.Marks.{marks, Closed}
 use Rattle.tables.specs.Listed.{Listed as FatListed}
 use Rattle.tables.proofs.WorkLaws.{listed-kept}
-use Rattle.directory.specs.Listed.{entriesOf, Listed as DirectoryListed}
+use Rattle.directory.specs.Listed.{entriesOf, DirectoryListed}
 use Rattle.directory.proofs.Places.{countable, count-is, count-few, directory-kept}
 use Rattle.owners.specs.Streams.{largeRight}
 use Rattle.owners.proofs.Marking.{Marking, marking-start, marking-step, marking-broken, marking-end}

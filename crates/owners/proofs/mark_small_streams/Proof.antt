@@ -5,7 +5,7 @@ use native.Mathlib.Omega.{arith}
 use Rattle.format.specs.Layout.Volume.{volume, miniSpace}
 use Rattle.format.specs.Rules.Owners.{ownMinis}
 use Rattle.kinds.specs.Sizes.{geometryOf}
-use Rattle.directory.specs.Listed.{entriesOf, Listed as DirectoryListed}
+use Rattle.directory.specs.Listed.{entriesOf, DirectoryListed}
 use Rattle.directory.proofs.Places.{countable, count-is, count-few, directory-kept}
 use Rattle.minis.specs.Listed.{Listed as MiniListed}
 use Rattle.minis.proofs.ListLaws.{listed-kept}

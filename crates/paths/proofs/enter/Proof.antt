@@ -6,7 +6,7 @@ use Rattle.format.specs.Layout.Entry.{isStream}
 use Rattle.format.specs.Calls.Find.{childNamed}
 use Rattle.theory.specs.TreeViews.{childOf, at}
 use Rattle.directory.specs.Listed.{entriesOf}
-use Rattle.directory.proofs.Places.{ruled}
+use Rattle.entry_rules.proofs.Ruled.{ruled}
 use Rattle.lookup.specs.Children.{childOf-answer}
 use Rattle.lookup.specs.declared.Child.{Child}
 use Rattle.paths.specs.Found.{firstName}

@@ -13,7 +13,7 @@ use Rattle.theory.proofs.Loops.{said-yes, said-no}
 use Rattle.frame.proofs.Final.{sized3}
 use Rattle.frame.proofs.Lengths.{allowed-short}
 use Rattle.tables.specs.Work.{Wrote}
-use Rattle.tables.proofs.Allowed.{allowed-sized}
+use Rattle.header.proofs.Allowed.{allowed-sized}
 use Rattle.tables.proofs.WorkLaws.{wrote-cleared}
 use Rattle.volume.proofs.Verdicts.{length-breaks, work-short, groups-decide, clear-start}
 use Rattle.volume.proofs.Opening.{refused-early, refused-late, opened}

@@ -12,7 +12,7 @@ use Rattle.tables.specs.Work.{Wrote}
 use Rattle.tables.proofs.WorkLaws.{wrote-cleared, wrote-two}
 use Rattle.chains.specs.Answers.{ChainsMarked}
 use Rattle.chains.proofs.Owners.{is-wrong, is-right}
-use Rattle.directory.specs.Listed.{Listed as DirectoryListed}
+use Rattle.directory.specs.Listed.{DirectoryListed}
 use Rattle.minis.specs.Listed.{Listed}
 use Rattle.minis.proofs.ListLaws.{listed-kept, units-in-work}
 use Rattle.owners.specs.Streams.{smallRight}

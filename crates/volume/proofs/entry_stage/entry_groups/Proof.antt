@@ -17,7 +17,8 @@ use Rattle.tables.proofs.WorkLaws.{wrote-two}
 use Rattle.theory.proofs.Loops.{said-yes, said-no}
 use Rattle.tables.specs.Listed.{listPlace, tablesOf}
 use Rattle.directory.specs.Listed.{countOf, entriesOf}
-use Rattle.directory.proofs.Places.{countable, count-is, ruled}
+use Rattle.directory.proofs.Places.{countable, count-is}
+use Rattle.entry_rules.proofs.Ruled.{ruled}
 use Rattle.volume.specs.Passed.{TablesHold}
 use Rattle.volume.proofs.Outcomes.{stage-refused, stage-later}
 use Rattle.volume.proofs.Verdicts.{entries-break, trees-break, entries-hold}
