@@ -1,8 +1,10 @@
 //! Runs cases and counts what passes.
 
-use crate::calls::{ANSWERS, Outcome, perform};
+use crate::calls::{ANSWERS, Answers, OPENED_ANSWERS, Outcome, of_image, perform};
 use crate::cases::Case;
 use crate::effects;
+#[cfg(feature = "library")]
+use crate::library;
 use crate::model::Model;
 use std::collections::BTreeMap;
 use std::rc::Rc;
@@ -22,19 +24,49 @@ impl Tally {
         Tally { trace: std::env::var_os("CFB_TRACE").is_some(), ..Tally::default() }
     }
 
-    /// Runs one case; `name` says how to run it again. What the call leaves behind, if nothing is wrong.
+    /// Runs one case, plain and once more opened; `name` says how to run it again. What the call leaves behind, if nothing
+    /// is wrong.
     pub fn run(&mut self, name: &str, case: &Case) -> Option<After> {
+        self.announce(name, case);
+        let after = self.judged(name, case, check(case))?;
+        self.count(case.call.name(), after.outcome.answer);
+        self.count("open", of_image(after.outcome.answer));
+        Some(after)
+    }
+
+    /// Runs one case plain, and on a volume that is opened and holds the case's image.
+    #[cfg(feature = "edits")]
+    pub fn run_opened(&mut self, name: &str, case: &Case, opened: &mut library::Opened) -> Option<After> {
+        self.announce(name, case);
+        let checked = check_plain(case).and_then(|after| opened.check(case, &after).map(|()| after));
+        let after = self.judged(name, case, checked)?;
+        self.count(case.call.opened_name(), after.outcome.answer);
+        Some(after)
+    }
+
+    fn announce(&self, name: &str, case: &Case) {
         if self.trace {
             eprintln!("{name}: {}, {}", case.call.name(), case.kind);
         }
-        match check(case) {
-            Ok(after) => {
+    }
+
+    fn judged(&mut self, name: &str, case: &Case, checked: Result<After, String>) -> Option<After> {
+        self.pass(name, checked.map_err(|fault| format!("{fault}; {}", case.description())))
+    }
+
+    fn count(&mut self, call: &'static str, answer: u32) {
+        *self.answers.entry((call, answer)).or_default() += 1;
+    }
+
+    /// Counts a check as passed or failed.
+    pub fn pass<T>(&mut self, name: &str, checked: Result<T, String>) -> Option<T> {
+        match checked {
+            Ok(result) => {
                 self.passed += 1;
-                *self.answers.entry((case.call.name(), after.answer)).or_default() += 1;
-                Some(after)
+                Some(result)
             }
             Err(fault) => {
-                self.fail(name, &format!("{fault}; {}", case.description()));
+                self.fail(name, &fault);
                 None
             }
         }
@@ -52,18 +84,19 @@ impl Tally {
         if cfg!(not(feature = "library")) {
             println!("not compared with the library: every call");
         } else if cfg!(not(feature = "edits")) {
-            println!("not compared with the library: overwrite, set_len");
+            println!("not compared with the library: overwrite, set_len, opened calls");
         }
-        for (call, _) in ANSWERS {
+        let opened = if cfg!(feature = "edits") { OPENED_ANSWERS } else { &[] };
+        for (call, _) in ANSWERS.iter().chain(opened) {
             let of_call = self.answers.iter().filter(|((name, _), _)| name == call);
             let counts: Vec<String> = of_call.map(|((_, answer), times)| format!("{answer}: {times}")).collect();
-            println!("{call:<10}{}", counts.join("  "));
+            println!("{call:<17}{}", counts.join("  "));
         }
     }
 
-    /// An answer that some call never had counts as a failure.
-    pub fn ask_for_every_answer(&mut self) {
-        for (call, answers) in ANSWERS {
+    /// An answer that one of these calls never had counts as a failure.
+    pub fn ask_for_every_answer(&mut self, calls: &Answers) {
+        for (call, answers) in calls {
             for answer in *answers {
                 if !self.answers.contains_key(&(*call, *answer)) {
                     self.fail(call, &format!("never answered {answer}"));
@@ -73,15 +106,31 @@ impl Tally {
     }
 }
 
-/// The answer of a call, the image and its rows after it.
+/// The outcome of a call, the image and its rows after it.
 pub struct After {
-    pub answer: u32,
+    pub outcome: Outcome,
     pub image: Vec<u8>,
     pub model: Option<Rc<Model>>,
 }
 
-/// What the call leaves behind, or what is wrong: the papers, the rows and the library must all agree with the independent calls.
+/// What the call leaves behind, or what is wrong: both ways of calling the library must agree with the independent calls.
 fn check(case: &Case) -> Result<After, String> {
+    let after = check_plain(case)?;
+    #[cfg(feature = "edits")]
+    library::check_once(case, &after)?;
+    Ok(after)
+}
+
+/// The same by the plain call alone.
+fn check_plain(case: &Case) -> Result<After, String> {
+    let after = due(case)?;
+    #[cfg(feature = "library")]
+    library::check(case, &after)?;
+    Ok(after)
+}
+
+/// What the call should leave behind, or what is wrong: the papers and the rows must agree with the independent calls.
+fn due(case: &Case) -> Result<After, String> {
     let mut image = case.image.clone();
     let outcome = perform(&case.call, &mut image, case.work_len);
     let answer = outcome.answer;
@@ -93,12 +142,7 @@ fn check(case: &Case) -> Result<After, String> {
         return Err(format!("independent lists otherwise than expected, which is {text:?}"));
     }
     let model = case.model.as_ref().map(|rows| by_rows(rows, case, &outcome, &image)).transpose()?;
-    #[cfg(feature = "library")]
-    {
-        let mut noise = crate::random::Random::of(case.image.len() as u64, case.work_len as u64);
-        crate::library::check(&case.call, &case.image, case.work_len, &outcome, &image, &mut noise)?;
-    }
-    Ok(After { answer, image, model })
+    Ok(After { outcome, image, model })
 }
 
 /// The rows after the call, which must give the same outcome and be what the image holds.

@@ -1,7 +1,8 @@
-//! Images of 8 MiB for the benchmark.
+//! The images of the benchmark: many of 8 MiB for validators, and one for lists of calls.
 
 pub mod broken;
 pub mod good;
+pub mod many;
 pub mod worst;
 
 /// An image with the answer that the papers give it.
@@ -11,7 +12,7 @@ pub struct Timed {
     pub image: Vec<u8>,
 }
 
-/// The good ones first.
+/// Those for validators, the good ones first.
 pub fn images() -> Vec<Timed> {
     let mut images = good::images();
     images.extend(broken::images());

@@ -1,6 +1,10 @@
-//! harness SEED [IMAGES [CALLS [LISTS]]]   all cases: random images to validate, random calls, random lists of calls
-//! harness SEED only KIND NUMBER           one case again: KIND is fixed, samples, small, large, calls, deep or lists
+//! harness SEED [IMAGES [CALLS [LISTS]]]   all cases: random images to validate, random calls, random lists of calls, and
+//!                                         as many lists on opened volumes
+//! harness SEED only KIND NUMBER           one case again: KIND is fixed, samples, small, large, calls, deep, lists, opened
 
+use cfb_tests::calls::{ANSWERS, OPENED_ANSWERS};
+#[cfg(feature = "edits")]
+use cfb_tests::cases::opened;
 use cfb_tests::cases::{Case, calls::Calls, deep, fixed, large, lists, samples, small::Cases};
 use cfb_tests::compare::Tally;
 
@@ -9,6 +13,8 @@ const LARGE_IMAGES: u64 = 12;
 const ENOUGH: u64 = 100_000;
 /// So many random calls get every answer.
 const ENOUGH_CALLS: u64 = 20_000;
+/// With so many lists, too, every call on an opened volume.
+const ENOUGH_LISTS: u64 = 1_000;
 
 fn main() {
     let words: Vec<String> = std::env::args().skip(1).collect();
@@ -46,7 +52,11 @@ fn all(seed: u64, images: u64, calls: u64, list_count: u64) -> Tally {
     for number in 0..list_count {
         lists::run(seed, number, false, &mut tally);
     }
-    report(&mut tally, &cases, images, calls);
+    #[cfg(feature = "edits")]
+    for number in 0..list_count {
+        opened::run(seed, number, false, &mut tally);
+    }
+    report(&mut tally, &cases, images, calls, list_count);
     tally
 }
 
@@ -57,7 +67,7 @@ fn each(cases: Vec<Case>, then: &mut dyn FnMut(u64, Case)) {
 }
 
 /// In a long run a rule that was never broken and an answer that never came count as failures.
-fn report(tally: &mut Tally, cases: &Cases, images: u64, calls: u64) {
+fn report(tally: &mut Tally, cases: &Cases, images: u64, calls: u64, list_count: u64) {
     tally.report();
     println!("{} kinds of change, the rarest used {} times", cases.used.len(), cases.used.iter().min().unwrap_or(&0));
     if images >= ENOUGH {
@@ -66,7 +76,10 @@ fn report(tally: &mut Tally, cases: &Cases, images: u64, calls: u64) {
         }
     }
     if calls >= ENOUGH_CALLS {
-        tally.ask_for_every_answer();
+        tally.ask_for_every_answer(ANSWERS);
+    }
+    if cfg!(feature = "edits") && calls >= ENOUGH_CALLS && list_count >= ENOUGH_LISTS {
+        tally.ask_for_every_answer(OPENED_ANSWERS);
     }
 }
 
@@ -74,6 +87,13 @@ fn one(seed: u64, kind: &str, number: u64) -> Tally {
     let mut tally = Tally::new();
     if kind == "lists" {
         lists::run(seed, number, true, &mut tally);
+        return tally;
+    }
+    if kind == "opened" {
+        #[cfg(feature = "edits")]
+        opened::run(seed, number, true, &mut tally);
+        #[cfg(not(feature = "edits"))]
+        tally.fail(kind, "these calls are not linked");
         return tally;
     }
     let mut wanted = |made: u64, case: Case| {

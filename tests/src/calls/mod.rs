@@ -53,6 +53,18 @@ impl Call {
         }
     }
 
+    /// The name of the call on an opened volume; to open is to validate.
+    pub fn opened_name(&self) -> &'static str {
+        match self {
+            Call::Validate => "open",
+            Call::Find { .. } => "opened find",
+            Call::Read { .. } => "opened read",
+            Call::List { .. } => "opened list",
+            Call::Overwrite { .. } => "opened overwrite",
+            Call::SetLength { .. } => "opened set_len",
+        }
+    }
+
     /// The first content of the out buffer; empty where there is none.
     pub fn out(&self) -> &[u8] {
         match self {
@@ -62,8 +74,11 @@ impl Call {
     }
 }
 
-/// Every call, with the answers that it has an occasion for.
-pub const ANSWERS: &[(&str, &[u32])] = &[
+/// Calls with the answers that each has an occasion for.
+pub type Answers = [(&'static str, &'static [u32])];
+
+/// Every plain call.
+pub const ANSWERS: &Answers = &[
     ("validate", &[0, 1, 2, 10, 11, 12, 13, 14, 15, 16, 17, 18]),
     ("find", &[0, 1, 2, 10, 11, 12, 13, 14, 15, 16, 17, 18, 20, 21, 22]),
     ("read", &[0, 1, 2, 10, 11, 12, 13, 14, 15, 16, 17, 18, 20, 21, 22, 23, 24]),
@@ -71,6 +86,22 @@ pub const ANSWERS: &[(&str, &[u32])] = &[
     ("overwrite", &[0, 1, 2, 10, 11, 12, 13, 14, 15, 16, 17, 18, 20, 21, 22, 23, 24]),
     ("set_len", &[0, 1, 2, 10, 11, 12, 13, 14, 15, 16, 17, 18, 20, 21, 22, 23, 25, 26]),
 ];
+
+/// Opening, and every call on an opened volume, which is not refused for its image.
+pub const OPENED_ANSWERS: &Answers = &[
+    ("open", &[0, 1, 2, 10, 11, 12, 13, 14, 15, 16, 17, 18]),
+    ("opened find", &[0, 20, 21, 22]),
+    ("opened read", &[0, 20, 21, 22, 23, 24]),
+    ("opened list", &[0, 27]),
+    ("opened overwrite", &[0, 20, 21, 22, 23, 24]),
+    ("opened set_len", &[0, 20, 21, 22, 23, 25, 26]),
+];
+
+/// What validating or opening answers where a call answers this: only numbers below 20 are about the image and the work
+/// buffer.
+pub fn of_image(answer: u32) -> u32 {
+    if answer < 20 { answer } else { 0 }
+}
 
 /// Does the call on an image lent with so long a work buffer.
 pub fn perform(call: &Call, image: &mut [u8], work_len: usize) -> Outcome {

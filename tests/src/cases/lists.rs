@@ -1,7 +1,7 @@
 //! Lists of calls on one image, which goes from call to call. The rows are kept from the first image and the list alone.
 
 use super::{Case, small};
-use crate::compare::Tally;
+use crate::compare::{After, Tally};
 use crate::draw;
 use crate::images::Sample;
 use crate::images::random_plan;
@@ -11,28 +11,57 @@ use crate::volume::work_needed;
 use std::rc::Rc;
 
 /// The calls of a list.
-const CALLS: usize = 20;
+pub const CALLS: usize = 20;
 
 /// Runs one list, up to the first call that fails; `shown` prints each call and its answer.
 pub fn run(seed: u64, number: u64, shown: bool, tally: &mut Tally) {
-    let mut r = Random::of(seed.rotate_left(16), number);
-    let plan = if r.one_in(5) { random_plan::plan(&mut r) } else { random_plan::scarce(&mut r) };
-    let sample = Sample::build(&plan, &mut r);
-    let mut model = Rc::new(Model::of(&sample));
-    let mut image = sample.image;
-    for call in 0..CALLS {
-        let name = format!("seed {seed} lists {number} call {call}");
-        let work_len = small::work_len(work_needed(image.len()), &mut r);
-        let call = draw::call(&model, &mut r);
-        let case = Case { call, model: Some(model), ..Case::new("list", image, work_len, None) };
-        if shown {
+    let mut list = List::new(format!("seed {seed} lists {number}"), Random::of(seed.rotate_left(16), number), shown);
+    for _ in 0..CALLS {
+        let work_len = list.work_len();
+        if list.next(work_len, |name, case| tally.run(name, case)).is_none() {
+            return;
+        }
+    }
+}
+
+/// A list before its next call.
+pub struct List {
+    name: String,
+    r: Random,
+    shown: bool,
+    made: usize,
+    pub image: Vec<u8>,
+    model: Rc<Model>,
+}
+
+impl List {
+    pub fn new(name: String, mut r: Random, shown: bool) -> List {
+        let plan = if r.one_in(5) { random_plan::plan(&mut r) } else { random_plan::scarce(&mut r) };
+        let sample = Sample::build(&plan, &mut r);
+        let model = Rc::new(Model::of(&sample));
+        List { name, r, shown, made: 0, image: sample.image, model }
+    }
+
+    /// A length for the work buffer.
+    pub fn work_len(&mut self) -> usize {
+        small::work_len(work_needed(self.image.len()), &mut self.r)
+    }
+
+    /// Draws a call and has it run with a work buffer of this length; None if it fails.
+    pub fn next(&mut self, work_len: usize, run: impl FnOnce(&str, &Case) -> Option<After>) -> Option<()> {
+        let name = format!("{} call {}", self.name, self.made);
+        let (call, model) = (draw::call(&self.model, &mut self.r), Some(self.model.clone()));
+        let case = Case { call, model, ..Case::new("list", std::mem::take(&mut self.image), work_len, None) };
+        if self.shown {
             println!("{name}: {}", case.description());
         }
-        let Some(after) = tally.run(&name, &case) else { return };
-        if shown {
-            println!("  answered {}", after.answer);
+        let after = run(&name, &case)?;
+        if self.shown {
+            println!("  answered {}", after.outcome.answer);
         }
-        image = after.image;
-        model = after.model.expect("a case with rows leaves rows");
+        self.made += 1;
+        self.image = after.image;
+        self.model = after.model.expect("a case with rows leaves rows");
+        Some(())
     }
 }

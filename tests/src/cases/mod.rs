@@ -6,6 +6,8 @@ pub mod fixed;
 pub mod large;
 pub mod lists;
 pub mod mutate;
+#[cfg(feature = "edits")]
+pub mod opened;
 pub mod papers;
 pub mod samples;
 pub mod small;

@@ -1,5 +1,6 @@
-//! The library's C interface.
+//! The library's C interface: the plain calls, each of which looks at the whole image first.
 
+use super::values::Values;
 use crate::calls::Call;
 
 #[link(name = "cfb_c", kind = "static")]
@@ -63,9 +64,6 @@ unsafe extern "C" {
     ) -> u32;
 }
 
-/// What stands in the outputs before a call.
-const NOISE: u64 = 0xA5A5_A5A5_A5A5_A5A5;
-
 /// The library's answer for an image that it may not change.
 pub fn validate(image: &[u8], work: &mut [u32]) -> u32 {
     // A slice's pointer is not null, aligned, and good for its length.
@@ -78,19 +76,20 @@ pub fn call(call: &Call, image: &mut [u8], work: &mut [u32], out: &mut [u8]) -> 
     let (image, image_len) = (image.as_mut_ptr(), image.len());
     let (work, work_len) = (work.as_mut_ptr(), work.len());
     let (out, out_len) = (out.as_mut_ptr(), out.len());
-    let (mut entry, mut kind, mut size, mut count) = (NOISE as u32, NOISE as u32, NOISE, NOISE);
+    let mut values = Values::noise();
+    let Values { entry, kind, size, count } = &mut values;
     // A slice's pointer is not null, aligned, and good for its length.
     let answer = match call {
         Call::Validate => unsafe { cfb_validate(image, image_len, work, work_len) },
         Call::Find { path } => unsafe {
             let (path, path_len) = (path.as_ptr(), path.len());
-            cfb_find(image, image_len, work, work_len, path, path_len, &mut entry, &mut kind, &mut size)
+            cfb_find(image, image_len, work, work_len, path, path_len, entry, kind, size)
         },
         Call::Read { path, offset, .. } => unsafe {
             let (path, path_len) = (path.as_ptr(), path.len());
-            cfb_read(image, image_len, work, work_len, path, path_len, *offset, out, out_len, &mut count)
+            cfb_read(image, image_len, work, work_len, path, path_len, *offset, out, out_len, count)
         },
-        Call::List { .. } => unsafe { cfb_list(image, image_len, work, work_len, out, out_len, &mut count) },
+        Call::List { .. } => unsafe { cfb_list(image, image_len, work, work_len, out, out_len, count) },
         #[cfg(feature = "edits")]
         Call::Overwrite { path, offset, bytes } => unsafe {
             let (path, path_len) = (path.as_ptr(), path.len());
@@ -104,10 +103,5 @@ pub fn call(call: &Call, image: &mut [u8], work: &mut [u32], out: &mut [u8]) -> 
         #[cfg(not(feature = "edits"))]
         Call::Overwrite { .. } | Call::SetLength { .. } => return None,
     };
-    let values = match call {
-        Call::Find { .. } => [entry as u64, kind as u64, size],
-        Call::Read { .. } | Call::List { .. } => [count, 0, 0],
-        _ => [0; 3],
-    };
-    Some((answer, values))
+    Some((answer, values.of(call)))
 }

@@ -23,10 +23,19 @@ impl<T: Copy + PartialEq> Lent<T> {
         &mut self.now[self.from..self.to]
     }
 
+    /// What it holds now.
+    pub fn content(&self) -> &[T] {
+        &self.now[self.from..self.to]
+    }
+
     /// Whether it holds this content now, with the margins that it had.
     pub fn holds(&self, content: &[T]) -> bool {
-        self.now[self.from..self.to] == *content
-            && self.now[..self.from] == self.first[..self.from]
-            && self.now[self.to..] == self.first[self.to..]
+        self.content() == content && self.kept_behind(content.len())
+    }
+
+    /// Whether everything but so many elements at the content's start is as it was lent.
+    pub fn kept_behind(&self, count: usize) -> bool {
+        let behind = self.from + count;
+        self.now[..self.from] == self.first[..self.from] && self.now[behind..] == self.first[behind..]
     }
 }

@@ -1,13 +1,15 @@
-//! bench: times the library against the independent validator on images of 8 MiB, and prints a table in Markdown.
-//! Both are lent the same work buffer and leave it zero.
+//! The first table: the library against the independent validator on images of 8 MiB. Both are lent the same work buffer
+//! and leave it zero.
 
+use super::times::{median, once};
 use cfb_tests::bench::{Timed, good, images};
 use cfb_tests::{library, volume};
-use std::time::{Duration, Instant};
+use std::time::Duration;
 
 const ROUNDS: usize = 7;
 
-fn main() {
+/// Prints it; how many answers are wrong.
+pub fn table() -> u32 {
     let mut wrong = 0;
     let mut slowest_good = 0.0f64;
     println!("| image | answer | library ms | independent ms | ratio | library, slowest good image = 1 |");
@@ -18,12 +20,12 @@ fn main() {
             slowest_good = slowest_good.max(ours);
         }
         let same = answers == [timed.answer; 2];
-        wrong += !same as i32;
+        wrong += !same as u32;
         let answer = if same { timed.answer.to_string() } else { format!("{answers:?}, not {}", timed.answer) };
         let relative = if i < good::COUNT { "-".to_string() } else { format!("{:.2}", ours / slowest_good) };
         println!("| {} | {answer} | {ours:.3} | {theirs:.3} | {:.2} | {relative} |", timed.name, ours / theirs);
     }
-    std::process::exit((wrong > 0) as i32);
+    wrong
 }
 
 /// The medians of both in milliseconds, taken by turns, and both answers.
@@ -40,21 +42,9 @@ fn time(timed: &Timed) -> (f64, f64, [u32; 2]) {
     (median(ours), median(theirs), answers)
 }
 
-fn once(times: &mut Vec<Duration>, mut call: impl FnMut() -> u32) -> u32 {
-    let before = Instant::now();
-    let answer = std::hint::black_box(call());
-    times.push(before.elapsed());
-    answer
-}
-
 /// The independent validator needs no work buffer, but leaves it as the library has to.
 fn independent(image: &[u8], work: &mut [u32]) -> u32 {
     let answer = volume::validate(image, work.len());
     work.fill(0);
     answer
-}
-
-fn median(mut times: Vec<Duration>) -> f64 {
-    times.sort();
-    times[times.len() / 2].as_secs_f64() * 1e3
 }
