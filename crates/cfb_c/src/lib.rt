@@ -11,6 +11,7 @@ use cfb::read;
 use cfb::set_length;
 use cfb::validate;
 use kinds::number;
+use kinds::refusal_number;
 use queries::find::Find;
 use queries::list::List;
 use queries::read::Read;
@@ -48,7 +49,7 @@ pub extern "C" fn cfb_find(
             *entry = 0;
             *kind = 0;
             *size = 0;
-            number(a)
+            refusal_number(a)
         }
     }
 }
@@ -73,7 +74,7 @@ pub extern "C" fn cfb_read(
         }
         Read::Refused(a) => {
             *count = 0;
-            number(a)
+            refusal_number(a)
         }
     }
 }
@@ -115,7 +116,7 @@ pub extern "C" fn cfb_list(image: &[u8], work: &mut [u32], out: &mut [u8], count
         }
         List::Refused(a) => {
             *count = 0;
-            number(a)
+            refusal_number(a)
         }
     }
 }

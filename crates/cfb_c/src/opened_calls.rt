@@ -14,6 +14,7 @@ ghost use Rattle.cfb_c.specs.Packed.{sizes3, unpacked};
 use directory::Directory;
 use kinds::Geometry;
 use kinds::number;
+use kinds::refusal_number;
 use minis::Minis;
 use opened::close;
 use opened::find_opened;
@@ -87,7 +88,7 @@ pub extern "C" fn cfb_open(image: &[u8], work: &mut [u32], volume: &mut [u64; 9]
     ensures { λ r. ⌜ (r ≢ 0 → now (volume .exit) ≡ now (volume .entry)) ⌝ }
 {
     match open_image(image, work) {
-        Opened::Refused(a) => number(a),
+        Opened::Refused(a) => refusal_number(a),
         Opened::Ready(v) => {
             pack(v, volume);
             0
@@ -130,7 +131,7 @@ pub extern "C" fn cfb_opened_find(
             *entry = 0;
             *kind = 0;
             *size = 0;
-            number(a)
+            refusal_number(a)
         }
     }
 }
@@ -158,7 +159,7 @@ pub extern "C" fn cfb_opened_read(
         }
         Read::Refused(a) => {
             *count = 0;
-            number(a)
+            refusal_number(a)
         }
     }
 }
@@ -223,7 +224,7 @@ pub extern "C" fn cfb_opened_list(
         }
         List::Refused(a) => {
             *count = 0;
-            number(a)
+            refusal_number(a)
         }
     }
 }

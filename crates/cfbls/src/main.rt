@@ -6,11 +6,11 @@ ghost use Rattle.format.specs.Layout.Geometry.{version3};
 ghost use Rattle.format.specs.Rules.Length.{workNeed};
 ghost use Rattle.format.specs.Calls.Read.{over};
 ghost use Rattle.format.specs.Calls.Program.{programCapacity, refusedLine, programOutput};
-ghost use Rattle.kinds.specs.Numbers.{numberOf};
+ghost use Rattle.kinds.specs.Numbers.{refusalNumber};
 ghost use Rattle.cfbls.specs.Line.{refusedWord};
 use cfb::list;
-use kinds::Answer;
-use kinds::number;
+use kinds::Refusal;
+use kinds::refusal_number;
 use queries::list::List;
 use text::put_decimal;
 
@@ -30,13 +30,13 @@ fn put_word(out: &mut [u8])
 }
 
 // Writes the line of a refusal, and returns how many bytes it takes.
-fn put_refused(out: &mut [u8], a: Answer) -> usize
+fn put_refused(out: &mut [u8], a: Refusal) -> usize
     requires { ⌜ 29 ≤ length (now out) ⌝ }
-    ensures { λ r. ⌜ r ≡ length (refusedLine (numberOf a)) ⌝ }
-    ensures { λ _. ⌜ now (out .exit) ≡ over (refusedLine (numberOf a)) (now (out .entry)) ⌝ }
+    ensures { λ r. ⌜ r ≡ length (refusedLine (refusalNumber a)) ⌝ }
+    ensures { λ _. ⌜ now (out .exit) ≡ over (refusedLine (refusalNumber a)) (now (out .entry)) ⌝ }
 {
     put_word(out);
-    let n = put_decimal(&mut out[8..], number(a) as u64);
+    let n = put_decimal(&mut out[8..], refusal_number(a) as u64);
     out[8 + n] = 0x0A;
     8 + n + 1
 }
@@ -49,7 +49,7 @@ fn report(input: &[u8], work: &mut [u32], out: &mut [u8]) -> usize
     ensures { λ r. ⌜ take r (now (out .exit)) ≡ programOutput version3 (now (input .entry)) ⌝ }
 {
     if 65536 < input.len() {
-        return put_refused(out, Answer::BadLength);
+        return put_refused(out, Refusal::BadLength);
     }
     match list(input, work, out) {
         List::Done(n) => n,

@@ -1,7 +1,6 @@
 -- Overwrites: the steps, the answer and the image.
 use Prim.Native.Nat.{ℕ, _+_, _-_, _*_, _≤_, _<_}
 use mathlib.Core.Path.{_≡_, sym, _∙_, ap, ap₂, subst}
-use mathlib.Core.Logic.{_≢_}
 use mathlib.Core.Bool.{true, false, cond}
 use mathlib.Core.List.{List, []}
 use native.Mathlib.Omega.{arith}
@@ -26,6 +25,10 @@ use Rattle.format.specs.Calls.Buffers.{edited}
 use Rattle.theory.proofs.Chains.{chain-linked, linked-below}
 use Rattle.theory.proofs.RoundUp.{round-enough}
 use Rattle.frame.specs.Good.{spaceOf as sideSpace}
+use Rattle.kinds.specs.Numbers.{refusalNumber}
+use Rattle.kinds.specs.declared.Refusal.{Refusal}
+use Rattle.kinds.specs.declared.Refusal.the-variants.{Beyond}
+use Rattle.kinds.proofs.Refusals.{first-refused}
 use Rattle.volume.specs.Opened.{Readied}
 use Rattle.volume.specs.declared.Volume.{Volume as Opened}
 use Rattle.spaces.specs.Spaces.{kindFor, spaceOf, listedSpace}
@@ -37,7 +40,7 @@ use Rattle.edits.specs.Streams.{volumeIn, StreamAt}
 use Rattle.edits.specs.Images.{imageIn}
 use Rattle.edits.proofs.Streams.{kind-side, same-uncrossed, stream-chain}
 use Rattle.edits.proofs.Writables.{writable, put-listed}
-use Rattle.edits.proofs.Targets.{image-refused, image-done, first-refused}
+use Rattle.edits.proofs.Targets.{image-refused, image-done}
 
 -- a sum that is not above the size, without the sum
 pub beyond-sum : (size offset n : ℕ) → offset ≤ size → ltb (size - offset) n ≡ ltb size (offset + n)
@@ -53,12 +56,12 @@ module _ (g : Geometry) (v : Volume) (img : Bytes) (path : Path) (offset : ℕ) 
   abbrev call : Call
   call = overwrite path offset bytes []
 
-  answer-first : (n : ℕ) → targetAnswer v path ≡ n → n ≢ 0 → answerIn g v call ≡ n
+  answer-first : (a : Refusal) → targetAnswer v path ≡ refusalNumber a → answerIn g v call ≡ refusalNumber a
   unfolding answerIn
-  answer-first n e h = rw e (first-refused n _ h)
+  answer-first a e = rw e (first-refused a _)
 
-  pub over-refused : (n : ℕ) → targetAnswer v path ≡ n → n ≢ 0 → (n ≡ answerIn g v call) × (img ≡ imageIn g v img call)
-  over-refused n e h = let a = answer-first n e h in (sym a, image-refused g v img call n a h)
+  pub over-refused : (a : Refusal) → targetAnswer v path ≡ refusalNumber a → (refusalNumber a ≡ answerIn g v call) × (img ≡ imageIn g v img call)
+  over-refused a e = let h = answer-first a e in (sym h, image-refused g v img call a h)
 
   module _ (x size : ℕ) (e : (targetAnswer v path ≡ 0) × (target v path ≡ x)) (s : size ≡ streamSize v x) where
     abbrev later : ℕ
@@ -71,7 +74,7 @@ module _ (g : Geometry) (v : Volume) (img : Bytes) (path : Path) (offset : ℕ) 
     pub over-beyond : ltb size (offset + length bytes) ≡ true → (24 ≡ answerIn g v call) × (img ≡ imageIn g v img call)
     over-beyond h =
         let a : answerIn g v call ≡ 24 = answer-later ∙ ap (λ b. cond b 24 0) h in
-        (sym a, image-refused g v img call 24 a (omega arith))
+        (sym a, image-refused g v img call Beyond a)
 
     pub over-done : {new : Bytes} → ltb size (offset + length bytes) ≡ false → new ≡ overwritten v img x offset bytes → (0 ≡ answerIn g v call) × (new ≡ imageIn g v img call)
     unfolding edited

@@ -13,15 +13,15 @@ use Rattle.directory.specs.declared.Directory.{Directory}
 
 -- the bytes behind the old length are zero, where the new one is greater
 unfoldable pub tailFilled : Space → List ℕ → ℕ → ℕ → Bytes → Bytes
-tailFilled sp units size length img = cond (ltb size length) (zeroed sp units img size) img
+tailFilled sp units size len img = cond (ltb size len) (zeroed sp units img size) img
 
 -- start and size of the entry at a place
 unfoldable pub entryPut : ℕ → ℕ → ℕ → Bytes → Bytes
 entryPut place start size img = put64 (put32 img (place + startField) start) (place + sizeField) size
 
--- the units `old` become the units `new`, and the length `size` the length `length`
+-- the units `old` become the units `new`, and the length `size` the length `len`
 unfoldable pub rewritten : Space → ℕ → List ℕ → List ℕ → ℕ → ℕ → Bytes → Bytes
-rewritten sp place old new size length img = entryPut place (startOf new) length (tailFilled sp new size length (relinked sp old new img))
+rewritten sp place old new size len img = entryPut place (startOf new) len (tailFilled sp new size len (relinked sp old new img))
 
 -- the entry has a place by the list in the work buffer, and lies in an image of len bytes
 pub record EntryRoom (d : Directory) (work : List ℕ) (x len : ℕ) : Type 0 where

@@ -17,6 +17,7 @@ use chains::units_for;
 use directory::place;
 use entries::start;
 use kinds::Answer;
+use kinds::Refusal;
 use queries::find::Find;
 use queries::find::Object;
 use queries::find::find_in;
@@ -85,13 +86,13 @@ pub fn overwrite_in(
 {
     let f = find_in(path, img, work, v);
     let Find::Entry(e) = f else {
-        return refusal(f);
+        return Answer::Refused(refusal(f));
     };
     if e.kind != 2 {
-        return Answer::NotAStream;
+        return Answer::Refused(Refusal::NotAStream);
     }
     if ends_beyond(e.size, offset, bytes.len()) {
-        return Answer::Beyond;
+        return Answer::Refused(Refusal::Beyond);
     }
     put_in_stream(img, work, v, e, offset as usize, bytes);
     Answer::Done

@@ -27,6 +27,7 @@ use chains::units_for;
 use directory::place;
 use entries::start;
 use kinds::Answer;
+use kinds::Refusal;
 use queries::find::Find;
 use queries::find::Object;
 use queries::find::find_in;
@@ -175,31 +176,39 @@ fn change_length(img: &mut [u8], work: &mut [u32], v: Volume, e: Object, new: u6
         old,
         need,
     ) {
-        return Answer::TooFewFree;
+        return Answer::Refused(Refusal::TooFewFree);
     }
     rewrite(img, work, v, kind, e, old, need as usize, new);
     Answer::Done
 }
 
 // Gives the stream that a path leads to another length.
-pub fn set_length_in(path: &[u16], img: &mut [u8], work: &mut [u32], v: Volume, new: u64) -> Answer
+pub fn set_length_in(
+    path: &[u16],
+    img: &mut [u8],
+    work: &mut [u32],
+    v: Volume,
+    new_len: u64,
+) -> Answer
     requires { ⌜ Open v (now img) (now work) ⌝ }
-    ensures { λ r. ⌜ numberOf r ≡ answerIn (geometryOf (v .tables .geometry)) (volumeIn v (now (img .entry))) (lengthCall (now (path .entry)) new []) ⌝ }
-    ensures { λ _. ⌜ now (img .exit) ≡ imageIn (geometryOf (v .tables .geometry)) (volumeIn v (now (img .entry))) (now (img .entry)) (lengthCall (now (path .entry)) new []) ⌝ }
+    ensures { λ r. ⌜ numberOf r
+        ≡ answerIn (geometryOf (v .tables .geometry)) (volumeIn v (now (img .entry))) (lengthCall (now (path .entry)) «new_len» []) ⌝ }
+    ensures { λ _. ⌜ now (img .exit)
+        ≡ imageIn (geometryOf (v .tables .geometry)) (volumeIn v (now (img .entry))) (now (img .entry)) (lengthCall (now (path .entry)) «new_len» []) ⌝ }
     ensures { λ _. ⌜ Wrote (now (work .entry)) (now (work .exit)) 0 (v .stream) ⌝ }
 {
     let f = find_in(path, img, work, v);
     let Find::Entry(e) = f else {
-        return refusal(f);
+        return Answer::Refused(refusal(f));
     };
     if e.kind != 2 {
-        return Answer::NotAStream;
+        return Answer::Refused(Refusal::NotAStream);
     }
-    if e.size == new {
+    if e.size == new_len {
         return Answer::Done;
     }
-    if crossing(e.size, new) {
-        return Answer::Crosses;
+    if crossing(e.size, new_len) {
+        return Answer::Refused(Refusal::Crosses);
     }
-    change_length(img, work, v, e, new)
+    change_length(img, work, v, e, new_len)
 }

@@ -6,7 +6,7 @@ ghost use Rattle.format.specs.Layout.Chain.{FREE, END, FATSECT, DIFSECT};
 ghost use Rattle.format.specs.Layout.Entry.{NOSTREAM};
 ghost use Rattle.format.specs.Layout.Geometry.{sectorPlace, cellsIn, difatIn, entriesIn};
 ghost use Rattle.kinds.specs.Sizes.{geometryOf};
-ghost use Rattle.kinds.specs.Numbers.{numberOf};
+ghost use Rattle.kinds.specs.Numbers.{refusalNumber, numberOf};
 
 // ---- geometry
 
@@ -255,8 +255,8 @@ pub enum Order {
 
 // ---- answers
 
-pub enum Answer {
-    Done,
+// Why a call is refused.
+pub enum Refusal {
     BadLength,
     ShortWork,
     Header,
@@ -278,30 +278,45 @@ pub enum Answer {
     OutTooShort,
 }
 
-// 01's number of an answer.
-pub fn number(a: Answer) -> u32
-    ensures { λ r. ⌜ r ≡ numberOf a ⌝ }
+// What a call answers that gives no values.
+pub enum Answer {
+    Done,
+    Refused(Refusal),
+}
+
+// 01's number of a refusal.
+pub fn refusal_number(a: Refusal) -> u32
+    ensures { λ r. ⌜ r ≡ refusalNumber a ⌝ }
 {
     match a {
+        Refusal::BadLength => 1,
+        Refusal::ShortWork => 2,
+        Refusal::Header => 10,
+        Refusal::Tables => 11,
+        Refusal::Cells => 12,
+        Refusal::Directory => 13,
+        Refusal::Entries => 14,
+        Refusal::Trees => 15,
+        Refusal::Mini => 16,
+        Refusal::Streams => 17,
+        Refusal::Owners => 18,
+        Refusal::BadPath => 20,
+        Refusal::NotFound => 21,
+        Refusal::StreamOnTheWay => 22,
+        Refusal::NotAStream => 23,
+        Refusal::Beyond => 24,
+        Refusal::Crosses => 25,
+        Refusal::TooFewFree => 26,
+        Refusal::OutTooShort => 27,
+    }
+}
+
+// And of an answer.
+pub fn number(answer: Answer) -> u32
+    ensures { λ r. ⌜ r ≡ numberOf answer ⌝ }
+{
+    match answer {
         Answer::Done => 0,
-        Answer::BadLength => 1,
-        Answer::ShortWork => 2,
-        Answer::Header => 10,
-        Answer::Tables => 11,
-        Answer::Cells => 12,
-        Answer::Directory => 13,
-        Answer::Entries => 14,
-        Answer::Trees => 15,
-        Answer::Mini => 16,
-        Answer::Streams => 17,
-        Answer::Owners => 18,
-        Answer::BadPath => 20,
-        Answer::NotFound => 21,
-        Answer::StreamOnTheWay => 22,
-        Answer::NotAStream => 23,
-        Answer::Beyond => 24,
-        Answer::Crosses => 25,
-        Answer::TooFewFree => 26,
-        Answer::OutTooShort => 27,
+        Answer::Refused(a) => refusal_number(a),
     }
 }

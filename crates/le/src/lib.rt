@@ -76,12 +76,12 @@ pub fn put_u64(b: &mut [u8], at: usize, v: u64)
 // ---- runs
 
 // Zero bytes.
-pub fn fill_zero(part: &mut [u8])
-    ensures { λ _. ⌜ now (part .exit) ≡ replicate (length (now (part .entry))) 0 ⌝ }
+pub fn fill_zero(bytes: &mut [u8])
+    ensures { λ _. ⌜ now (bytes .exit) ≡ replicate (length (now (bytes .entry))) 0 ⌝ }
 {
     let mut i = 0;
-    while i < part.len() {
-        part[i] = 0;
+    while i < bytes.len() {
+        bytes[i] = 0;
         i += 1;
     }
 }

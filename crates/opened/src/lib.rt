@@ -89,15 +89,15 @@ pub fn set_length_opened(
     work: &mut [u32],
     v: Volume,
     path: &[u16],
-    new: u64,
+    new_len: u64,
 ) -> Answer
     requires { ⌜ OpenVolume version3 v (now image) (now work) ⌝ }
-    ensures { λ r. ⌜ plain (numberOf r) ≡ reply version3 (now (image .entry)) (lengthCall (now (path .entry)) new (now (work .entry))) ⌝ }
-    ensures { λ _. ⌜ now (image .exit) ≡ imageAfter version3 (now (image .entry)) (lengthCall (now (path .entry)) new (now (work .entry))) ⌝ }
+    ensures { λ r. ⌜ plain (numberOf r) ≡ reply version3 (now (image .entry)) (lengthCall (now (path .entry)) «new_len» (now (work .entry))) ⌝ }
+    ensures { λ _. ⌜ now (image .exit) ≡ imageAfter version3 (now (image .entry)) (lengthCall (now (path .entry)) «new_len» (now (work .entry))) ⌝ }
     ensures { λ _. ⌜ OpenVolume version3 v (now (image .exit)) (now (work .exit)) ⌝ }
     ensures { λ _. ⌜ Wrote (now (work .entry)) (now (work .exit)) 0 (workNeed (length (now (image .entry)))) ⌝ }
 {
-    set_length_in(path, image, work, v, new)
+    set_length_in(path, image, work, v, new_len)
 }
 
 // A line for each object, in an out buffer that has room for all of them.

@@ -15,8 +15,8 @@ use directory::Directory;
 use directory::child_of;
 use directory::kind_of;
 use entries::names::legal_unit;
-use kinds::Answer;
 use kinds::EntryId;
+use kinds::Refusal;
 use lookup::Child;
 use lookup::find_child;
 
@@ -75,7 +75,7 @@ pub fn well_formed(path: &[u16]) -> bool
 
 pub enum Found {
     At(EntryId),
-    Refused(Answer),
+    Refused(Refusal),
 }
 
 // One name further from entry x: the first of the rest of a path.
@@ -87,11 +87,11 @@ fn enter(rest: &[u16], img: &[u8], work: &[u32], d: Directory, x: EntryId) -> Fo
     ensures { λ r. ⌜ foundOf (entriesOf d (now (img .entry))) r ≡ enterOf (entriesOf d (now (img .entry))) (reached (entriesOf d (now (img .entry))) (x .0)) (firstName (now (rest .entry))) ⌝ }
 {
     if kind_of(img, work, d, x) == 2 {
-        return Found::Refused(Answer::StreamOnTheWay);
+        return Found::Refused(Refusal::StreamOnTheWay);
     }
     let n = name_length(rest);
     match find_child(&rest[..n], img, work, d, child_of(img, work, d, x)) {
-        Child::Missing => Found::Refused(Answer::NotFound),
+        Child::Missing => Found::Refused(Refusal::NotFound),
         Child::Present(y) => Found::At(y),
     }
 }
@@ -105,7 +105,7 @@ pub fn find_entry(path: &[u16], img: &[u8], work: &[u32], d: Directory) -> Found
     ensures { λ r. ⌜ Inside (entriesOf d (now (img .entry))) r ⌝ }
 {
     if !well_formed(path) {
-        return Found::Refused(Answer::BadPath);
+        return Found::Refused(Refusal::BadPath);
     }
     let mut x = EntryId::ROOT;
     if path.len() == 0 {

@@ -1,9 +1,8 @@
 -- Finds: what the entry at a path's end, or the refusal, says of the reply.
-use Prim.Native.Nat.{ℕ, _≤_, _<_}
+use Prim.Native.Nat.{ℕ, _<_}
 use mathlib.Core.Path.{_≡_, sym, _∙_, ap, ap₂, subst}
 use mathlib.Core.Bool.{true}
 use mathlib.Core.List.{List, []}
-use native.Mathlib.Omega.{arith}
 use Rattle.format.specs.Basics.Bytes.{Bytes}
 use Rattle.format.specs.Layout.Geometry.{Geometry}
 use Rattle.format.specs.Layout.Entry.{kind, size}
@@ -17,11 +16,10 @@ use Rattle.format.specs.Calls.Call.{find}
 use Rattle.format.specs.Calls.Answer.{answerIn}
 use Rattle.format.specs.Calls.Reply.{plain, onZero, foundReply, done}
 use Rattle.theory.specs.TreeFind.{reached}
-use Rattle.theory.proofs.Refusals.{RefusedLow, resolve-low}
 use Rattle.kinds.specs.Sizes.{geometryOf}
-use Rattle.kinds.specs.Numbers.{numberOf}
-use Rattle.kinds.specs.declared.Answer.{Answer}
+use Rattle.kinds.specs.Numbers.{refusalNumber}
 use Rattle.kinds.specs.declared.EntryId.{EntryId}
+use Rattle.kinds.specs.declared.Refusal.{Refusal}
 use Rattle.directory.specs.Listed.{entriesOf, DirectoryListed}
 use Rattle.paths.specs.Found.{foundOf, Inside}
 use Rattle.paths.specs.declared.Found.{Found as Way}
@@ -44,12 +42,9 @@ module _ (v : Volume) (path : Path) where
   unfolding replyIn onZero answerIn done answerOf entryOf
   found-reply g x e = rw (← e)
 
-  pub refused-late : (a : ℕ) → refused a ≡ resolve (v .directory) path → 20 ≤ a
-  refused-late a e = subst (λ f. RefusedLow f) (sym e) (resolve-low (v .directory) path) .0
-
-  refused-reply : (g : Geometry) (a : ℕ) → refused a ≡ resolve (v .directory) path → plain a ≡ replyIn g v (find path [])
+  refused-reply : (g : Geometry) (a : Refusal) → refused (refusalNumber a) ≡ resolve (v .directory) path → plain (refusalNumber a) ≡ replyIn g v (find path [])
   unfolding answerIn answerOf
-  refused-reply g a e = let l = refused-late a e in refused-in g v [] (find path []) a (rw (← e)) (omega arith) .0
+  refused-reply g a e = refused-in g v [] (find path []) a (rw (← e)) .0
 
 -- ---- the code's answers
 
@@ -76,7 +71,7 @@ module _ {v : Opened} {img : Bytes} {w : List ℕ} (o : Open v img w) where
         subst (λ u. FindRight (volume g img) path (Entry u)) (sym z)
         (subst (λ u. foundOf (volume g img .directory) u ≡ resolve (volume g img .directory) path) k says, (subst (λ d. x .0 < d .count) q l, (ap (λ d. kind (d .entry (x .0))) q, ap (λ d. size (d .entry (x .0))) q)))
 
-    pub find-refused : {a : Answer} → r ≡ Stopped a → FindRight (volume g img) path (Refused a)
+    pub find-refused : {a : Refusal} → r ≡ Stopped a → FindRight (volume g img) path (Refused a)
     find-refused {a} k = subst (λ u. foundOf (volume g img .directory) u ≡ resolve (volume g img .directory) path) k says
 
 pub found-inside : (e : Directory) (r : Way) {x : EntryId} → Inside e r → r ≡ At x → x .0 < e .count
@@ -87,4 +82,4 @@ pub find-says : (g : Geometry) (v : Volume) (path : Path) (f : Find) → FindRig
 unfolding foundReply
 find-says g v path (Entry e) h =
     ap₂ (λ k s. record { number = 0; entry = e .id .0; type = k; size = s; count = 0 }) (h .1 .1 .0) (h .1 .1 .1) ∙ found-reply v path g (e .id .0) (h .0)
-find-says g v path (Refused a) h = refused-reply v path g (numberOf a) h
+find-says g v path (Refused a) h = refused-reply v path g a h

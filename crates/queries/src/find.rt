@@ -5,14 +5,13 @@ ghost use Rattle.format.specs.Layout.Entry.{kind as kindOf, size as sizeOf};
 ghost use Rattle.format.specs.Layout.Volume.{volume as volumeOf};
 ghost use Rattle.kinds.specs.Sizes.{geometryOf};
 ghost use Rattle.directory.specs.Listed.{entriesOf, DirectoryListed};
-ghost use Rattle.queries.specs.Replies.{refusalOf};
 ghost use Rattle.queries.specs.Inside.{Open, FindRight};
 use directory::Directory;
 use directory::place;
 use entries::kind;
 use entries::size;
-use kinds::Answer;
 use kinds::EntryId;
+use kinds::Refusal;
 use paths::Found;
 use paths::find_entry;
 use volume::Volume;
@@ -26,7 +25,7 @@ pub struct Object {
 
 pub enum Find {
     Entry(Object),
-    Refused(Answer),
+    Refused(Refusal),
 }
 
 // The entry of a number.
@@ -55,12 +54,13 @@ pub fn find_in(path: &[u16], img: &[u8], work: &[u32], v: Volume) -> Find
     }
 }
 
-// The answer of a find that found no entry.
-pub fn refusal(f: Find) -> Answer
-    ensures { λ r. ⌜ r ≡ refusalOf f ⌝ }
+// The refusal of a find that found no entry. Nobody comes here with an entry, so its arm may give any refusal.
+pub fn refusal(f: Find) -> Refusal
+    requires { ⌜ ((a : Refusal) × (f ≡ Find.Refused a)) ⌝ }
+    ensures { λ r. ⌜ f ≡ Find.Refused r ⌝ }
 {
     match f {
-        Find::Entry(_) => Answer::Done,
+        Find::Entry(_) => Refusal::NotFound,
         Find::Refused(a) => a,
     }
 }

@@ -18,7 +18,7 @@ use super::find::find_in;
 use super::find::refusal;
 use directory::place;
 use entries::start;
-use kinds::Answer;
+use kinds::Refusal;
 use reading::read_units;
 use spaces::Unit;
 use spaces::kind_for;
@@ -26,7 +26,7 @@ use volume::Volume;
 
 pub enum Read {
     Done(usize),
-    Refused(Answer),
+    Refused(Refusal),
 }
 
 // The lesser of two counts.
@@ -74,10 +74,10 @@ pub fn read_in(
         return Read::Refused(refusal(f));
     };
     if e.kind != 2 {
-        return Read::Refused(Answer::NotAStream);
+        return Read::Refused(Refusal::NotAStream);
     }
     if e.size < offset {
-        return Read::Refused(Answer::Beyond);
+        return Read::Refused(Refusal::Beyond);
     }
     let n = least((e.size - offset) as usize, out.len());
     read_stream(img, work, v, e, offset as usize, &mut out[..n]);

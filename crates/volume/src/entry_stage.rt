@@ -18,8 +18,8 @@ use directory::Directory;
 use directory::listed::list_directory;
 use entry_rules::entry_rules;
 use hierarchy::tree_rules;
-use kinds::Answer;
 use kinds::Geometry;
+use kinds::Refusal;
 use le::zero_first;
 use tables::tables_of;
 
@@ -45,11 +45,11 @@ pub fn entry_groups(img: &[u8], work: &mut [u32], g: Geometry, n: usize) -> Open
 {
     let d = open_directory(img, work, g, n);
     if !entry_rules(img, work, d) {
-        return Opened::Refused(Answer::Entries);
+        return Opened::Refused(Refusal::Entries);
     }
     let m = n + 3 * d.count() + 1;
     if !tree_rules(img, &mut work[..m], d, n) {
-        return Opened::Refused(Answer::Trees);
+        return Opened::Refused(Refusal::Trees);
     }
     mini_groups(img, work, g, n)
 }

@@ -2,8 +2,8 @@
 ghost use Rattle.format.specs.Layout.Geometry.{version3};
 ghost use Rattle.volume.specs.Opened.{OpenedRight};
 use directory::Directory;
-use kinds::Answer;
 use kinds::Geometry;
+use kinds::Refusal;
 use le::zero_first;
 use minis::Minis;
 use table_stage::table_groups;
@@ -26,7 +26,7 @@ pub struct Volume {
 }
 
 pub enum Opened {
-    Refused(Answer),
+    Refused(Refusal),
     Ready(Volume),
 }
 
@@ -37,11 +37,11 @@ pub fn open_volume(img: &[u8], work: &mut [u32]) -> Opened
     let g = Geometry::V3;
     let n = img.len();
     if !length_allowed(n, g) {
-        return Opened::Refused(Answer::BadLength);
+        return Opened::Refused(Refusal::BadLength);
     }
     let need = work_need(n);
     if work.len() < need {
-        return Opened::Refused(Answer::ShortWork);
+        return Opened::Refused(Refusal::ShortWork);
     }
     zero_first(work, need);
     match table_groups(img, work, g) {

@@ -17,9 +17,9 @@ use directory::Directory;
 use directory::listed::list_directory;
 use directory::place;
 use entries::size;
-use kinds::Answer;
 use kinds::EntryId;
 use kinds::Geometry;
+use kinds::Refusal;
 use le::u32_at;
 use le::zero_first;
 use minis::Minis;
@@ -75,10 +75,10 @@ pub fn mini_groups(img: &[u8], work: &mut [u32], g: Geometry, n: usize) -> Opene
     let d = clear_marks(img, work, t, n);
     let a = mark_system(img, work, t, d);
     if a.is_broken() {
-        return Opened::Refused(Answer::Mini);
+        return Opened::Refused(Refusal::Mini);
     }
     match mini_table(img, work, t, d) {
-        MiniTable::Wrong => Opened::Refused(Answer::Mini),
+        MiniTable::Wrong => Opened::Refused(Refusal::Mini),
         MiniTable::Right(m) => owner_groups(img, work, t, d, m, a.is_shared()),
     }
 }

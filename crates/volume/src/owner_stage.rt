@@ -14,8 +14,8 @@ use directory::Directory;
 use directory::place;
 use entries::size;
 use entries::start;
-use kinds::Answer;
 use kinds::EntryId;
+use kinds::Refusal;
 use kinds::Sector;
 use minis::Minis;
 use owners::rules::minis_owned;
@@ -58,10 +58,10 @@ pub fn owner_groups(
     let a = sectors_owned(img, work, t, d, shared);
     let b = minis_owned(img, work, m, d);
     if a.is_broken() | b.is_broken() {
-        return Opened::Refused(Answer::Streams);
+        return Opened::Refused(Refusal::Streams);
     }
     if !(a.is_right() & b.is_right()) {
-        return Opened::Refused(Answer::Owners);
+        return Opened::Refused(Refusal::Owners);
     }
     Opened::Ready(list_stream(img, work, t, d, m))
 }

@@ -19,17 +19,17 @@ use Rattle.cfbls.proofs.put_refused.Tie as tie
 worded : (c : tie.After-slice-known2) → Placed (c .before .before .before .before .before .args .out .now) refusedWord (c .before .before .put-word .last .0) 8
 worded c = let s = c .before .before .before .before .before in word-placed (s .args .out .now) (omega (arith, s .pre)) (c .before .before .put-word .ensures)
 
-digits : (c : tie.After-slice-known3) → c .before .before .put-decimal .result ≡ length (decimal (c .before .before .before .number .result))
+digits : (c : tie.After-slice-known3) → c .before .before .put-decimal .result ≡ length (decimal (c .before .before .before .refusal-number .result))
 digits c = c .before .before .put-decimal .ensures .0
 
 -- the line has room
 few : (c : tie.After-slice-known3) → 9 + c .before .before .put-decimal .result ≤ length (c .before .before .before .before .before .before .before .before .before .before .args .out .now)
-few c = omega (arith, digits c, decimal-most (c .before .before .before .number .result), c .before .before .before .before .before .before .before .before .before .before .pre)
+few c = omega (arith, digits c, decimal-most (c .before .before .before .refusal-number .result), c .before .before .before .before .before .before .before .before .before .before .pre)
 
 -- and the number
 numbered : (c : tie.After-slice-known3) → let w = c .before .before .before .before .before .before .before .put-word .last .0 in
-    Placed (c .before .before .before .before .before .before .before .before .before .before .args .out .now) (refusedWord ++ decimal (c .before .before .before .number .result)) (putMid 8 (length w - 8) w (c .before .before .put-decimal .last .0)) (8 + c .before .before .put-decimal .result)
-numbered c = placed-lent (worded (c .before .before .before .before .before)) (decimal (c .before .before .before .number .result)) (omega (arith, digits c, few c)) (digits c) (c .before .before .put-decimal .ensures .1)
+    Placed (c .before .before .before .before .before .before .before .before .before .before .args .out .now) (refusedWord ++ decimal (c .before .before .before .refusal-number .result)) (putMid 8 (length w - 8) w (c .before .before .put-decimal .last .0)) (8 + c .before .before .put-decimal .result)
+numbered c = placed-lent (worded (c .before .before .before .before .before)) (decimal (c .before .before .before .refusal-number .result)) (omega (arith, digits c, few c)) (digits c) (c .before .before .put-decimal .ensures .1)
 
 pub put-refused-spec : {M : Type 1} → statement M
 put-refused-spec =
@@ -39,11 +39,11 @@ put-refused-spec =
     (λ c. search needs)  -- sub-put-decimal
     (λ c. search needs)  -- part-put-decimal-start
     (λ c. search needs)  -- part-put-decimal-end
-    (λ c κs. search needs)  -- number-requires
+    (λ c κs. search needs)  -- refusal-number-requires
     (λ c. search needs)  -- cast-put-decimal
     (λ c κs.
     rw (lent-length (c .before .before .before .before .put-word .last .0) 8)
-    (omega (arith, decimal-most (c .number .result), c .before .before .before .before .before .before .before .pre, placed-length (worded (c .before .before)))))  -- put-decimal-requires
+    (omega (arith, decimal-most (c .refusal-number .result), c .before .before .before .before .before .before .before .pre, placed-length (worded (c .before .before)))))  -- put-decimal-requires
     (λ c. omega (arith, few c))  -- add-out
     (λ c. omega (arith, few c, placed-length (numbered c)))  -- slice-write-out
     (λ c. omega (arith, few c))  -- add-result
@@ -52,5 +52,5 @@ put-refused-spec =
     (λ c.
     let s = c .before .before .before .before .before .before .before .before .before .before in
     let w = placed-set (numbered c) newline (omega (arith, few c)) in
-    let n = c .before .before .before .number .ensures in
-    (omega (arith, digits c, refused-length (c .before .before .before .number .result), ap (λ k. length (refusedLine k)) n), w .bytes ∙ ap (λ b. over b (s .args .out .now)) (refused-parts (c .before .before .before .number .result) ∙ ap refusedLine n))))  -- returns
+    let n = c .before .before .before .refusal-number .ensures in
+    (omega (arith, digits c, refused-length (c .before .before .before .refusal-number .result), ap (λ k. length (refusedLine k)) n), w .bytes ∙ ap (λ b. over b (s .args .out .now)) (refused-parts (c .before .before .before .refusal-number .result) ∙ ap refusedLine n))))  -- returns

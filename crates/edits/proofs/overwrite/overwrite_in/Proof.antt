@@ -1,8 +1,8 @@
 use borrow.Author.Needs.{needs}
 use mathlib.Core.Path.{sym, _∙_, subst}
-use native.Mathlib.Omega.{arith}
 use borrow.Author.Tests.{ltb-false}
 use Rattle.kinds.specs.Sizes.{geometryOf}
+use Rattle.kinds.specs.declared.Refusal.the-variants.{NotAStream}
 use Rattle.tables.proofs.WorkLaws.{wrote-none}
 use Rattle.queries.specs.Inside.{FindRight}
 use Rattle.queries.specs.declared.find.Find.the-variants.{Entry}
@@ -23,21 +23,21 @@ overwrite-in-spec =
     (λ c κs. c .before .before .before .before .before .before .pre)  -- find-in-requires
     (λ c. search needs)  -- enum-known-f
     (λ c. search needs)  -- enum-told
-    (λ c κs. search needs)  -- refusal-requires
+    (λ c κs. (c .enum-told .given .0 .0, c .enum-told .given .1))  -- refusal-requires
     (λ c. search needs)  -- same-length
     (λ c. search needs)  -- same-length-2
     (λ c.
     let a = c .before .before .before .before .before .before .before .before .before .before .args in
     let vol = volumeIn (a .v) (a .img .now) in
-    let z = find-stopped vol (a .path .now) _ (c .before .before .before .find-in .ensures) (c .before .enum-told .given .1) (c .refusal .ensures) in
-    let l = over-refused (geometryOf (a .v .tables .geometry)) vol (a .img .now) (a .path .now) (a .offset) (a .bytes .now) _ (z .0) (z .1) in
+    let z = find-stopped vol (a .path .now) _ (c .before .before .before .find-in .ensures) (c .refusal .ensures) in
+    let l = over-refused (geometryOf (a .v .tables .geometry)) vol (a .img .now) (a .path .now) (a .offset) (a .bytes .now) (c .refusal .result) z in
     (l .0, (l .1, wrote-none _ 0 _)))  -- returns
     (λ c. search needs)  -- same-length-3
     (λ c. search needs)  -- same-length-4
     (λ c.
     let a = c .before .before .before .before .before .before .before .before .before .before .before .before .args in
     let vol = volumeIn (a .v) (a .img .now) in
-    let l = over-refused (geometryOf (a .v .tables .geometry)) vol (a .img .now) (a .path .now) (a .offset) (a .bytes .now) 23 (find-other vol (a .path .now) _ (found (c .before .before .before)) (c .if1 .taken)) (omega arith) in
+    let l = over-refused (geometryOf (a .v .tables .geometry)) vol (a .img .now) (a .path .now) (a .offset) (a .bytes .now) NotAStream (find-other vol (a .path .now) _ (found (c .before .before .before)) (c .if1 .taken)) in
     (l .0, (l .1, wrote-none _ 0 _)))  -- returns-2
     (λ c κs. search needs)  -- ends-beyond-requires
     (λ c. search needs)  -- same-length-5

@@ -24,8 +24,8 @@ read-in-spec =
     (λ c κs. c .before .before .before .before .pre)  -- find-in-requires
     (λ c. search needs)  -- enum-known-f
     (λ c. search needs)  -- enum-told
-    (λ c κs. search needs)  -- refusal-requires
-    (λ c. let p = c .before .before .before .before .before .before .before .before .args in read-stopped _ _ (p .img .now) (p .path .now) (p .offset) (p .out .now) _ (c .before .before .before .find-in .ensures) (c .before .enum-told .given .1) (c .refusal .ensures))  -- returns
+    (λ c κs. (c .enum-told .given .0 .0, c .enum-told .given .1))  -- refusal-requires
+    (λ c. let p = c .before .before .before .before .before .before .before .before .args in read-stopped _ _ (p .img .now) (p .path .now) (p .offset) (p .out .now) _ (c .before .before .before .find-in .ensures) (c .refusal .ensures))  -- returns
     (λ c. let p = c .before .before .before .before .before .before .before .before .before .before .args in read-not-stream _ _ (p .img .now) (p .path .now) (p .offset) (p .out .now) _ (found (c .before .before .before)) (c .if1 .taken))  -- returns-2
     (λ c. let p = c .before .before .before .before .before .before .before .before .before .before .before .before .args in read-beyond _ _ (p .img .now) (p .path .now) (p .offset) (p .out .now) _ (found (c .before .before .before .before .before)) (c .before .before .if1 .left) (c .if2 .taken))  -- returns-3
     (λ c κs. search needs)  -- least-requires

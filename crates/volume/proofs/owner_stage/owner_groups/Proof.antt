@@ -60,7 +60,7 @@ owner-groups-spec =
     (λ c.
     let m = c .before .before .before .before .before in
     let e = streams-break _ _ (m .before .before .before .before .sectors-owned .ensures .0) (minis m) (sym (broken (c .before)) ∙ c .if1 .taken) in
-    record { outcome = (sym e, λ z. omega (arith, e)); wrote = wrote m })  -- returns
+    record { outcome = sym e; wrote = wrote m })  -- returns
     (λ c κs. search needs)  -- is-right-requires
     (λ c κs. search needs)  -- is-right-requires-2
     (λ c. search needs)  -- same-length-2
@@ -68,7 +68,7 @@ owner-groups-spec =
     let o = c .before .before .before in
     let m = o .before .before .before .before .before in
     let e = owners-break _ _ (m .before .before .before .before .sectors-owned .ensures .0) (minis m) (sym (broken (o .before)) ∙ o .if1 .left) (sym (right (c .before)) ∙ not-true _ (c .if2 .taken)) in
-    record { outcome = (sym e, λ z. omega (arith, e)); wrote = wrote m })  -- returns-2
+    record { outcome = sym e; wrote = wrote m })  -- returns-2
     (λ c κs. second (c .before .before .before .before .before .before .before .before .before))  -- list-stream-requires
     (λ c. c .before .before .list-stream .kept .1 .0 ∙ wrote (c .before .before .before .before .before .before .before .before .before .before .before .before) .long)  -- same-length-3
     (λ c.
