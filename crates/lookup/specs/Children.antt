@@ -11,6 +11,6 @@ use Rattle.lookup.specs.declared.Child.the-variants.{Missing, Present}
 abbrev pub childAmong : Directory → Name → ℕ → Child
 childAmong e want top = childNamed e want (at e top)
 
-abbrev pub foundChild : Directory → Answer → Child
-foundChild e Missing = missing
-foundChild e (Present x) = present (x .0) (at e (childOf e (x .0)))
+abbrev pub answerOf : Directory → Answer → Child
+answerOf e Missing = missing
+answerOf e (Present x) = present (x .0) (at e (childOf e (x .0)))

@@ -2,7 +2,7 @@
 ghost use mathlib.Core.Path.{_≡_};
 ghost use Rattle.theory.specs.TreeFind.{Searchable};
 ghost use Rattle.directory.specs.Listed.{entriesOf, DirectoryListed, Ruled};
-ghost use Rattle.lookup.specs.Children.{childAmong, foundChild};
+ghost use Rattle.lookup.specs.Children.{childAmong, answerOf};
 use directory::Directory;
 use directory::left_of;
 use directory::order_to;
@@ -20,7 +20,7 @@ pub fn find_child(want: &[u16], img: &[u8], work: &[u32], d: Directory, top: Ent
     requires { ⌜ DirectoryListed d (now img) (now work) ⌝ }
     requires { ⌜ Ruled (entriesOf d (now img)) ⌝ }
     requires { ⌜ Searchable (entriesOf d (now img)) (top .0) ⌝ }
-    ensures { λ r. ⌜ foundChild (entriesOf d (now (img .entry))) r ≡ childAmong (entriesOf d (now (img .entry))) (now (want .entry)) (top .0) ⌝ }
+    ensures { λ r. ⌜ answerOf (entriesOf d (now (img .entry))) r ≡ childAmong (entriesOf d (now (img .entry))) (now (want .entry)) (top .0) ⌝ }
 {
     let mut x = top;
     loop {
