@@ -2,10 +2,14 @@
 use Prim.Native.Nat.{ℕ, _+_, _≤_}
 use lib.ListN.{length}
 use Rattle.format.specs.Basics.Bytes.{Bytes, part}
-use Rattle.format.specs.Layout.Entry.{nameBytes}
+use Rattle.format.specs.Layout.Name.{Name}
+use Rattle.format.specs.Layout.Entry.{nameBytes, name}
 
 abbrev pub entryAt : Bytes → ℕ → Bytes
 entryAt img p = part img p 128
+
+abbrev pub nameAt : Bytes → ℕ → Name
+nameAt img p = name (entryAt img p)
 
 -- n bytes at offset o of the entry at p
 pub record Field (img : Bytes) (p o n : ℕ) : Type 0 where

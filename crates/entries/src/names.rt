@@ -3,9 +3,9 @@ ghost use mathlib.Core.Path.{_≡_};
 ghost use Prim.Native.Nat.{_+_, _*_, _≤_};
 ghost use lib.ListN.{length};
 ghost use Rattle.format.specs.Layout.Name.{fold as folded, legalUnit};
-ghost use Rattle.format.specs.Layout.Entry.{nameUnit, name};
+ghost use Rattle.format.specs.Layout.Entry.{nameUnit};
 ghost use Rattle.kinds.specs.Ordering.{ordering};
-ghost use Rattle.entries.specs.Entry.{entryAt, Field, NamedAt};
+ghost use Rattle.entries.specs.Entry.{entryAt, nameAt, Field, NamedAt};
 use super::half;
 use super::name_bytes;
 use kinds::Order;
@@ -15,7 +15,7 @@ use kinds::Order;
 // How many units the name has, without the zero unit that ends it.
 pub fn name_units(img: &[u8], p: usize) -> usize
     requires { ⌜ p + 128 ≤ length (now img) ⌝ }
-    ensures { λ r. ⌜ r ≡ length (name (entryAt (now (img .entry)) p)) ⌝ }
+    ensures { λ r. ⌜ r ≡ length (nameAt (now (img .entry)) p) ⌝ }
 {
     let n = name_bytes(img, p);
     if n < 2 {
@@ -56,7 +56,7 @@ pub fn legal_unit(u: u16) -> bool
 pub fn compare(img: &[u8], p: usize, q: usize) -> Order
     requires { ⌜ NamedAt (now img) p ⌝ }
     requires { ⌜ NamedAt (now img) q ⌝ }
-    ensures { λ r. ⌜ r ≡ ordering (name (entryAt (now (img .entry)) p)) (name (entryAt (now (img .entry)) q)) ⌝ }
+    ensures { λ r. ⌜ r ≡ ordering (nameAt (now (img .entry)) p) (nameAt (now (img .entry)) q) ⌝ }
 {
     let n = name_units(img, p);
     let m = name_units(img, q);
@@ -84,7 +84,7 @@ pub fn compare(img: &[u8], p: usize, q: usize) -> Order
 // A name by itself to that of the entry at q.
 pub fn compare_name(want: &[u16], img: &[u8], q: usize) -> Order
     requires { ⌜ NamedAt (now img) q ⌝ }
-    ensures { λ r. ⌜ r ≡ ordering (now (want .entry)) (name (entryAt (now (img .entry)) q)) ⌝ }
+    ensures { λ r. ⌜ r ≡ ordering (now (want .entry)) (nameAt (now (img .entry)) q) ⌝ }
 {
     let n = want.len();
     let k = name_units(img, q);

@@ -1,10 +1,11 @@
 // The place of each entry in its tree: its order to both sides, and its colour.
 ghost use mathlib.Core.Path.{_≡_};
 ghost use mathlib.Core.Bool.{true};
-ghost use Rattle.format.specs.Rules.Trees.{topBlack, coloured};
-ghost use Rattle.theory.specs.TreeViews.{at, leftOf, rightOf, soundAt, shapeOk, testAt, Standing};
-ghost use Rattle.theory.specs.TreeOrder.{lastLess, firstMore, placeOk, placesOk, LastIs, FirstIs};
+ghost use Rattle.format.specs.Rules.Trees.{topBlack};
+ghost use Rattle.theory.specs.TreeViews.{at, soundAt, shapeOk, Standing};
+ghost use Rattle.theory.specs.TreeOrder.{placeOk, placesOk, LastIs, FirstIs};
 ghost use Rattle.directory.specs.Listed.{entriesOf, DirectoryListed, Ruled};
+ghost use Rattle.hierarchy.specs.Places.{leftOrdered, rightOrdered, colouredAt};
 use directory::Directory;
 use directory::child_of;
 use directory::colour_of;
@@ -53,7 +54,7 @@ fn left_ordered(img: &[u8], work: &[u32], d: Directory, x: EntryId) -> bool
     requires { ⌜ DirectoryListed d (now img) (now work) ⌝ }
     requires { ⌜ Ruled (entriesOf d (now img)) ⌝ }
     requires { ⌜ Standing (entriesOf d (now img)) (x .0) ⌝ }
-    ensures { λ r. ⌜ r ≡ lastLess (entriesOf d (now (img .entry))) (at (entriesOf d (now (img .entry))) (leftOf (entriesOf d (now (img .entry))) (x .0))) (x .0) ⌝ }
+    ensures { λ r. ⌜ r ≡ leftOrdered (entriesOf d (now (img .entry))) (x .0) ⌝ }
 {
     let left = left_of(img, work, d, x);
     if left.is_none() {
@@ -68,7 +69,7 @@ fn right_ordered(img: &[u8], work: &[u32], d: Directory, x: EntryId) -> bool
     requires { ⌜ DirectoryListed d (now img) (now work) ⌝ }
     requires { ⌜ Ruled (entriesOf d (now img)) ⌝ }
     requires { ⌜ Standing (entriesOf d (now img)) (x .0) ⌝ }
-    ensures { λ r. ⌜ r ≡ firstMore (entriesOf d (now (img .entry))) (x .0) (at (entriesOf d (now (img .entry))) (rightOf (entriesOf d (now (img .entry))) (x .0))) ⌝ }
+    ensures { λ r. ⌜ r ≡ rightOrdered (entriesOf d (now (img .entry))) (x .0) ⌝ }
 {
     let right = right_of(img, work, d, x);
     if right.is_none() {
@@ -96,7 +97,7 @@ pub fn black(img: &[u8], work: &[u32], d: Directory, x: EntryId) -> bool
 fn colours(img: &[u8], work: &[u32], d: Directory, x: EntryId) -> bool
     requires { ⌜ DirectoryListed d (now img) (now work) ⌝ }
     requires { ⌜ Standing (entriesOf d (now img)) (x .0) ⌝ }
-    ensures { λ r. ⌜ r ≡ testAt (entriesOf d (now (img .entry))) (coloured (entriesOf d (now (img .entry)))) (x .0) ⌝ }
+    ensures { λ r. ⌜ r ≡ colouredAt (entriesOf d (now (img .entry))) (x .0) ⌝ }
 {
     let red = colour_of(img, work, d, x) == 0;
     let left = black(img, work, d, left_of(img, work, d, x));
@@ -124,15 +125,14 @@ pub fn places(img: &[u8], work: &[u32], d: Directory) -> bool
     ensures { λ r. ⌜ r ≡ placesOk (entriesOf d (now (img .entry))) ⌝ }
 {
     let n = d.count();
-    let mut i = 0;
-    while i < n {
-        let x = EntryId(i as u32);
+    let mut x = EntryId::ROOT;
+    while x.index() < n {
         if object(img, work, d, x) {
             if !place_ok(img, work, d, x) {
                 return false;
             }
         }
-        i += 1;
+        x = x.next();
     }
     true
 }

@@ -20,7 +20,7 @@ use Rattle.directory.specs.declared.Directory.{Directory as Where}
 use Rattle.directory.specs.Listed.{entriesOf, directoryAt, DirectoryListed}
 use Rattle.directory.proofs.Places.{count-is}
 use Rattle.directory.proofs.Room.{walk-room}
-use Rattle.hierarchy.specs.Lent.{Lent}
+use Rattle.tree_walk.specs.Lent.{Lent}
 use Rattle.volume.specs.Passed.{TablesHold}
 use Rattle.volume.proofs.Outcomes.{wrote-ours}
 

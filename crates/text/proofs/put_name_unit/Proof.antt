@@ -5,8 +5,8 @@ use mathlib.Core.Path.{_≡_, sym, _∙_}
 use mathlib.Core.Bool.{true, false}
 use lib.ListN.{length, length-set}
 use Rattle.text.proofs.Units.{plain, plain-byte, length-plain, length-coded, put-plain, put-coded}
-use Rattle.text.proofs.put_unit.Statement.{statement}
-use Rattle.text.proofs.put_unit.Tie as tie
+use Rattle.text.proofs.put_name_unit.Statement.{statement}
+use Rattle.text.proofs.put_name_unit.Tie as tie
 
 is-plain : (c : tie.Then1) → plain (c .before .before .before .args .u) ≡ true
 is-plain c = sym (c .before .plain .ensures) ∙ c .if1 .taken
@@ -17,8 +17,8 @@ is-coded c = sym (c .before .plain .ensures) ∙ c .if1 .left
 room : (c : tie.Else1) → 5 ≤ length (c .before .before .before .args .out .now)
 room c = omega (arith, length-coded (c .before .before .before .args .u) (is-coded c), c .before .before .before .pre)
 
-pub put-unit-spec : {M : Type 1} → statement M
-put-unit-spec =
+pub put-name-unit-spec : {M : Type 1} → statement M
+put-name-unit-spec =
     tie.close
     (tie.spec
     (λ c κs. search needs)  -- plain-requires

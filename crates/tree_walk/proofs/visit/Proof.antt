@@ -3,8 +3,8 @@ use Prim.Native.Nat.{_+_, _<_}
 use native.Mathlib.Omega.{arith}
 use lib.ListN.{length, length-set}
 use Rattle.directory.proofs.Places.{count-is}
-use Rattle.hierarchy.proofs.walk.visit.Statement.{statement}
-use Rattle.hierarchy.proofs.walk.visit.Tie as tie
+use Rattle.tree_walk.proofs.visit.Statement.{statement}
+use Rattle.tree_walk.proofs.visit.Tie as tie
 
 -- the mark lies in the work buffer
 mark-in : (c : tie.After-index) → let p = c .before .before .before .before .before .before .before .before .before .args in p .base + c .index .result < length (p .work .now)

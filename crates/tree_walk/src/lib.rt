@@ -1,11 +1,10 @@
 // The walk over the trees: it marks each entry that it meets, and keeps the numbers that are still to follow on a stack.
 ghost use mathlib.Core.Path.{_≡_};
 ghost use Prim.Native.Nat.{_+_, _≤_, _<_};
-ghost use lib.ListN.{length, set, take};
-ghost use Rattle.theory.specs.TreeViews.{leftOf, rightOf, childOf};
-ghost use Rattle.theory.specs.TreeWalk.{fresh as isFresh, covered as allMarked, marksIn, Followed};
+ghost use lib.ListN.{length, take};
+ghost use Rattle.theory.specs.TreeWalk.{fresh as isFresh, covered as allMarked, Followed};
 ghost use Rattle.directory.specs.Listed.{entriesOf};
-ghost use Rattle.hierarchy.specs.Lent.{Room, Lent};
+ghost use Rattle.tree_walk.specs.Lent.{marksOf, Room, Lent, visited};
 use directory::Directory;
 use directory::child_of;
 use directory::left_of;
@@ -16,16 +15,15 @@ use kinds::EntryId;
 // Whether x names a storage or a stream that has no mark yet.
 fn fresh(img: &[u8], work: &[u32], d: Directory, base: usize, x: EntryId) -> bool
     requires { ⌜ Room d (now img) (now work) base ⌝ }
-    ensures { λ r. ⌜ r ≡ isFresh (entriesOf d (now (img .entry))) (marksIn (entriesOf d (now (img .entry))) base (now (work .entry))) (x .0) ⌝ }
+    ensures { λ r. ⌜ r ≡ isFresh (entriesOf d (now (img .entry))) (marksOf d (now (img .entry)) base (now (work .entry))) (x .0) ⌝ }
 {
-    let i = x.index();
-    if i == 0 {
+    if x.is_root() {
         return false;
     }
-    if i >= d.count() {
+    if !x.below(d.count()) {
         return false;
     }
-    object(img, work, d, x) & (work[base + i] == 0)
+    object(img, work, d, x) & (work[base + x.index()] == 0)
 }
 
 // Marks x, and puts its three fields on the stack from `top` on.
@@ -33,13 +31,12 @@ fn visit(img: &[u8], work: &mut [u32], d: Directory, base: usize, x: EntryId, to
     requires { ⌜ Room d (now img) (now work) base ⌝ }
     requires { ⌜ x .0 < entriesOf d (now img) .count ⌝ }
     requires { ⌜ top + 3 ≤ length (now work) ⌝ }
-    ensures { λ _. ⌜ now (work .exit) ≡ set (set (set (set (now (work .entry)) (base + x .0) 1) top (leftOf (entriesOf d (now (img .entry))) (x .0))) (top + 1) (childOf (entriesOf d (now (img .entry))) (x .0))) (top + 2) (rightOf (entriesOf d (now (img .entry))) (x .0)) ⌝ }
+    ensures { λ _. ⌜ now (work .exit) ≡ visited (entriesOf d (now (img .entry))) base (x .0) top (now (work .entry)) ⌝ }
 {
     let left = left_of(img, work, d, x);
     let child = child_of(img, work, d, x);
     let right = right_of(img, work, d, x);
-    let i = x.index();
-    work[base + i] = 1;
+    work[base + x.index()] = 1;
     work[top] = left.0;
     work[top + 1] = child.0;
     work[top + 2] = right.0;
@@ -48,7 +45,8 @@ fn visit(img: &[u8], work: &mut [u32], d: Directory, base: usize, x: EntryId, to
 // Follows every field from the root's child on. False if it meets a number that names no object, or an object a second time.
 pub fn follow(img: &[u8], work: &mut [u32], d: Directory, base: usize) -> bool
     requires { ⌜ Lent d (now img) (now work) base ⌝ }
-    ensures { λ r. ⌜ Followed (entriesOf d (now (img .entry))) r (marksIn (entriesOf d (now (img .entry))) base (now (work .exit))) × (take base (now (work .exit)) ≡ take base (now (work .entry))) ⌝ }
+    ensures answer { λ r. ⌜ Followed (entriesOf d (now (img .entry))) r (marksOf d (now (img .entry)) base (now (work .exit))) ⌝ }
+    ensures kept { λ _. ⌜ take base (now (work .exit)) ≡ take base (now (work .entry)) ⌝ }
 {
     let stack = base + d.count();
     let first = child_of(img, work, d, EntryId::ROOT);
@@ -71,15 +69,15 @@ pub fn follow(img: &[u8], work: &mut [u32], d: Directory, base: usize) -> bool
 // Whether each storage and each stream has a mark.
 pub fn covered(img: &[u8], work: &[u32], d: Directory, base: usize) -> bool
     requires { ⌜ Room d (now img) (now work) base ⌝ }
-    ensures { λ r. ⌜ r ≡ allMarked (entriesOf d (now (img .entry))) (marksIn (entriesOf d (now (img .entry))) base (now (work .entry))) ⌝ }
+    ensures { λ r. ⌜ r ≡ allMarked (entriesOf d (now (img .entry))) (marksOf d (now (img .entry)) base (now (work .entry))) ⌝ }
 {
     let n = d.count();
-    let mut i = 0;
-    while i < n {
-        if (work[base + i] == 0) & object(img, work, d, EntryId(i as u32)) {
+    let mut x = EntryId::ROOT;
+    while x.index() < n {
+        if (work[base + x.index()] == 0) & object(img, work, d, x) {
             return false;
         }
-        i += 1;
+        x = x.next();
     }
     true
 }

@@ -11,10 +11,10 @@ use Rattle.theory.specs.TreeWalk.{zeros, fresh, marksIn}
 use Rattle.theory.proofs.Loops.{said-yes, said-no}
 use Rattle.directory.specs.Listed.{countOf, entriesOf}
 use Rattle.directory.proofs.Places.{countable, root-inside}
-use Rattle.hierarchy.proofs.Entries.{none-yes, none-no}
-use Rattle.hierarchy.proofs.Walks.{Going, stack-in, start-kept, going-start, going-pop, going-skip, going-wrong, going-inside, going-room, going-less, going-mark, going-end}
-use Rattle.hierarchy.proofs.walk.follow.Statement.{statement}
-use Rattle.hierarchy.proofs.walk.follow.Tie as tie
+use Rattle.directory.proofs.Fields.{none-yes, none-no}
+use Rattle.tree_walk.proofs.Walks.{Going, stack-in, start-kept, going-start, going-pop, going-skip, going-wrong, going-inside, going-room, going-less, going-mark, going-end}
+use Rattle.tree_walk.proofs.follow.Statement.{statement}
+use Rattle.tree_walk.proofs.follow.Tie as tie
 
 abbrev Inv-loop : tie.InvT-loop
 Inv-loop img work₀ d base stack top₀ work top = Going d img base work₀ work top

@@ -12,7 +12,7 @@ use Rattle.format.specs.Basics.Bytes.{Bytes}
 use Rattle.format.specs.Layout.Entry.{NOSTREAM}
 use Rattle.format.specs.Layout.Directory.{Directory}
 use Rattle.format.specs.Rules.Trees.{isObject}
-use Rattle.theory.specs.TreeViews.{rows, leftOf, rightOf, childOf, shapeOk}
+use Rattle.theory.specs.TreeViews.{rows, childOf, shapeOk}
 use Rattle.theory.specs.TreeWalk.{zeros, fresh, Followed, marksIn, Walking}
 use Rattle.theory.proofs.Trees.Marks.{fresh-zero, fresh-past}
 use Rattle.theory.proofs.Trees.Slices.{fresh-in}
@@ -20,7 +20,7 @@ use Rattle.theory.proofs.Trees.Walking.{start-list, walking-start, walking-pop,
 use Rattle.directory.specs.Listed.{countOf, entriesOf}
 use Rattle.directory.specs.declared.Directory.{Directory as Where}
 use Rattle.directory.proofs.Places.{count-is}
-use Rattle.hierarchy.specs.Lent.{Room, Lent}
+use Rattle.tree_walk.specs.Lent.{Room, Lent, visited}
 
 -- a buffer that is the same before `base` has the same list
 module _ (base : ℕ) (w v : List ℕ) (e : take base v ≡ take base w) where
@@ -42,24 +42,24 @@ module _ (base : ℕ) (w v : List ℕ) (e : take base v ≡ take base w) where
     room = omega (arith, r .room, h);
   }
 
--- ---- the test of a number x, test by test: i is x as an index, n how many entries there are
+-- ---- the test of a number x, test by test: n is how many entries there are
 
-module _ {d : Where} {img : Bytes} {base : ℕ} {w : List ℕ} (r : Room d img w base) {x i : ℕ} (ei : i ≡ x) where
+module _ {d : Where} {img : Bytes} {base : ℕ} {w : List ℕ} (r : Room d img w base) (x : ℕ) where
   abbrev isFresh : Bool
   isFresh = fresh (entriesOf d img) (marksIn (entriesOf d img) base w) x
 
-  pub root-not-fresh : i ≡ 0 → false ≡ isFresh
-  root-not-fresh z = sym (fresh-zero (entriesOf d img) (marksIn (entriesOf d img) base w) x (omega (arith, ei)))
+  pub root-not-fresh : x ≡ 0 → false ≡ isFresh
+  root-not-fresh z = sym (fresh-zero (entriesOf d img) (marksIn (entriesOf d img) base w) x z)
 
   module _ {n : ℕ} (en : n ≡ countOf d) where
-    pub beyond-not-fresh : n ≤ i → false ≡ isFresh
-    beyond-not-fresh h = sym (fresh-past (entriesOf d img) (marksIn (entriesOf d img) base w) x (omega (arith, ei, en, count-is (r .listed))))
+    pub beyond-not-fresh : n ≤ x → false ≡ isFresh
+    beyond-not-fresh h = sym (fresh-past (entriesOf d img) (marksIn (entriesOf d img) base w) x (omega (arith, en, count-is (r .listed))))
 
-    pub entry-inside : i < n → x < entriesOf d img .count
-    entry-inside h = omega (arith, ei, en, count-is (r .listed))
+    pub entry-inside : x < n → x < entriesOf d img .count
+    entry-inside h = omega (arith, en, count-is (r .listed))
 
-    pub entry-fresh : i ≢ 0 → i < n → {o : Bool} → o ≡ isObject (entriesOf d img) x → (o && eqb (getD w (base + i) 0) 0) ≡ isFresh
-    entry-fresh z h eo = rw (eo, ei) (sym (fresh-in (entriesOf d img) base w x (entry-inside h) (λ q. z (ei ∙ q))))
+    pub entry-fresh : x ≢ 0 → x < n → {o : Bool} → o ≡ isObject (entriesOf d img) x → (o && eqb (getD w (base + x) 0) 0) ≡ isFresh
+    entry-fresh z h eo = rw eo (sym (fresh-in (entriesOf d img) base w x (entry-inside h) z))
 
 -- ---- the loop
 
@@ -113,8 +113,7 @@ module _ {d : Where} {img : Bytes} {base : ℕ} {w₀ w : List ℕ} {top : ℕ} 
         pub going-room : p + 3 ≤ length w
         going-room = walking-room e base w₀ w top p place (g .walking) h k f
 
-        module _ {v : List ℕ}
-            (ev : v ≡ set (set (set (set w (base + getD w p 0) 1) p (leftOf e (getD w p 0))) (p + 1) (childOf e (getD w p 0))) (p + 2) (rightOf e (getD w p 0))) where
+        module _ {v : List ℕ} (ev : v ≡ visited e base (getD w p 0) p w) where
           pub going-less : 3 * zeros (marksIn e base v) + (top - 1 + 3) < 3 * zeros (marksIn e base w) + top
           going-less = walking-less e base w₀ w top p place (g .walking) h k f _ _ _ v refl refl refl ev
 

@@ -1,11 +1,11 @@
 use borrow.Author.Needs.{needs}
 use mathlib.Core.Path.{sym, _∙_}
 use Rattle.text.proofs.Units.{length-plain, length-coded}
-use Rattle.text.proofs.unit_length.Statement.{statement}
-use Rattle.text.proofs.unit_length.Tie as tie
+use Rattle.text.proofs.name_unit_length.Statement.{statement}
+use Rattle.text.proofs.name_unit_length.Tie as tie
 
-pub unit-length-spec : {M : Type 1} → statement M
-unit-length-spec =
+pub name-unit-length-spec : {M : Type 1} → statement M
+name-unit-length-spec =
     tie.close
     (tie.spec
     (λ c κs. search needs)  -- plain-requires

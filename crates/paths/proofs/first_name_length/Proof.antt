@@ -5,8 +5,8 @@ use native.Mathlib.Omega.{arith}
 use lib.ListN.{length, drop}
 use Rattle.paths.specs.Found.{firstName}
 use Rattle.paths.proofs.Splits.{first-slash, first-unit, first-end}
-use Rattle.paths.proofs.name_length.Statement.{statement}
-use Rattle.paths.proofs.name_length.Tie as tie
+use Rattle.paths.proofs.first_name_length.Statement.{statement}
+use Rattle.paths.proofs.first_name_length.Tie as tie
 
 abbrev Inv-loop : tie.InvT-loop
 Inv-loop path i₀ i = (i ≤ length path) × (length (firstName path) ≡ i + length (firstName (drop i path)))
@@ -14,8 +14,8 @@ Inv-loop path i₀ i = (i ≤ length path) × (length (firstName path) ≡ i + l
 abbrev μ-loop : tie.MeasureT-loop
 μ-loop path i₀ i = length path - i
 
-pub name-length-spec : {M : Type 1} → statement M
-name-length-spec =
+pub first-name-length-spec : {M : Type 1} → statement M
+first-name-length-spec =
     tie.close
     (tie.spec Inv-loop μ-loop
     (λ c. (omega arith, omega arith))  -- loop-holds
