@@ -18,27 +18,16 @@ use Rattle.tables.specs.Work.{Wrote}
 use Rattle.entries.specs.Entry.{entryAt}
 use Rattle.directory.specs.Listed.{countOf, entriesOf, placeOf}
 use Rattle.directory.specs.declared.Directory.{Directory as Where}
-use Rattle.listing.specs.Lines.{head, before, lineLength, firstWord}
+use Rattle.listing.specs.Lines.{head, before, lineLength}
 use Rattle.listing.specs.Walks.{pairs, turned}
 use Rattle.listing.proofs.LineLengths.{line-parts, length-line}
-use Rattle.listing.proofs.LineWrites.{Placed, placed-behind, placed-length}
+use Rattle.text.proofs.Filled.{Filled, filled-behind, filled-length}
 use Rattle.listing.proofs.Prints.{before-front}
 use Rattle.listing.proofs.Walked.{pathOf}
 use Rattle.listing.proofs.Measures.{listing-length}
 use Rattle.listing.proofs.Walks.{Walks, walks-end, walks-room, walks-line, walks-entry, walks-parent, walks-more, path}
 
 -- ---- the first line
-
-pub word-written : (out : Bytes) → 8 ≤ length out
-    → set (set (set (set (set (set (set (set out 0 0x6F) 1 0x62) 2 0x6A) 3 0x65) 4 0x63) 5 0x74) 6 0x73) 7 0x20 ≡ over firstWord out
-word-written out h = over-sets firstWord out h
-
-pub first-placed : (out : Bytes) {now : Bytes} → 8 ≤ length out → now ≡ over firstWord out → Placed out firstWord now 8
-first-placed out h q = record { bytes = q; count = refl; room = h }
-
-pub first-parts : (n : ℕ) → (firstWord ++ decimal n) ++ (newline ∷ []) ≡ firstLine n
-unfolding firstLine
-first-parts n = refl
 
 -- ---- the loop
 
@@ -48,7 +37,7 @@ pub record Writing (d : Where) (img : Bytes) (objects : ℕ) (out₀ : Bytes) (w
   pub text : Bytes
   pub done : Bytes
   pub walks : Walks d img w₀ w n count text done
-  pub placed : Placed out₀ (firstLine objects ++ done) out at
+  pub placed : Filled out₀ (firstLine objects ++ done) out at
   pub here : take (length text) (drop from out) ≡ text
   pub behind : from + length text ≤ at
 
@@ -126,7 +115,7 @@ module _ {d : Where} {img : Bytes} {objects : ℕ} {out₀ : Bytes} {w₀ w : Li
         omega (arith, room, ap length whole-is, length-append (firstLine objects) (lines e [] (whole e)), length-append (firstLine objects) (m .done), m .placed .count, walks-room (m .walks) h)
 
     pub line-fits : at + lineLength (entryAt img i) p ≤ length out
-    line-fits = omega (arith, all-room, walks-line (m .walks) h i q, placed-length (m .placed))
+    line-fits = omega (arith, all-room, walks-line (m .walks) h i q, filled-length (m .placed))
 
     -- the parent's path is read from the last line's
     text-here : before p (drop from out) ++ printName (name (entryAt img i)) ≡ path (m .walks) h
@@ -143,9 +132,9 @@ module _ {d : Where} {img : Bytes} {objects : ℕ} {out₀ : Bytes} {w₀ w : Li
       kl : k ≡ length l
       kl = ek ∙ walks-line (m .walks) h i q
 
-      line-placed : Placed out₀ ((firstLine objects ++ m .done) ++ l) out′ (at + k)
+      line-placed : Filled out₀ ((firstLine objects ++ m .done) ++ l) out′ (at + k)
       line-placed =
-          placed-behind (m .placed) l all-room kl
+          filled-behind (m .placed) l all-room kl
           (eo ∙ rw (text-here, ← ek, walks-entry (m .walks) h i q))
 
       pub writing-more : {w′ : List ℕ} (n′ : ℕ) → pairs w′ n′ ≡ turned e x p (pairs w (n - 1)) → Wrote w w′ 0 (2 * countOf d)

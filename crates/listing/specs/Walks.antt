@@ -18,6 +18,13 @@ unfoldable pub pairs : List ℕ → ℕ → List (ℕ × ℕ)
 pairs w zero = []
 pairs w (suc n) = (getD w (2 * n) 0, getD w (2 * n + 1) 0) ∷ pairs w n
 
+-- the entry of pair k, and the length of its parent's path
+abbrev pub entryOn : List ℕ → ℕ → ℕ
+entryOn w k = getD w (2 * k) 0
+
+abbrev pub parentOn : List ℕ → ℕ → ℕ
+parentOn w k = getD w (2 * k + 1) 0
+
 -- the left spine of a tree whose entries' parent has a path so long
 unfoldable pub spine : ℕ → Forest → List (ℕ × ℕ)
 spine n empty = []
@@ -31,6 +38,10 @@ pathLength e x n = beforeLength n + length (printName (name (e .entry x)))
 -- the stack when the entry x was taken off: its right side is put on, then the tree below it
 unfoldable pub turned : Directory → ℕ → ℕ → List (ℕ × ℕ) → List (ℕ × ℕ)
 turned e x n ps = spine (pathLength e x n) (at e (childOf e x)) ++ (spine n (at e (rightOf e x)) ++ ps)
+
+-- the same, where x is the entry of pair k
+abbrev pub turnedAt : Directory → List ℕ → ℕ → List (ℕ × ℕ)
+turnedAt e w k = turned e (entryOn w k) (parentOn w k) (pairs w k)
 
 -- x can be taken off, where k pairs stay on a stack of at most m
 pub record Turning (e : Directory) (m k x n : ℕ) : Type 0 where

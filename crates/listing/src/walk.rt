@@ -4,8 +4,7 @@ ghost use mathlib.Core.Path.{_≡_};
 ghost use mathlib.Core.Bool.{true};
 ghost use mathlib.Core.List.{_++_};
 ghost use Prim.Native.Nat.{_+_, _*_, _≤_};
-ghost use lib.ListN.{length, getD};
-ghost use Rattle.format.specs.Layout.Entry.{name};
+ghost use lib.ListN.{length};
 ghost use Rattle.format.specs.Layout.Tree.{forest, entries};
 ghost use Rattle.format.specs.Rules.Entries.{entryRules};
 ghost use Rattle.format.specs.Rules.Trees.{treeRules};
@@ -14,10 +13,10 @@ ghost use Rattle.format.specs.Calls.Text.{printName};
 ghost use Rattle.format.specs.Calls.Listing.{firstLine, listing};
 ghost use Rattle.theory.specs.TreeViews.{at, soundAt};
 ghost use Rattle.tables.specs.Work.{Wrote};
-ghost use Rattle.entries.specs.Entry.{entryAt, NamedAt};
+ghost use Rattle.entries.specs.Entry.{nameAt, NamedAt};
 ghost use Rattle.directory.specs.Listed.{countOf, entriesOf, DirectoryListed};
-ghost use Rattle.listing.specs.Lines.{beforeLength, firstWord};
-ghost use Rattle.listing.specs.Walks.{pairs, spine, turned, Turning, measured};
+ghost use Rattle.listing.specs.Lines.{beforeLength};
+ghost use Rattle.listing.specs.Walks.{pairs, entryOn, parentOn, spine, turnedAt, Turning, measured};
 use super::line_length;
 use super::put_line;
 use directory::Directory;
@@ -28,7 +27,7 @@ use directory::right_of;
 use kinds::EntryId;
 use text::decimal_length;
 use text::name_length;
-use text::put_decimal;
+use text::put_number_line;
 
 // ---- the stack
 
@@ -38,8 +37,8 @@ fn push(img: &[u8], work: &mut [u32], d: Directory, n: usize, x: EntryId, parent
     requires { ⌜ 2 * countOf d ≤ d .list ⌝ }
     requires { ⌜ soundAt (entriesOf d (now img)) (x .0) ≡ true ⌝ }
     requires { ⌜ n + length (entries (at (entriesOf d (now img)) (x .0))) ≤ countOf d ⌝ }
-    ensures { λ r. ⌜ pairs (now (work .exit)) r ≡ spine parent (at (entriesOf d (now (img .entry))) (x .0)) ++ pairs (now (work .entry)) n ⌝ }
-    ensures { λ _. ⌜ Wrote (now (work .entry)) (now (work .exit)) 0 (2 * countOf d) ⌝ }
+    ensures stack { λ r. ⌜ pairs (now (work .exit)) r ≡ spine parent (at (entriesOf d (now (img .entry))) (x .0)) ++ pairs (now (work .entry)) n ⌝ }
+    ensures wrote { λ _. ⌜ Wrote (now (work .entry)) (now (work .exit)) 0 (2 * countOf d) ⌝ }
 {
     let mut k = n;
     let mut y = x;
@@ -56,7 +55,7 @@ fn push(img: &[u8], work: &mut [u32], d: Directory, n: usize, x: EntryId, parent
 fn path_length(img: &[u8], p: usize, parent: u32) -> u32
     requires { ⌜ NamedAt (now img) p ⌝ }
     requires { ⌜ parent + 157 ≤ 0x1_0000_0000 ⌝ }
-    ensures { λ r. ⌜ r ≡ beforeLength parent + length (printName (name (entryAt (now (img .entry)) p))) ⌝ }
+    ensures { λ r. ⌜ r ≡ beforeLength parent + length (printName (nameAt (now (img .entry)) p)) ⌝ }
 {
     let n = name_length(img, p) as u32;
     if parent == 0 {
@@ -70,9 +69,9 @@ fn turn(img: &[u8], work: &mut [u32], d: Directory, k: usize) -> usize
     requires { ⌜ DirectoryListed d (now img) (now work) ⌝ }
     requires { ⌜ 2 * countOf d ≤ d .list ⌝ }
     requires { ⌜ entryRules (entriesOf d (now img)) ≡ true ⌝ }
-    requires { ⌜ Turning (entriesOf d (now img)) (countOf d) k (getD (now work) (2 * k) 0) (getD (now work) (2 * k + 1) 0) ⌝ }
-    ensures { λ r. ⌜ pairs (now (work .exit)) r ≡ turned (entriesOf d (now (img .entry))) (getD (now (work .entry)) (2 * k) 0) (getD (now (work .entry)) (2 * k + 1) 0) (pairs (now (work .entry)) k) ⌝ }
-    ensures { λ _. ⌜ Wrote (now (work .entry)) (now (work .exit)) 0 (2 * countOf d) ⌝ }
+    requires { ⌜ Turning (entriesOf d (now img)) (countOf d) k (entryOn (now work) k) (parentOn (now work) k) ⌝ }
+    ensures stack { λ r. ⌜ pairs (now (work .exit)) r ≡ turnedAt (entriesOf d (now (img .entry))) (now (work .entry)) k ⌝ }
+    ensures wrote { λ _. ⌜ Wrote (now (work .entry)) (now (work .exit)) 0 (2 * countOf d) ⌝ }
 {
     let x = EntryId(work[2 * k]);
     let parent = work[2 * k + 1];
@@ -118,8 +117,8 @@ pub fn measure(img: &[u8], work: &mut [u32], d: Directory, most: usize) -> Measu
     requires { ⌜ treeRules (entriesOf d (now img)) ≡ true ⌝ }
     requires { ⌜ 2 * countOf d ≤ d .list ⌝ }
     requires { ⌜ countOf d ≤ 0x100_0000 ⌝ }
-    ensures { λ r. ⌜ r ≡ measured most (length (entries (forest (entriesOf d (now (img .entry)))))) (length (listing (entriesOf d (now (img .entry))))) ⌝ }
-    ensures { λ _. ⌜ Wrote (now (work .entry)) (now (work .exit)) 0 (2 * countOf d) ⌝ }
+    ensures answer { λ r. ⌜ r ≡ measured most (length (entries (forest (entriesOf d (now (img .entry)))))) (length (listing (entriesOf d (now (img .entry))))) ⌝ }
+    ensures wrote { λ _. ⌜ Wrote (now (work .entry)) (now (work .exit)) 0 (2 * countOf d) ⌝ }
 {
     let top = child_of(img, work, d, EntryId::ROOT);
     let mut n = push(img, work, d, 0, top, 0);
@@ -141,31 +140,13 @@ pub fn measure(img: &[u8], work: &mut [u32], d: Directory, most: usize) -> Measu
 
 // ---- the text
 
-// Writes the first line's word and the space behind it.
-fn put_word(out: &mut [u8])
-    requires { ⌜ 8 ≤ length (now out) ⌝ }
-    ensures { λ _. ⌜ now (out .exit) ≡ over firstWord (now (out .entry)) ⌝ }
-{
-    out[0] = 0x6F;
-    out[1] = 0x62;
-    out[2] = 0x6A;
-    out[3] = 0x65;
-    out[4] = 0x63;
-    out[5] = 0x74;
-    out[6] = 0x73;
-    out[7] = 0x20;
-}
-
 // Writes the first line, and returns how many bytes it takes.
 fn put_first(out: &mut [u8], objects: usize) -> usize
     requires { ⌜ length (firstLine objects) ≤ length (now out) ⌝ }
-    ensures { λ r. ⌜ r ≡ length (firstLine objects) ⌝ }
-    ensures { λ _. ⌜ now (out .exit) ≡ over (firstLine objects) (now (out .entry)) ⌝ }
+    ensures count { λ r. ⌜ r ≡ length (firstLine objects) ⌝ }
+    ensures written { λ _. ⌜ now (out .exit) ≡ over (firstLine objects) (now (out .entry)) ⌝ }
 {
-    put_word(out);
-    let n = put_decimal(&mut out[8..], objects as u64);
-    out[8 + n] = 0x0A;
-    8 + n + 1
+    put_number_line(out, b"objects ", objects as u64)
 }
 
 // Writes the listing, which the out buffer has room for. A line's parent path is copied from the line before, whose path begins with it.
@@ -177,8 +158,8 @@ pub fn write(img: &[u8], work: &mut [u32], d: Directory, objects: usize, out: &m
     requires { ⌜ countOf d ≤ 0x100_0000 ⌝ }
     requires { ⌜ objects ≡ length (entries (forest (entriesOf d (now img)))) ⌝ }
     requires { ⌜ length (listing (entriesOf d (now img))) ≤ length (now out) ⌝ }
-    ensures { λ _. ⌜ now (out .exit) ≡ over (listing (entriesOf d (now (img .entry)))) (now (out .entry)) ⌝ }
-    ensures { λ _. ⌜ Wrote (now (work .entry)) (now (work .exit)) 0 (2 * countOf d) ⌝ }
+    ensures written { λ _. ⌜ now (out .exit) ≡ over (listing (entriesOf d (now (img .entry)))) (now (out .entry)) ⌝ }
+    ensures wrote { λ _. ⌜ Wrote (now (work .entry)) (now (work .exit)) 0 (2 * countOf d) ⌝ }
 {
     let mut at = put_first(out, objects);
     let mut from = 0;

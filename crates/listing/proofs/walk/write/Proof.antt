@@ -9,7 +9,7 @@ use Rattle.tables.proofs.WorkLaws.{wrote-two}
 use Rattle.directory.specs.Listed.{countOf, entriesOf}
 use Rattle.directory.proofs.Places.{placed, root-inside}
 use Rattle.listing.specs.Walks.{pairs, Turning}
-use Rattle.listing.proofs.LineWrites.{placed-length}
+use Rattle.text.proofs.Filled.{filled-length}
 use Rattle.listing.proofs.Walked.{countCome}
 use Rattle.listing.proofs.Walks.{Lent, start-sound, start-room, start-walks, walks-here, walks-turning, walks-inside, walks-named, walks-less}
 use Rattle.listing.proofs.Writes.{Writing, first-room, room-kept, writing-start, line-behind, line-fits, writing-more, writing-end}
@@ -98,7 +98,7 @@ write-spec =
     let t = c .before .before .before .before .before .before .before .before in
     let f = line-fits (t .before .loop .inv) (c .before .before .before .before .before .before .before .before .before .before .before .before .before .before .before .before .before .before .before .before .before .before .before .pre .1 .1 .1 .1 .1 .0) (room (c .before .before .before .before .before .before .before .before .before .before .before .before .before .before .before .before .before .before)) (t .loop-test .taken) _ (c .before .before .before .before .before .before .place .ensures) in
     -- the buffer's length fits, as it did at the start
-    omega (arith, f, c .line-length .ensures, placed-length (t .before .loop .inv .placed), first-long (c .before .before .before .before .before .before .before .before .before .before .before .before .before .before .before .before .before .before), c .before .before .before .before .before .before .before .before .before .before .before .before .before .before .before .before .before .before .before .before .before .before .before .good .1 .1 .1 .1 .0))  -- add-at
+    omega (arith, f, c .line-length .ensures, filled-length (t .before .loop .inv .placed), first-long (c .before .before .before .before .before .before .before .before .before .before .before .before .before .before .before .before .before .before), c .before .before .before .before .before .before .before .before .before .before .before .before .before .before .before .before .before .before .before .before .before .before .before .good .1 .1 .1 .1 .0))  -- add-at
     (λ c κs.
     let l = c .before .before .before .before .before .before .before .before .before .before .loop .inv .walks .lent in
     (l .listed, (l .apart, (l .rules, turning (c .before .before .before .before .before .before .before .before .before)))))  -- turn-requires
@@ -112,7 +112,7 @@ write-spec =
     let l = c .before .before .before .before .before .before .before .put-line .ensures in
     writing-more (t .before .loop .inv) (c .before .before .before .before .before .before .before .before .before .before .before .before .before .before .before .before .before .before .before .before .before .before .before .before .before .before .before .pre .1 .1 .1 .1 .1 .0) (room (c .before .before .before .before .before .before .before .before .before .before .before .before .before .before .before .before .before .before .before .before .before .before)) (t .loop-test .taken) _ (c .before .before .before .before .before .before .before .before .before .before .place .ensures) (l .0) (l .1) (c .before .before .before .before .line-length .ensures) _ (r .0) (r .1))  -- loop-again
     (λ c. c .before .loop .inv .walks .wrote .long ∙ c .before .before .before .before .push .ensures .1 .long)  -- same-length
-    (λ c. placed-length (c .before .loop .inv .placed) ∙ first-long (c .before .before .before .before .before .before .before .before .before .before))  -- same-length-2
+    (λ c. filled-length (c .before .loop .inv .placed) ∙ first-long (c .before .before .before .before .before .before .before .before .before .before))  -- same-length-2
     (λ c.
     let m = c .before .loop .inv in
     let f = c .before .before .before .before .before .before .before .before .before .before in (
