@@ -7,14 +7,13 @@ use native.Mathlib.Nat.{add-zero}
 use native.Mathlib.Numerals.{add-one}
 use native.Mathlib.Omega.{arith}
 use lib.ListN.{length, take, drop, getD, set, length-append, length-drop, take-append-drop, List·getD-append}
-use lib.Seq.{paste, paste-suc, take-all, take-at, take-append-seam, drop-append-seam, drop-cons, drop-drop, set-at, append-snoc, length-take-le, getD-take, getD-drop}
+use lib.Seq.{paste, paste-suc, length-take-le, getD-take, getD-drop}
 use Rattle.format.specs.Basics.Bytes.{Bytes, part}
 use Rattle.format.specs.Layout.Name.{slash}
 use Rattle.format.specs.Layout.Entry.{name, size, isStream}
 use Rattle.format.specs.Calls.Read.{over}
 use Rattle.format.specs.Calls.Text.{newline, space, decimal, printName}
 use Rattle.format.specs.Calls.Listing.{line}
-use Rattle.theory.proofs.Sets.{sub-take}
 use Rattle.theory.proofs.ByteTests.{length-part}
 use Rattle.text.proofs.Over.{over-length, over-sets, over-lent}
 use Rattle.text.proofs.Filled.{Filled, over-set, filled-start, filled-lent, filled-behind, filled-set, filled-end, filled-kept}

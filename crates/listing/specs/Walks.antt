@@ -6,8 +6,9 @@ use lib.Dec.{leb}
 use lib.ListN.{length, getD}
 use Rattle.format.specs.Layout.Entry.{name}
 use Rattle.format.specs.Layout.Directory.{Directory}
-use Rattle.format.specs.Layout.Tree.{Forest, empty, broken, node, entries}
+use Rattle.format.specs.Layout.Tree.{Forest, empty, broken, node, entries, forest}
 use Rattle.format.specs.Calls.Text.{printName}
+use Rattle.format.specs.Calls.Listing.{listing}
 use Rattle.theory.specs.TreeViews.{rightOf, childOf, at, Standing}
 use Rattle.listing.specs.Lines.{beforeLength}
 use Rattle.listing.specs.declared.walk.Measured.{Measured}
@@ -52,3 +53,7 @@ pub record Turning (e : Directory) (m k x n : ℕ) : Type 0 where
 -- the counts, where the listing has no more bytes than `most`
 unfoldable pub measured : ℕ → ℕ → ℕ → Measured
 measured most objects bytes = cond (leb bytes most) (Fits (record { objects = objects; bytes = bytes })) TooLong
+
+-- of the whole listing
+abbrev pub measureOf : ℕ → Directory → Measured
+measureOf most e = measured most (length (entries (forest e))) (length (listing e))

@@ -3,7 +3,7 @@
 ghost use mathlib.Core.Path.{_≡_};
 ghost use mathlib.Core.Bool.{true};
 ghost use mathlib.Core.List.{_++_};
-ghost use Prim.Native.Nat.{_+_, _*_, _≤_};
+ghost use Prim.Native.Nat.{_+_, _*_, _≤_, _<_};
 ghost use lib.ListN.{length};
 ghost use Rattle.format.specs.Layout.Tree.{forest, entries};
 ghost use Rattle.format.specs.Rules.Entries.{entryRules};
@@ -16,7 +16,7 @@ ghost use Rattle.tables.specs.Work.{Wrote};
 ghost use Rattle.entries.specs.Entry.{nameAt, NamedAt};
 ghost use Rattle.directory.specs.Listed.{countOf, entriesOf, DirectoryListed};
 ghost use Rattle.listing.specs.Lines.{beforeLength};
-ghost use Rattle.listing.specs.Walks.{pairs, entryOn, parentOn, spine, turnedAt, Turning, measured};
+ghost use Rattle.listing.specs.Walks.{pairs, entryOn, parentOn, spine, turnedAt, Turning, measured, measureOf};
 use super::line_length;
 use super::put_line;
 use directory::Directory;
@@ -30,6 +30,23 @@ use text::name_length;
 use text::put_number_line;
 
 // ---- the stack
+
+// An entry on the stack, and the length of its parent's path.
+struct Pair {
+    entry: EntryId,
+    parent: u32,
+}
+
+// Pair k of the stack.
+fn pair_at(work: &[u32], k: usize) -> Pair
+    requires { ⌜ 2 * k + 1 < length (now work) ⌝ }
+    ensures { λ r. ⌜ (r .entry .0 ≡ entryOn (now (work .entry)) k) × (r .parent ≡ parentOn (now (work .entry)) k) ⌝ }
+{
+    Pair {
+        entry: EntryId(work[2 * k]),
+        parent: work[2 * k + 1],
+    }
+}
 
 // Puts the left spine of the tree that x names on the stack of n pairs, and returns the stack's new height.
 fn push(img: &[u8], work: &mut [u32], d: Directory, n: usize, x: EntryId, parent: u32) -> usize
@@ -73,12 +90,11 @@ fn turn(img: &[u8], work: &mut [u32], d: Directory, k: usize) -> usize
     ensures stack { λ r. ⌜ pairs (now (work .exit)) r ≡ turnedAt (entriesOf d (now (img .entry))) (now (work .entry)) k ⌝ }
     ensures wrote { λ _. ⌜ Wrote (now (work .entry)) (now (work .exit)) 0 (2 * countOf d) ⌝ }
 {
-    let x = EntryId(work[2 * k]);
-    let parent = work[2 * k + 1];
-    let right = right_of(img, work, d, x);
-    let child = child_of(img, work, d, x);
-    let path = path_length(img, place(work, d, x), parent);
-    let n = push(img, work, d, k, right, parent);
+    let q = pair_at(work, k);
+    let right = right_of(img, work, d, q.entry);
+    let child = child_of(img, work, d, q.entry);
+    let path = path_length(img, place(work, d, q.entry), q.parent);
+    let n = push(img, work, d, k, right, q.parent);
     push(img, work, d, n, child, path)
 }
 
@@ -117,7 +133,7 @@ pub fn measure(img: &[u8], work: &mut [u32], d: Directory, most: usize) -> Measu
     requires { ⌜ treeRules (entriesOf d (now img)) ≡ true ⌝ }
     requires { ⌜ 2 * countOf d ≤ d .list ⌝ }
     requires { ⌜ countOf d ≤ 0x100_0000 ⌝ }
-    ensures answer { λ r. ⌜ r ≡ measured most (length (entries (forest (entriesOf d (now (img .entry)))))) (length (listing (entriesOf d (now (img .entry))))) ⌝ }
+    ensures answer { λ r. ⌜ r ≡ measureOf most (entriesOf d (now (img .entry))) ⌝ }
     ensures wrote { λ _. ⌜ Wrote (now (work .entry)) (now (work .exit)) 0 (2 * countOf d) ⌝ }
 {
     let top = child_of(img, work, d, EntryId::ROOT);
@@ -126,8 +142,8 @@ pub fn measure(img: &[u8], work: &mut [u32], d: Directory, most: usize) -> Measu
     let mut bytes = 0;
     while n > 0 {
         n -= 1;
-        let p = place(work, d, EntryId(work[2 * n]));
-        let k = line_length(img, p, work[2 * n + 1] as usize);
+        let q = pair_at(work, n);
+        let k = line_length(img, place(work, d, q.entry), q.parent as usize);
         if most - bytes < k {
             return Measured::TooLong;
         }
@@ -167,8 +183,9 @@ pub fn write(img: &[u8], work: &mut [u32], d: Directory, objects: usize, out: &m
     let mut n = push(img, work, d, 0, top, 0);
     while n > 0 {
         n -= 1;
-        let p = place(work, d, EntryId(work[2 * n]));
-        let parent = work[2 * n + 1] as usize;
+        let q = pair_at(work, n);
+        let p = place(work, d, q.entry);
+        let parent = q.parent as usize;
         from = put_line(out, at, img, p, from, parent);
         at += line_length(img, p, parent);
         n = turn(img, work, d, n);
