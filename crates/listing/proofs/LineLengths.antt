@@ -6,10 +6,9 @@ use Prim.Native.Nat.{ℕ, zero, suc, _+_, _≤_, _<_}
 use native.Mathlib.Omega.{arith}
 use lib.ListN.{length, take, length-append}
 use lib.Seq.{length-take-le}
-use borrow.Author.Tests.{eq-eqb, ne-eqb}
 use Rattle.format.specs.Basics.Bytes.{Bytes}
 use Rattle.format.specs.Layout.Name.{slash}
-use Rattle.format.specs.Layout.Entry.{kind, name, size, isStream}
+use Rattle.format.specs.Layout.Entry.{name, size, isStream}
 use Rattle.format.specs.Calls.Text.{newline, space, decimal, printName}
 use Rattle.format.specs.Calls.Listing.{line}
 use Rattle.entries.specs.Entry.{entryAt, NamedAt}
@@ -20,20 +19,20 @@ use Rattle.listing.specs.Lines.{head, before, beforeLength, lineLength}
 
 -- ---- what stands before the path
 
-pub head-stream : (e : Bytes) → kind e ≡ 2 → head e ≡ ((0x46 ∷ space ∷ []) ++ decimal (size e)) ++ (space ∷ [])
+pub head-stream : (e : Bytes) → isStream e ≡ true → head e ≡ ((0x46 ∷ space ∷ []) ++ decimal (size e)) ++ (space ∷ [])
 unfolding head
-head-stream e h = rw (eq-eqb (kind e) 2 h)
+head-stream e h = rw h
 
-pub head-storage : (e : Bytes) → (kind e ≡ 2 → ⊥) → head e ≡ 0x44 ∷ space ∷ 0x30 ∷ space ∷ []
+pub head-storage : (e : Bytes) → isStream e ≡ false → head e ≡ 0x44 ∷ space ∷ 0x30 ∷ space ∷ []
 unfolding head
-head-storage e h = rw (ne-eqb (kind e) 2 h)
+head-storage e h = rw h
 
-pub stream-length : (e : Bytes) → kind e ≡ 2 → length (head e) ≡ length (decimal (size e)) + 3
+pub stream-length : (e : Bytes) → isStream e ≡ true → length (head e) ≡ length (decimal (size e)) + 3
 stream-length e h =
     ap length (head-stream e h)
     ∙ omega (arith, length-append ((0x46 ∷ space ∷ []) ++ decimal (size e)) (space ∷ []), length-append (0x46 ∷ space ∷ []) (decimal (size e)))
 
-pub storage-length : (e : Bytes) → (kind e ≡ 2 → ⊥) → length (head e) ≡ 4
+pub storage-length : (e : Bytes) → isStream e ≡ false → length (head e) ≡ 4
 storage-length e h = ap length (head-storage e h)
 
 pub head-most : (e : Bytes) → length (head e) ≤ 23

@@ -1,22 +1,23 @@
 -- The parts of a line, written one behind the other.
 use mathlib.Core.Path.{_≡_, refl, ap, sym, _∙_}
+use mathlib.Core.Bool.{true, false}
 use mathlib.Core.List.{[], _∷_, _++_, append-assoc}
 use Prim.Native.Nat.{ℕ, zero, suc, _+_, _-_, _≤_, _<_}
 use native.Mathlib.Nat.{add-zero}
 use native.Mathlib.Numerals.{add-one}
 use native.Mathlib.Omega.{arith}
 use lib.ListN.{length, take, drop, getD, set, length-append, length-drop, take-append-drop, List·getD-append}
-use lib.Seq.{paste, paste-suc, take-all, take-at, take-append-seam, drop-append-seam, drop-cons, drop-drop, set-at, append-snoc, length-take-le, getD-take, getD-drop}
+use lib.Seq.{paste, paste-suc, length-take-le, getD-take, getD-drop}
 use Rattle.format.specs.Basics.Bytes.{Bytes, part}
 use Rattle.format.specs.Layout.Name.{slash}
-use Rattle.format.specs.Layout.Entry.{kind, name, size}
+use Rattle.format.specs.Layout.Entry.{name, size, isStream}
 use Rattle.format.specs.Calls.Read.{over}
 use Rattle.format.specs.Calls.Text.{newline, space, decimal, printName}
 use Rattle.format.specs.Calls.Listing.{line}
-use Rattle.theory.proofs.Sets.{sub-take}
 use Rattle.theory.proofs.ByteTests.{length-part}
 use Rattle.text.proofs.Over.{over-length, over-sets, over-lent}
-use Rattle.listing.specs.Lines.{head, before, beforeLength, lineLength}
+use Rattle.text.proofs.Filled.{Filled, over-set, filled-start, filled-lent, filled-behind, filled-set, filled-end, filled-kept}
+use Rattle.listing.specs.Lines.{head, before, beforeLength, lineLength, putAt, beforePut, linePut}
 use Rattle.listing.proofs.LineLengths.{head-stream, head-storage, stream-length, storage-length, before-length, none-before, none-length, some-before, some-length, line-parts, length-parts, line-length}
 
 -- one byte more copied from a place to a later one
@@ -29,95 +30,9 @@ copied-more out from to i h b =
     (sym (getD-drop from out i 0)) in
     rw (r, add-one i) (paste-suc out to (drop from out) i 0 b (omega (arith, length-drop from out)))
 
-pub copied : (out : Bytes) (from to i : ℕ) {n : ℕ} → i ≡ n → paste out to (drop from out) i ≡ take to out ++ (part out from n ++ drop (to + n) out)
+pub copied : (out : Bytes) (from to i : ℕ) {n : ℕ} → i ≡ n → paste out to (drop from out) i ≡ putAt out to n (part out from n)
 unfolding part
 copied out from to i e = rw (← e) (append-assoc (take to out) (take i (drop from out)) (drop (to + i) out))
-
--- ---- bytes put behind those that are there already
-
--- what a call is lent from a place on
-pub lent-length : (out : Bytes) (k : ℕ) → length (take (length out - k) (drop k out)) ≡ length out - k
-lent-length out k = rw (take-all (length out - k) (drop k out) (omega (arith, length-drop k out))) (length-drop k out)
-
-over-set : (a out : Bytes) (v : ℕ) {k : ℕ} → k ≡ length a → k < length out → set (over a out) k v ≡ over (a ++ (v ∷ [])) out
-unfolding over
-over-set a out v e h =
-    rw (e, drop-cons out (length a) 0 (omega arith), length-append a (v ∷ []), add-one (length a))
-    (set-at a (getD out (length a) 0) (drop (suc (length a)) out) v (length a) refl ∙ sym (append-snoc a v (drop (suc (length a)) out)))
-
-over-front : (out : Bytes) (k : ℕ) → k ≤ length out → over (take k out) out ≡ out
-unfolding over
-over-front out k h = rw (length-take-le k out h) (take-append-drop k out)
-
-over-behind : (a b out : Bytes) {k m : ℕ} → k ≡ length a → m ≡ length b → take k (over a out) ++ (b ++ drop (k + m) (over a out)) ≡ over (a ++ b) out
-unfolding over
-over-behind a b out e l =
-    rw (
-      e,
-      l,
-      ← drop-drop (length b) (length a) (a ++ drop (length a) out),
-      take-append-seam a (drop (length a) out),
-      drop-append-seam a (drop (length a) out),
-      drop-drop (length b) (length a) out,
-      length-append a b,
-    )
-    (sym (append-assoc a b (drop (length a + length b) out)))
-
--- so many new bytes stand at the front of a buffer
-pub record Placed (out₀ new out : Bytes) (k : ℕ) : Type 0 where
-  pub bytes : out ≡ over new out₀
-  pub count : k ≡ length new
-  pub room : k ≤ length out₀
-
--- at first those before a place, which stay
-pub placed-start : (out : Bytes) (k : ℕ) → k ≤ length out → Placed out (take k out) out k
-placed-start out k h = record { bytes = sym (over-front out k h); count = sym (length-take-le k out h); room = h }
-
-module _ {out₀ a out : Bytes} {k : ℕ} (w : Placed out₀ a out k) where
-  pub placed-length : length out ≡ length out₀
-  placed-length = ap length (w .bytes) ∙ over-length a out₀ (omega (arith, w .count, w .room))
-
-  -- a call wrote them into what it was lent
-  pub placed-lent : (b : Bytes) {n : ℕ} {new : Bytes} → k + length b ≤ length out₀ → n ≡ length b → new ≡ over b (take (length out - k) (drop k out))
-      → Placed out₀ (a ++ b) (take k out ++ (new ++ drop (length out - k) (drop k out))) (k + n)
-  placed-lent b {n} {new} h e q =
-      record {
-        bytes = over-lent a b out₀ out k {new = new} (w .bytes) (w .count) q;
-        count = omega (arith, w .count, length-append a b);
-        room = omega arith;
-      }
-
-  -- or into the whole buffer
-  pub placed-behind : (b : Bytes) {n : ℕ} {new : Bytes} → k + length b ≤ length out₀ → n ≡ length b → new ≡ take k out ++ (b ++ drop (k + n) out)
-      → Placed out₀ (a ++ b) new (k + n)
-  placed-behind b {n} {new} h e q =
-      record {
-        bytes = q ∙ rw (w .bytes) (over-behind a b out₀ (w .count) e);
-        count = omega (arith, w .count, length-append a b);
-        room = omega arith;
-      }
-
-  pub placed-set : (v : ℕ) → k < length out₀ → Placed out₀ (a ++ (v ∷ [])) (set out k v) (k + 1)
-  placed-set v h =
-      record {
-        bytes = rw (w .bytes) (over-set a out₀ v (w .count) h);
-        count = omega (arith, w .count, length-append a (v ∷ []));
-        room = omega arith;
-      }
-
-module _ {out₀ out : Bytes} {k : ℕ} (at : ℕ) (b : Bytes) (w : Placed out₀ (take at out₀ ++ b) out k) (h : at ≤ length out₀) where
-  -- as a contract says it
-  pub placed-end : {n : ℕ} → n ≡ length b → out ≡ take at out₀ ++ (b ++ drop (at + n) out₀)
-  unfolding over
-  placed-end e =
-      w .bytes ∙ rw (e, length-append (take at out₀) b, length-take-le at out₀ h) (append-assoc (take at out₀) b (drop (at + length b) out₀))
-
-  -- a part of the bytes that stay
-  pub placed-kept : (n m : ℕ) → n + m ≤ at → take m (drop n out) ≡ take m (drop n out₀)
-  placed-kept n m i =
-      sym (sub-take m n at out i)
-      ∙ ap (λ (l : Bytes). take m (drop n l)) (ap (take at) (placed-end refl) ∙ take-at (take at out₀) (b ++ drop (at + length b) out₀) at (length-take-le at out₀ h))
-      ∙ sub-take m n at out₀ i
 
 -- ---- what stands before the path
 
@@ -126,7 +41,7 @@ abbrev pub started : Bytes → Bytes
 started out = set (set out 0 0x46) 1 space
 
 -- those of a stream
-module _ (e out : Bytes) (h : kind e ≡ 2) (b : length (head e) ≤ length out) where
+module _ (e out : Bytes) (h : isStream e ≡ true) (b : length (head e) ≤ length out) where
   pub put-size : {n : ℕ} {new : Bytes} → n ≡ size e → new ≡ over (decimal n) (take (length (started out) - 2) (drop 2 (started out)))
       → take 2 (started out) ++ (new ++ drop (length (started out) - 2) (drop 2 (started out))) ≡ over ((0x46 ∷ space ∷ []) ++ decimal (size e)) out
   put-size {new = new} s q =
@@ -142,30 +57,30 @@ module _ (e out : Bytes) (h : kind e ≡ 2) (b : length (head e) ≤ length out)
       rw (head-stream e h)
       (over-set ((0x46 ∷ space ∷ []) ++ decimal (size e)) out space (omega (arith, length-append (0x46 ∷ space ∷ []) (decimal (size e)))) (omega (arith, stream-length e h)))
 
-pub put-storage : (e out : Bytes) → (kind e ≡ 2 → ⊥) → length (head e) ≤ length out → set (set (set (set out 0 0x44) 1 space) 2 0x30) 3 space ≡ over (head e) out
+pub put-storage : (e out : Bytes) → isStream e ≡ false → length (head e) ≤ length out → set (set (set (set out 0 0x44) 1 space) 2 0x30) 3 space ≡ over (head e) out
 put-storage e out h b = rw (head-storage e h) (over-sets (0x44 ∷ space ∷ 0x30 ∷ space ∷ []) out (omega (arith, storage-length e h)))
 
 -- ---- what stands in a path before the name
 
 module _ (out : Bytes) (at from parent : ℕ) (b : at + beforeLength parent ≤ length out) where
-  pub put-none : parent ≡ 0 → out ≡ take at out ++ (before parent (drop from out) ++ drop (at + beforeLength parent) out)
+  pub put-none : parent ≡ 0 → out ≡ beforePut at from parent out
   put-none z = rw (none-before parent (drop from out) z, none-length parent z, add-zero at) (sym (take-append-drop at out))
 
   -- the parent's path is copied
-  pub put-parent : {new : Bytes} → 0 < parent → from + parent ≤ at → new ≡ take at out ++ (part out from parent ++ drop (at + parent) out)
-      → Placed out (take at out ++ part out from parent) new (at + parent)
+  pub put-parent : {new : Bytes} → 0 < parent → from + parent ≤ at → new ≡ putAt out at parent (part out from parent)
+      → Filled out (take at out ++ part out from parent) new (at + parent)
   put-parent p h q =
-      placed-behind (placed-start out at (omega arith)) (part out from parent)
+      filled-behind (filled-start out at (omega arith)) (part out from parent)
       (omega (arith, length-part out from parent (omega arith), some-length parent p)) (sym (length-part out from parent (omega arith))) q
 
   -- and the slash
-  pub put-slash : {now : Bytes} → 0 < parent → from + parent ≤ at → Placed out (take at out ++ part out from parent) now (at + parent)
-      → set now (at + parent) slash ≡ take at out ++ (before parent (drop from out) ++ drop (at + beforeLength parent) out)
+  pub put-slash : {now : Bytes} → 0 < parent → from + parent ≤ at → Filled out (take at out ++ part out from parent) now (at + parent)
+      → set now (at + parent) slash ≡ beforePut at from parent out
   unfolding part
   put-slash {now} p h w =
-      let s : Placed out (take at out ++ before parent (drop from out)) (set now (at + parent) slash) (at + parent + 1) =
-      rw (some-before parent (drop from out) p, ← append-assoc (take at out) (take parent (drop from out)) (slash ∷ [])) (placed-set w slash (omega (arith, some-length parent p))) in
-      placed-end at (before parent (drop from out)) s (omega arith) (sym (before-length parent (drop from out) (omega (arith, length-drop from out))))
+      let s : Filled out (take at out ++ before parent (drop from out)) (set now (at + parent) slash) (at + parent + 1) =
+      rw (some-before parent (drop from out) p, ← append-assoc (take at out) (take parent (drop from out)) (slash ∷ [])) (filled-set w slash (omega (arith, some-length parent p))) in
+      filled-end at (before parent (drop from out)) s (omega arith) (sym (before-length parent (drop from out) (omega (arith, length-drop from out))))
 
 -- ---- the line
 
@@ -184,31 +99,31 @@ module _ (out e : Bytes) (at from parent : ℕ) (h : from + parent ≤ at) (b : 
   path-before = before-length parent (drop from out) (omega (arith, length-drop from out))
 
   pub line-head : {n : ℕ} {new : Bytes} → n ≡ length (head e) → new ≡ over (head e) (take (length out - at) (drop at out))
-      → Placed out (take at out ++ head e) (take at out ++ (new ++ drop (length out - at) (drop at out))) (at + n)
-  line-head {n} {new} l q = placed-lent (placed-start out at (omega arith)) (head e) {new = new} (omega (arith, length-parts e parent)) l q
+      → Filled out (take at out ++ head e) (take at out ++ (new ++ drop (length out - at) (drop at out))) (at + n)
+  line-head {n} {new} l q = filled-lent (filled-start out at (omega arith)) (head e) {new = new} (omega (arith, length-parts e parent)) l q
 
-  pub line-before : {now new : Bytes} {k n : ℕ} → Placed out (take at out ++ head e) now k → n ≡ beforeLength parent
-      → new ≡ take k now ++ (before parent (drop from now) ++ drop (k + beforeLength parent) now)
-      → Placed out (nameless out e at from parent) new (k + n)
+  pub line-before : {now new : Bytes} {k n : ℕ} → Filled out (take at out ++ head e) now k → n ≡ beforeLength parent
+      → new ≡ beforePut k from parent now
+      → Filled out (nameless out e at from parent) new (k + n)
   line-before {now} {new} {k} {n} w l q =
-      let s = before-same parent (drop from now) (drop from out) (placed-kept at (head e) w (omega arith) from parent h) in
-      placed-behind w (before parent (drop from out)) {new = new}
+      let s = before-same parent (drop from now) (drop from out) (filled-kept at (head e) w (omega arith) from parent h) in
+      filled-behind w (before parent (drop from out)) {new = new}
       (omega (arith, length-parts e parent, path-before, w .count, length-append (take at out) (head e), length-take-le at out (omega arith))) (l ∙ sym path-before) (rw (l, ← s) q)
 
-  name-place : {now : Bytes} {k : ℕ} → Placed out (nameless out e at from parent) now k → k ≡ at + length (head e) + beforeLength parent
+  name-place : {now : Bytes} {k : ℕ} → Filled out (nameless out e at from parent) now k → k ≡ at + length (head e) + beforeLength parent
   name-place w =
       omega (arith, w .count, path-before, length-append (take at out ++ head e) (before parent (drop from out)), length-append (take at out) (head e), length-take-le at out (omega arith))
 
-  pub name-room : {now : Bytes} {k : ℕ} → Placed out (nameless out e at from parent) now k → k + length (printName (name e)) < length out
+  pub name-room : {now : Bytes} {k : ℕ} → Filled out (nameless out e at from parent) now k → k + length (printName (name e)) < length out
   name-room w = omega (arith, name-place w, length-parts e parent)
 
-  pub line-name : {now new : Bytes} {k n : ℕ} → Placed out (nameless out e at from parent) now k → n ≡ length (printName (name e)) → new ≡ over (printName (name e)) (take (length now - k) (drop k now))
-      → Placed out (nameless out e at from parent ++ printName (name e)) (take k now ++ (new ++ drop (length now - k) (drop k now))) (k + n)
-  line-name {new = new} w l q = placed-lent w (printName (name e)) {new = new} (omega (arith, name-room w)) l q
+  pub line-name : {now new : Bytes} {k n : ℕ} → Filled out (nameless out e at from parent) now k → n ≡ length (printName (name e)) → new ≡ over (printName (name e)) (take (length now - k) (drop k now))
+      → Filled out (nameless out e at from parent ++ printName (name e)) (take k now ++ (new ++ drop (length now - k) (drop k now))) (k + n)
+  line-name {new = new} w l q = filled-lent w (printName (name e)) {new = new} (omega (arith, name-room w)) l q
 
-  pub line-end : {now : Bytes} {k : ℕ} → Placed out (nameless out e at from parent ++ printName (name e)) now k → k < length out
-      → set now k newline ≡ take at out ++ (line e (before parent (drop from out) ++ printName (name e)) ++ drop (at + lineLength e parent) out)
+  pub line-end : {now : Bytes} {k : ℕ} → Filled out (nameless out e at from parent ++ printName (name e)) now k → k < length out
+      → set now k newline ≡ linePut e at from parent out
   line-end {now} {k} w r =
       let p = before parent (drop from out) ++ printName (name e) in
-      let s : Placed out (take at out ++ line e p) (set now k newline) (k + 1) = rw (line-parts e p) (simp append-assoc (simp append-assoc at (placed-set w newline r))) in
-      placed-end at (line e p) s (omega arith) (sym (line-length e parent (drop from out) (omega (arith, length-drop from out))))
+      let s : Filled out (take at out ++ line e p) (set now k newline) (k + 1) = rw (line-parts e p) (simp append-assoc (simp append-assoc at (filled-set w newline r))) in
+      filled-end at (line e p) s (omega arith) (sym (line-length e parent (drop from out) (omega (arith, length-drop from out))))

@@ -20,7 +20,7 @@ use Rattle.tables.proofs.WorkLaws.{wrote-none, wrote-set, wrote-two}
 use Rattle.directory.specs.Listed.{countOf, entriesOf, DirectoryListed}
 use Rattle.directory.specs.declared.Directory.{Directory as Where}
 use Rattle.directory.proofs.Places.{directory-kept}
-use Rattle.listing.specs.Walks.{pairs, spine}
+use Rattle.listing.specs.Walks.{pairs, entryOn, parentOn, spine}
 
 -- ---- pairs
 
@@ -38,7 +38,7 @@ pairs-kept w v (suc n) h =
     let r = pairs-kept w v n (λ i l. h i (omega arith)) in
     rw (a, b, r)
 
-pub pairs-top : (w : List ℕ) (n : ℕ) → pairs w (n + 1) ≡ (getD w (2 * n) 0, getD w (2 * n + 1) 0) ∷ pairs w n
+pub pairs-top : (w : List ℕ) (n : ℕ) → pairs w (n + 1) ≡ (entryOn w n, parentOn w n) ∷ pairs w n
 unfolding pairs
 pairs-top w n = rw (add-one n)
 

@@ -2,11 +2,12 @@
 use Prim.Native.Nat.{ℕ, zero, suc, _+_}
 use mathlib.Core.Bool.{cond}
 use mathlib.Core.List.{[], _∷_, _++_}
-use lib.ListN.{length, take}
+use lib.ListN.{length, take, drop}
 use Rattle.format.specs.Basics.Bytes.{Bytes}
 use Rattle.format.specs.Layout.Name.{slash}
 use Rattle.format.specs.Layout.Entry.{name, size, isStream}
 use Rattle.format.specs.Calls.Text.{space, decimal, printName}
+use Rattle.format.specs.Calls.Listing.{line}
 
 -- what stands before the path
 unfoldable pub head : Bytes → Bytes
@@ -25,6 +26,16 @@ beforeLength (suc n) = suc n + 1
 unfoldable pub lineLength : Bytes → ℕ → ℕ
 lineLength e parent = length (head e) + (beforeLength parent + length (printName (name e))) + 1
 
--- what the first line begins with
-abbrev pub firstWord : Bytes
-firstWord = 0x6F ∷ 0x62 ∷ 0x6A ∷ 0x65 ∷ 0x63 ∷ 0x74 ∷ 0x73 ∷ space ∷ []
+-- ---- what is written
+
+-- a buffer with n new bytes from a place on
+abbrev pub putAt : Bytes → ℕ → ℕ → Bytes → Bytes
+putAt out at n new = take at out ++ (new ++ drop (at + n) out)
+
+-- with what stands before the name: the parent's path is in the buffer already, from `from` on
+abbrev pub beforePut : ℕ → ℕ → ℕ → Bytes → Bytes
+beforePut at from parent out = putAt out at (beforeLength parent) (before parent (drop from out))
+
+-- with a whole line
+abbrev pub linePut : Bytes → ℕ → ℕ → ℕ → Bytes → Bytes
+linePut e at from parent out = putAt out at (lineLength e parent) (line e (before parent (drop from out) ++ printName (name e)))

@@ -1,16 +1,12 @@
 // Lines of the listing: how long one is, and writing one into the out buffer behind those that stand there already.
 ghost use mathlib.Core.Path.{_≡_};
-ghost use mathlib.Core.List.{_++_};
 ghost use Prim.Native.Nat.{_+_, _≤_, _<_};
-ghost use lib.ListN.{length, take, drop};
+ghost use lib.ListN.{length};
 ghost use Rattle.format.specs.Basics.Bytes.{part};
-ghost use Rattle.format.specs.Layout.Entry.{name};
 ghost use Rattle.format.specs.Calls.Read.{over};
-ghost use Rattle.format.specs.Calls.Text.{printName};
-ghost use Rattle.format.specs.Calls.Listing.{line};
 ghost use Rattle.entries.specs.Entry.{entryAt, NamedAt};
-ghost use Rattle.listing.specs.Lines.{head, before, beforeLength, lineLength};
-use entries::kind;
+ghost use Rattle.listing.specs.Lines.{head, beforeLength, lineLength, putAt, beforePut, linePut};
+use entries::entry_type;
 use entries::size;
 use text::decimal_length;
 use text::name_length;
@@ -26,7 +22,7 @@ fn head_length(img: &[u8], p: usize) -> usize
     requires { ⌜ p + 128 ≤ length (now img) ⌝ }
     ensures { λ r. ⌜ r ≡ length (head (entryAt (now (img .entry)) p)) ⌝ }
 {
-    if kind(img, p) == 2 {
+    if entry_type(img, p).is_stream() {
         return decimal_length(size(img, p)) + 3;
     }
     4
@@ -51,10 +47,10 @@ pub fn line_length(img: &[u8], p: usize, parent: usize) -> usize
 fn put_head(out: &mut [u8], img: &[u8], p: usize) -> usize
     requires { ⌜ p + 128 ≤ length (now img) ⌝ }
     requires { ⌜ length (head (entryAt (now img) p)) ≤ length (now out) ⌝ }
-    ensures { λ r. ⌜ r ≡ length (head (entryAt (now (img .entry)) p)) ⌝ }
-    ensures { λ _. ⌜ now (out .exit) ≡ over (head (entryAt (now (img .entry)) p)) (now (out .entry)) ⌝ }
+    ensures count { λ r. ⌜ r ≡ length (head (entryAt (now (img .entry)) p)) ⌝ }
+    ensures written { λ _. ⌜ now (out .exit) ≡ over (head (entryAt (now (img .entry)) p)) (now (out .entry)) ⌝ }
 {
-    if kind(img, p) == 2 {
+    if entry_type(img, p).is_stream() {
         out[0] = 0x46;
         out[1] = 0x20;
         let n = put_decimal(&mut out[2..], size(img, p));
@@ -72,7 +68,7 @@ fn put_head(out: &mut [u8], img: &[u8], p: usize) -> usize
 fn copy_within(out: &mut [u8], from: usize, to: usize, n: usize)
     requires { ⌜ from + n ≤ to ⌝ }
     requires { ⌜ to + n ≤ length (now out) ⌝ }
-    ensures { λ _. ⌜ now (out .exit) ≡ take to (now (out .entry)) ++ (part (now (out .entry)) from n ++ drop (to + n) (now (out .entry))) ⌝ }
+    ensures { λ _. ⌜ now (out .exit) ≡ putAt (now (out .entry)) to n (part (now (out .entry)) from n) ⌝ }
 {
     let mut i = 0;
     while i < n {
@@ -85,8 +81,8 @@ fn copy_within(out: &mut [u8], from: usize, to: usize, n: usize)
 fn put_before(out: &mut [u8], at: usize, from: usize, parent: usize) -> usize
     requires { ⌜ from + parent ≤ at ⌝ }
     requires { ⌜ at + beforeLength parent ≤ length (now out) ⌝ }
-    ensures { λ r. ⌜ r ≡ beforeLength parent ⌝ }
-    ensures { λ _. ⌜ now (out .exit) ≡ take at (now (out .entry)) ++ (before parent (drop from (now (out .entry))) ++ drop (at + beforeLength parent) (now (out .entry))) ⌝ }
+    ensures count { λ r. ⌜ r ≡ beforeLength parent ⌝ }
+    ensures written { λ _. ⌜ now (out .exit) ≡ beforePut at from parent (now (out .entry)) ⌝ }
 {
     if parent == 0 {
         return 0;
@@ -109,8 +105,8 @@ pub fn put_line(
     requires { ⌜ NamedAt (now img) p ⌝ }
     requires { ⌜ from + parent ≤ at ⌝ }
     requires { ⌜ at + lineLength (entryAt (now img) p) parent ≤ length (now out) ⌝ }
-    ensures { λ r. ⌜ r ≡ at + length (head (entryAt (now (img .entry)) p)) ⌝ }
-    ensures { λ _. ⌜ now (out .exit) ≡ take at (now (out .entry)) ++ (line (entryAt (now (img .entry)) p) (before parent (drop from (now (out .entry))) ++ printName (name (entryAt (now (img .entry)) p))) ++ drop (at + lineLength (entryAt (now (img .entry)) p) parent) (now (out .entry))) ⌝ }
+    ensures path { λ r. ⌜ r ≡ at + length (head (entryAt (now (img .entry)) p)) ⌝ }
+    ensures written { λ _. ⌜ now (out .exit) ≡ linePut (entryAt (now (img .entry)) p) at from parent (now (out .entry)) ⌝ }
 {
     let start = at + put_head(&mut out[at..], img, p);
     let end = start + put_before(out, start, from, parent);

@@ -3,9 +3,8 @@
 ghost use mathlib.Core.Path.{_≡_};
 ghost use mathlib.Core.Bool.{true};
 ghost use mathlib.Core.List.{_++_};
-ghost use Prim.Native.Nat.{_+_, _*_, _≤_};
-ghost use lib.ListN.{length, getD};
-ghost use Rattle.format.specs.Layout.Entry.{name};
+ghost use Prim.Native.Nat.{_+_, _*_, _≤_, _<_};
+ghost use lib.ListN.{length};
 ghost use Rattle.format.specs.Layout.Tree.{forest, entries};
 ghost use Rattle.format.specs.Rules.Entries.{entryRules};
 ghost use Rattle.format.specs.Rules.Trees.{treeRules};
@@ -14,10 +13,10 @@ ghost use Rattle.format.specs.Calls.Text.{printName};
 ghost use Rattle.format.specs.Calls.Listing.{firstLine, listing};
 ghost use Rattle.theory.specs.TreeViews.{at, soundAt};
 ghost use Rattle.tables.specs.Work.{Wrote};
-ghost use Rattle.entries.specs.Entry.{entryAt, NamedAt};
+ghost use Rattle.entries.specs.Entry.{nameAt, NamedAt};
 ghost use Rattle.directory.specs.Listed.{countOf, entriesOf, DirectoryListed};
-ghost use Rattle.listing.specs.Lines.{beforeLength, firstWord};
-ghost use Rattle.listing.specs.Walks.{pairs, spine, turned, Turning, measured};
+ghost use Rattle.listing.specs.Lines.{beforeLength};
+ghost use Rattle.listing.specs.Walks.{pairs, entryOn, parentOn, spine, turnedAt, Turning, measured, measureOf};
 use super::line_length;
 use super::put_line;
 use directory::Directory;
@@ -28,9 +27,26 @@ use directory::right_of;
 use kinds::EntryId;
 use text::decimal_length;
 use text::name_length;
-use text::put_decimal;
+use text::put_number_line;
 
 // ---- the stack
+
+// An entry on the stack, and the length of its parent's path.
+struct Pair {
+    entry: EntryId,
+    parent: u32,
+}
+
+// Pair k of the stack.
+fn pair_at(work: &[u32], k: usize) -> Pair
+    requires { ⌜ 2 * k + 1 < length (now work) ⌝ }
+    ensures { λ r. ⌜ (r .entry .0 ≡ entryOn (now (work .entry)) k) × (r .parent ≡ parentOn (now (work .entry)) k) ⌝ }
+{
+    Pair {
+        entry: EntryId(work[2 * k]),
+        parent: work[2 * k + 1],
+    }
+}
 
 // Puts the left spine of the tree that x names on the stack of n pairs, and returns the stack's new height.
 fn push(img: &[u8], work: &mut [u32], d: Directory, n: usize, x: EntryId, parent: u32) -> usize
@@ -38,8 +54,8 @@ fn push(img: &[u8], work: &mut [u32], d: Directory, n: usize, x: EntryId, parent
     requires { ⌜ 2 * countOf d ≤ d .list ⌝ }
     requires { ⌜ soundAt (entriesOf d (now img)) (x .0) ≡ true ⌝ }
     requires { ⌜ n + length (entries (at (entriesOf d (now img)) (x .0))) ≤ countOf d ⌝ }
-    ensures { λ r. ⌜ pairs (now (work .exit)) r ≡ spine parent (at (entriesOf d (now (img .entry))) (x .0)) ++ pairs (now (work .entry)) n ⌝ }
-    ensures { λ _. ⌜ Wrote (now (work .entry)) (now (work .exit)) 0 (2 * countOf d) ⌝ }
+    ensures stack { λ r. ⌜ pairs (now (work .exit)) r ≡ spine parent (at (entriesOf d (now (img .entry))) (x .0)) ++ pairs (now (work .entry)) n ⌝ }
+    ensures wrote { λ _. ⌜ Wrote (now (work .entry)) (now (work .exit)) 0 (2 * countOf d) ⌝ }
 {
     let mut k = n;
     let mut y = x;
@@ -56,7 +72,7 @@ fn push(img: &[u8], work: &mut [u32], d: Directory, n: usize, x: EntryId, parent
 fn path_length(img: &[u8], p: usize, parent: u32) -> u32
     requires { ⌜ NamedAt (now img) p ⌝ }
     requires { ⌜ parent + 157 ≤ 0x1_0000_0000 ⌝ }
-    ensures { λ r. ⌜ r ≡ beforeLength parent + length (printName (name (entryAt (now (img .entry)) p))) ⌝ }
+    ensures { λ r. ⌜ r ≡ beforeLength parent + length (printName (nameAt (now (img .entry)) p)) ⌝ }
 {
     let n = name_length(img, p) as u32;
     if parent == 0 {
@@ -70,16 +86,15 @@ fn turn(img: &[u8], work: &mut [u32], d: Directory, k: usize) -> usize
     requires { ⌜ DirectoryListed d (now img) (now work) ⌝ }
     requires { ⌜ 2 * countOf d ≤ d .list ⌝ }
     requires { ⌜ entryRules (entriesOf d (now img)) ≡ true ⌝ }
-    requires { ⌜ Turning (entriesOf d (now img)) (countOf d) k (getD (now work) (2 * k) 0) (getD (now work) (2 * k + 1) 0) ⌝ }
-    ensures { λ r. ⌜ pairs (now (work .exit)) r ≡ turned (entriesOf d (now (img .entry))) (getD (now (work .entry)) (2 * k) 0) (getD (now (work .entry)) (2 * k + 1) 0) (pairs (now (work .entry)) k) ⌝ }
-    ensures { λ _. ⌜ Wrote (now (work .entry)) (now (work .exit)) 0 (2 * countOf d) ⌝ }
+    requires { ⌜ Turning (entriesOf d (now img)) (countOf d) k (entryOn (now work) k) (parentOn (now work) k) ⌝ }
+    ensures stack { λ r. ⌜ pairs (now (work .exit)) r ≡ turnedAt (entriesOf d (now (img .entry))) (now (work .entry)) k ⌝ }
+    ensures wrote { λ _. ⌜ Wrote (now (work .entry)) (now (work .exit)) 0 (2 * countOf d) ⌝ }
 {
-    let x = EntryId(work[2 * k]);
-    let parent = work[2 * k + 1];
-    let right = right_of(img, work, d, x);
-    let child = child_of(img, work, d, x);
-    let path = path_length(img, place(work, d, x), parent);
-    let n = push(img, work, d, k, right, parent);
+    let q = pair_at(work, k);
+    let right = right_of(img, work, d, q.entry);
+    let child = child_of(img, work, d, q.entry);
+    let path = path_length(img, place(work, d, q.entry), q.parent);
+    let n = push(img, work, d, k, right, q.parent);
     push(img, work, d, n, child, path)
 }
 
@@ -118,8 +133,8 @@ pub fn measure(img: &[u8], work: &mut [u32], d: Directory, most: usize) -> Measu
     requires { ⌜ treeRules (entriesOf d (now img)) ≡ true ⌝ }
     requires { ⌜ 2 * countOf d ≤ d .list ⌝ }
     requires { ⌜ countOf d ≤ 0x100_0000 ⌝ }
-    ensures { λ r. ⌜ r ≡ measured most (length (entries (forest (entriesOf d (now (img .entry)))))) (length (listing (entriesOf d (now (img .entry))))) ⌝ }
-    ensures { λ _. ⌜ Wrote (now (work .entry)) (now (work .exit)) 0 (2 * countOf d) ⌝ }
+    ensures answer { λ r. ⌜ r ≡ measureOf most (entriesOf d (now (img .entry))) ⌝ }
+    ensures wrote { λ _. ⌜ Wrote (now (work .entry)) (now (work .exit)) 0 (2 * countOf d) ⌝ }
 {
     let top = child_of(img, work, d, EntryId::ROOT);
     let mut n = push(img, work, d, 0, top, 0);
@@ -127,8 +142,8 @@ pub fn measure(img: &[u8], work: &mut [u32], d: Directory, most: usize) -> Measu
     let mut bytes = 0;
     while n > 0 {
         n -= 1;
-        let p = place(work, d, EntryId(work[2 * n]));
-        let k = line_length(img, p, work[2 * n + 1] as usize);
+        let q = pair_at(work, n);
+        let k = line_length(img, place(work, d, q.entry), q.parent as usize);
         if most - bytes < k {
             return Measured::TooLong;
         }
@@ -141,31 +156,13 @@ pub fn measure(img: &[u8], work: &mut [u32], d: Directory, most: usize) -> Measu
 
 // ---- the text
 
-// Writes the first line's word and the space behind it.
-fn put_word(out: &mut [u8])
-    requires { ⌜ 8 ≤ length (now out) ⌝ }
-    ensures { λ _. ⌜ now (out .exit) ≡ over firstWord (now (out .entry)) ⌝ }
-{
-    out[0] = 0x6F;
-    out[1] = 0x62;
-    out[2] = 0x6A;
-    out[3] = 0x65;
-    out[4] = 0x63;
-    out[5] = 0x74;
-    out[6] = 0x73;
-    out[7] = 0x20;
-}
-
 // Writes the first line, and returns how many bytes it takes.
 fn put_first(out: &mut [u8], objects: usize) -> usize
     requires { ⌜ length (firstLine objects) ≤ length (now out) ⌝ }
-    ensures { λ r. ⌜ r ≡ length (firstLine objects) ⌝ }
-    ensures { λ _. ⌜ now (out .exit) ≡ over (firstLine objects) (now (out .entry)) ⌝ }
+    ensures count { λ r. ⌜ r ≡ length (firstLine objects) ⌝ }
+    ensures written { λ _. ⌜ now (out .exit) ≡ over (firstLine objects) (now (out .entry)) ⌝ }
 {
-    put_word(out);
-    let n = put_decimal(&mut out[8..], objects as u64);
-    out[8 + n] = 0x0A;
-    8 + n + 1
+    put_number_line(out, b"objects ", objects as u64)
 }
 
 // Writes the listing, which the out buffer has room for. A line's parent path is copied from the line before, whose path begins with it.
@@ -177,8 +174,8 @@ pub fn write(img: &[u8], work: &mut [u32], d: Directory, objects: usize, out: &m
     requires { ⌜ countOf d ≤ 0x100_0000 ⌝ }
     requires { ⌜ objects ≡ length (entries (forest (entriesOf d (now img)))) ⌝ }
     requires { ⌜ length (listing (entriesOf d (now img))) ≤ length (now out) ⌝ }
-    ensures { λ _. ⌜ now (out .exit) ≡ over (listing (entriesOf d (now (img .entry)))) (now (out .entry)) ⌝ }
-    ensures { λ _. ⌜ Wrote (now (work .entry)) (now (work .exit)) 0 (2 * countOf d) ⌝ }
+    ensures written { λ _. ⌜ now (out .exit) ≡ over (listing (entriesOf d (now (img .entry)))) (now (out .entry)) ⌝ }
+    ensures wrote { λ _. ⌜ Wrote (now (work .entry)) (now (work .exit)) 0 (2 * countOf d) ⌝ }
 {
     let mut at = put_first(out, objects);
     let mut from = 0;
@@ -186,8 +183,9 @@ pub fn write(img: &[u8], work: &mut [u32], d: Directory, objects: usize, out: &m
     let mut n = push(img, work, d, 0, top, 0);
     while n > 0 {
         n -= 1;
-        let p = place(work, d, EntryId(work[2 * n]));
-        let parent = work[2 * n + 1] as usize;
+        let q = pair_at(work, n);
+        let p = place(work, d, q.entry);
+        let parent = q.parent as usize;
         from = put_line(out, at, img, p, from, parent);
         at += line_length(img, p, parent);
         n = turn(img, work, d, n);

@@ -7,8 +7,10 @@ ghost use lib.ListN.{length};
 ghost use Rattle.format.specs.Calls.Read.{over};
 ghost use Rattle.format.specs.Calls.Text.{decimal, hexDigit, printUnit, printName};
 ghost use Rattle.entries.specs.Entry.{nameAt, NamedAt};
+ghost use Rattle.text.specs.Lines.{numberLine};
 use entries::names::name_unit;
 use entries::names::name_units;
+use le::copy;
 
 // ---- numbers
 
@@ -40,6 +42,19 @@ pub fn put_decimal(out: &mut [u8], n: u64) -> usize
         m = m / 10;
     }
     k
+}
+
+// Writes a word, a number's digits behind it and the end of the line, and returns how many bytes they are.
+pub fn put_number_line(out: &mut [u8], word: &[u8], n: u64) -> usize
+    requires { ⌜ length (numberLine (now word) n) ≤ length (now out) ⌝ }
+    ensures count { λ r. ⌜ r ≡ length (numberLine (now (word .entry)) n) ⌝ }
+    ensures written { λ _. ⌜ now (out .exit) ≡ over (numberLine (now (word .entry)) n) (now (out .entry)) ⌝ }
+{
+    let k = word.len();
+    copy(&mut out[..k], word);
+    let m = put_decimal(&mut out[k..], n);
+    out[k + m] = 0x0A;
+    k + m + 1
 }
 
 // ---- names

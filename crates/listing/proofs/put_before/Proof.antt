@@ -5,7 +5,8 @@ use mathlib.Core.List.{_++_}
 use lib.ListN.{length, take, length-set}
 use Rattle.format.specs.Basics.Bytes.{part}
 use Rattle.listing.proofs.LineLengths.{none-length, some-length}
-use Rattle.listing.proofs.LineWrites.{Placed, placed-length, put-none, put-parent, put-slash}
+use Rattle.text.proofs.Filled.{Filled, filled-length}
+use Rattle.listing.proofs.LineWrites.{put-none, put-parent, put-slash}
 use Rattle.listing.proofs.put_before.Statement.{statement}
 use Rattle.listing.proofs.put_before.Tie as tie
 
@@ -17,7 +18,7 @@ room c = let s = c .before .before in omega (arith, some-length (s .args .parent
 
 -- the parent's path is copied
 path : (c : tie.After-slice-known2) → let a = c .before .before .before .before .before .before .args in
-    Placed (a .out .now) (take (a .at) (a .out .now) ++ part (a .out .now) (a .from) (a .parent)) (c .before .before .copy-within .last .0) (a .at + a .parent)
+    Filled (a .out .now) (take (a .at) (a .out .now) ++ part (a .out .now) (a .from) (a .parent)) (c .before .before .copy-within .last .0) (a .at + a .parent)
 path c =
     let e = c .before .before .before .before in
     let s = e .before .before in
@@ -32,9 +33,9 @@ put-before-spec =
     (sym (none-length (s .args .parent) (c .if1 .taken)), put-none (s .args .out .now) (s .args .at) (s .args .from) (s .args .parent) (s .pre .1) (c .if1 .taken)))  -- returns
     (λ c κs. (c .before .before .before .pre .0, omega (arith, room (c .before))))  -- copy-within-requires
     (λ c. omega (arith, room (c .before .before .before .before)))  -- add-out
-    (λ c. omega (arith, placed-length (path c), room (c .before .before .before .before)))  -- slice-write-out
+    (λ c. omega (arith, filled-length (path c), room (c .before .before .before .before)))  -- slice-write-out
     (λ c. omega (arith, room (c .before .before .before .before)))  -- add-result
-    (λ c. length-set (c .before .before .copy-within .last .0) _ _ ∙ placed-length (path c))  -- same-length
+    (λ c. length-set (c .before .before .copy-within .last .0) _ _ ∙ filled-length (path c))  -- same-length
     (λ c.
     let e = c .before .before .before .before in
     let s = e .before .before in

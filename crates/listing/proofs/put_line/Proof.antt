@@ -11,7 +11,8 @@ use Rattle.format.specs.Calls.Text.{printName}
 use Rattle.entries.specs.Entry.{entryAt}
 use Rattle.listing.specs.Lines.{head}
 use Rattle.listing.proofs.LineLengths.{length-parts}
-use Rattle.listing.proofs.LineWrites.{Placed, lent-length, placed-length, nameless, line-head, line-before, name-room, line-name, line-end}
+use Rattle.text.proofs.Filled.{Filled, lent-length, filled-length}
+use Rattle.listing.proofs.LineWrites.{nameless, line-head, line-before, name-room, line-name, line-end}
 use Rattle.listing.proofs.put_line.Statement.{statement}
 use Rattle.listing.proofs.put_line.Tie as tie
 
@@ -23,7 +24,7 @@ namelessOf s = nameless (s .args .out .now) (entryOf s) (s .args .at) (s .args .
 
 -- the head is written
 headed : (c : tie.After-slice-known2) → let s = c .before .before .before .before .before .before in
-    Placed (s .args .out .now) (take (s .args .at) (s .args .out .now) ++ head (entryOf s))
+    Filled (s .args .out .now) (take (s .args .at) (s .args .out .now) ++ head (entryOf s))
     (putMid (s .args .at) (length (s .args .out .now) - s .args .at) (s .args .out .now) (c .before .before .put-head .last .0)) (s .args .at + c .before .before .put-head .result)
 headed c =
     let h = c .before .before in
@@ -32,7 +33,7 @@ headed c =
 
 -- and what is before the name
 begun : (c : tie.After-slice-known3) → let s = c .before .before .before .before .before .before .before .before .before .before in
-    Placed (s .args .out .now) (namelessOf s) (c .before .before .put-before .last .0)
+    Filled (s .args .out .now) (namelessOf s) (c .before .before .put-before .last .0)
     (s .args .at + c .before .before .before .before .before .before .put-head .result + c .before .before .put-before .result)
 begun c =
     let p = c .before .before in
@@ -55,7 +56,7 @@ room c =
 named : (c : tie.After-slice-known4) → let b = c .before .before .before .before in
     let s = b .before .before .before .before .before .before .before .before .before .before in
     let k = place b in
-    Placed (s .args .out .now) (namelessOf s ++ printName (name (entryOf s)))
+    Filled (s .args .out .now) (namelessOf s ++ printName (name (entryOf s)))
     (putMid k (length (b .before .before .put-before .last .0) - k) (b .before .before .put-before .last .0) (c .before .before .put-name .last .0))
     (k + c .before .before .put-name .result)
 named c =
@@ -78,18 +79,18 @@ put-line-spec =
     (λ c κs.
     let h = c .before in
     let s = h .before .before .before .before .before .before in
-    (omega (arith, s .pre .1 .0), omega (arith, placed-length (headed h), h .before .before .put-head .ensures .0, s .pre .1 .1, length-parts (entryOf s) (s .args .parent))))  -- put-before-requires
+    (omega (arith, s .pre .1 .0), omega (arith, filled-length (headed h), h .before .before .put-head .ensures .0, s .pre .1 .1, length-parts (entryOf s) (s .args .parent))))  -- put-before-requires
     (λ c. omega (arith, begun c .room))  -- add-end
-    (λ c. omega (arith, begun c .room, placed-length (begun c)))  -- sub-put-name
-    (λ c. omega (arith, begun c .room, placed-length (begun c)))  -- part-put-name-start
+    (λ c. omega (arith, begun c .room, filled-length (begun c)))  -- sub-put-name
+    (λ c. omega (arith, begun c .room, filled-length (begun c)))  -- part-put-name-start
     (λ c. search needs)  -- part-put-name-end
     (λ c κs.
     let b = c .before in
     let s = b .before .before .before .before .before .before .before .before .before .before in
-    (s .pre .0, rw (lent-length (b .before .before .put-before .last .0) (place b)) (omega (arith, placed-length (begun b), room b))))  -- put-name-requires
+    (s .pre .0, rw (lent-length (b .before .before .put-before .last .0) (place b)) (omega (arith, filled-length (begun b), room b))))  -- put-name-requires
     (λ c. omega (arith, named c .room))  -- add-out
-    (λ c. let b = c .before .before .before .before in omega (arith, placed-length (named c), c .before .before .put-name .ensures .0, room b))  -- slice-write-out
-    (λ c. simp length-set (placed-length (named c)))  -- same-length
+    (λ c. let b = c .before .before .before .before in omega (arith, filled-length (named c), c .before .before .put-name .ensures .0, room b))  -- slice-write-out
+    (λ c. simp length-set (filled-length (named c)))  -- same-length
     (λ c.
     let b = c .before .before .before .before in
     let h = b .before .before .before .before in
