@@ -59,7 +59,7 @@ pub record ChainsMarked (sp : Space) (right : Bool) (own before after : List ℕ
 
 -- the FAT's sectors stand listed, and the marks of sectors agree with the FAT: chains may be marked
 pub record SectorMarks (t : Tables) (img : Bytes) (work : List ℕ) : Type 0 where
-  pub fat : FatListed t img work
+  pub listed : FatListed t img work
   pub closed : Closed (cellsOf t img) (sectorCountOf t img) (marks work)
 
 abbrev pub SectorsWalked : Tables → Bytes → ℕ → ℕ → List ℕ → List ℕ → Marked → Type 0

@@ -19,10 +19,10 @@ abbrev μ-loop : tie.MeasureT-loop
 μ-loop img work₀ t n s₀ k₀ work s k = k
 
 inside : (c : tie.Else1 Inv-loop μ-loop) → let p = c .before .before .before .before .before .before in c .before .before .before .loop .s .0 < sectorCountOf (p .args .t) (p .args .img .now)
-inside c = let p = c .before .before .before .before .before .before in said-below _ (p .args .t .sectors) (c .if1 .left) (c .before .below .ensures) (p .pre .fat .count)
+inside c = let p = c .before .before .before .before .before .before in said-below _ (p .args .t .sectors) (c .if1 .left) (c .before .below .ensures) (p .pre .listed .count)
 
 outside : (c : tie.Then1 Inv-loop μ-loop) → let p = c .before .before .before .before .before .before in sectorCountOf (p .args .t) (p .args .img .now) ≤ c .before .before .before .loop .s .0
-outside c = let p = c .before .before .before .before .before .before in said-beyond _ (p .args .t .sectors) (c .if1 .taken) (c .before .below .ensures) (p .pre .fat .count)
+outside c = let p = c .before .before .before .before .before .before in said-beyond _ (p .args .t .sectors) (c .if1 .taken) (c .before .below .ensures) (p .pre .listed .count)
 
 -- the sector has a mark
 in-work : (c : tie.Else1 Inv-loop μ-loop) → let l = c .before .before .before .loop in l .s .0 < length (l .work)
@@ -31,13 +31,13 @@ in-work c = omega (arith, inside c, c .before .before .before .loop .inv .room)
 -- only marks have changed, so the tables stay listed
 still : (c : tie.Else1 Inv-loop μ-loop) → let p = c .before .before .before .before .before .before in
     FatListed (p .args .t) (p .args .img .now) (c .before .before .before .loop .work)
-still c = let l = c .before .before .before .before .before .before .pre .fat in listed-kept l (c .before .before .before .loop .inv .wrote) (omega (arith, l .apart))
+still c = let l = c .before .before .before .before .before .before .pre .listed in listed-kept l (c .before .before .before .loop .inv .wrote) (omega (arith, l .apart))
 
 pub mark-chain-spec : {M : Type 1} → statement M
 mark-chain-spec =
     tie.close
     (tie.spec Inv-loop μ-loop
-    (λ c. let p = c .before .before in walk-start (omega (arith, p .pre .fat .apart, p .pre .fat .room)) (p .pre .closed))  -- loop-holds
+    (λ c. let p = c .before .before in walk-start (omega (arith, p .pre .listed .apart, p .pre .listed .room)) (p .pre .closed))  -- loop-holds
     (λ c κs. search needs)  -- below-requires
     (λ c. search needs)  -- same-length
     (λ c. walk-out (c .before .before .before .loop .inv) (c .before .before .loop-test .taken) (outside c))  -- returns
