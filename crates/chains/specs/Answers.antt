@@ -57,10 +57,14 @@ pub record ChainsMarked (sp : Space) (right : Bool) (own before after : List ℕ
 
 -- ---- sectors
 
--- the FAT's sectors stand listed, and the marks of sectors agree with the FAT: chains may be marked
+-- the marks of sectors agree with the FAT
+abbrev pub SectorsClosed : Tables → Bytes → List ℕ → Type 0
+SectorsClosed t img work = Closed (cellsOf t img) (sectorCountOf t img) (marks work)
+
+-- and its sectors stand listed: chains may be marked
 pub record SectorMarks (t : Tables) (img : Bytes) (work : List ℕ) : Type 0 where
   pub listed : FatListed t img work
-  pub closed : Closed (cellsOf t img) (sectorCountOf t img) (marks work)
+  pub closed : SectorsClosed t img work
 
 abbrev pub SectorsWalked : Tables → Bytes → ℕ → ℕ → List ℕ → List ℕ → Marked → Type 0
 SectorsWalked t img n s before after a = ChainWalked (cellsOf t img) (sectorCountOf t img) n s before after a

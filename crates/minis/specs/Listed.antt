@@ -50,10 +50,14 @@ pub record MiniListed (t : Minis) (img : Bytes) (work : List ℕ) : Type 0 where
 
 -- ---- marks
 
--- the mini FAT's sectors stand listed, and the marks of mini sectors agree with the mini FAT: chains may be marked
+-- the marks of mini sectors agree with the mini FAT
+abbrev pub MinisClosed : Minis → Bytes → List ℕ → Type 0
+MinisClosed t img work = Closed (minisOf t img .cell) (minisOf t img .limit) (marks work)
+
+-- and its sectors stand listed: chains may be marked
 pub record MiniMarks (t : Minis) (img : Bytes) (work : List ℕ) : Type 0 where
   pub listed : MiniListed t img work
-  pub closed : Closed (minisOf t img .cell) (minisOf t img .limit) (marks work)
+  pub closed : MinisClosed t img work
 
 abbrev pub MinisWalked : Minis → Bytes → ℕ → ℕ → List ℕ → List ℕ → Marked → Type 0
 MinisWalked t img n s before after a = ChainWalked (minisOf t img .cell) (minisOf t img .limit) n s before after a
