@@ -21,7 +21,7 @@ use Rattle.theory.proofs.Tests.{both}
 use Rattle.theory.proofs.Counts.{count-at}
 use Rattle.theory.proofs.Chains.{chain-linked, follow-units, linked-below, linked-short}
 use Rattle.tables.specs.Work.{Holds}
-use Rattle.tables.specs.Listed.{Listed as FatListed}
+use Rattle.tables.specs.Listed.{FatListed}
 use Rattle.tables.specs.declared.Tables.{Tables}
 use Rattle.chains.specs.Answers.{unitAt}
 use Rattle.directory.specs.Listed.{directoryAt, DirectoryListed}
@@ -52,7 +52,7 @@ module _ (g : Geometry) (img : Bytes) (h : directoryRules (volume g img) ≡ tru
   directory-below k l = linked-below (fatCell g img) (sectorCount g img) (directorySectorsOf g img) directory-linked _ (count-at (directorySectorsOf g img) k 0 l)
 
 -- the walk that lists the chain: what it is called with, and what it leaves
-module _ {img : Bytes} {w : List ℕ} (t : Tables) (n s : ℕ) (l : FatListed (geometryOf (t .geometry)) img w (t .sectors) (t .list))
+module _ {img : Bytes} {w : List ℕ} (t : Tables) (n s : ℕ) (l : FatListed t img w)
     (e : n ≡ length (directorySectorsOf (geometryOf (t .geometry)) img)) (d : s ≡ directoryStart img) (h : directoryRules (volume (geometryOf (t .geometry)) img) ≡ true) where
   abbrev g : Geometry
   g = geometryOf (t .geometry)

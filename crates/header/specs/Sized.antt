@@ -17,9 +17,12 @@ pub record ImageSized (g : Geometry) (img : Bytes) : Type 0 where
   pub few : sectorCount g img < 0x100_0000
   pub short : length img < 0x1_0000_0000
 
--- F and D
+-- F, D and W, as arithmetic reads them
 abbrev pub F : Bytes → ℕ
 F img = u32at img 44
 
 abbrev pub D : Bytes → ℕ
 D img = u32at img 72
+
+abbrev pub W : Bytes → ℕ
+W img = 13 * (length img / 512)

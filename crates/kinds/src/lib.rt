@@ -89,6 +89,14 @@ impl Sector {
         self.0 == Sector::DIFSECT.0
     }
 
+    // The sector of an index.
+    pub fn at(i: usize) -> Sector
+        requires { ⌜ i < 0x1_0000_0000 ⌝ }
+        ensures { λ r. ⌜ r .0 ≡ i ⌝ }
+    {
+        Sector(i as u32)
+    }
+
     // The number as an index.
     pub fn index(self) -> usize
         ensures { λ r. ⌜ r ≡ self .0 ⌝ }
@@ -129,6 +137,9 @@ impl MiniSector {
 
     pub const END: MiniSector = MiniSector(0xFFFF_FFFE);
 
+    // The bytes of a mini sector, in every version.
+    pub const BYTES: usize = 64;
+
     pub const FIRST: MiniSector = MiniSector(0);
 
     pub fn is_free(self) -> bool
@@ -141,6 +152,13 @@ impl MiniSector {
         ensures { λ r. ⌜ r ≡ eqb (self .0) END ⌝ }
     {
         self.0 == MiniSector::END.0
+    }
+
+    pub fn at(i: usize) -> MiniSector
+        requires { ⌜ i < 0x1_0000_0000 ⌝ }
+        ensures { λ r. ⌜ r .0 ≡ i ⌝ }
+    {
+        MiniSector(i as u32)
     }
 
     pub fn index(self) -> usize

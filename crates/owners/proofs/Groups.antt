@@ -26,7 +26,8 @@ use Rattle.theory.proofs.OwnerMarks.{owners-by-marks}
 use Rattle.theory.proofs.Tests.{leb-not, below-ext, below-both}
 use Rattle.header.specs.Sized.{ImageSized}
 use Rattle.directory.proofs.Room.{table-once, unmarked}
-use Rattle.owners.specs.Streams.{largeRight, smallRight, systemChains}
+use Rattle.system_chains.specs.System.{systemChains}
+use Rattle.owners.specs.Streams.{largeRight, smallRight}
 
 -- ---- group 17: the chains of the large streams and those of the small ones
 

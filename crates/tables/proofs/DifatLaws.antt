@@ -11,7 +11,7 @@ use lib.Dec.{eqb}
 use lib.ListN.{length, set}
 use borrow.Author.Tests.{lt-ltb, le-ltb}
 use Rattle.format.specs.Basics.Lists.{allBelow}
-use Rattle.format.specs.Basics.Bytes.{Bytes, u32at}
+use Rattle.format.specs.Basics.Bytes.{Bytes}
 use Rattle.format.specs.Layout.Geometry.{Geometry, headerDifat, sectorCount, cellsIn, difatIn}
 use Rattle.format.specs.Layout.Chain.{END, FREE}
 use Rattle.format.specs.Layout.Header.{fatCount, difatStart, difatCount}

@@ -1,13 +1,13 @@
 -- Where numbers stand in sectors: inside the image; and the cells of the FAT by these places.
 use Prim.Native.Nat.{ℕ, suc, _+_, _-_, _*_, _/_, _%_, _≤_, _<_}
 use mathlib.Core.Path.{_≡_, refl, ap}
-use native.Mathlib.Nat.{mod-lt, mul-le-mul-left, mul-le-mul-right, le-div-iff-mul-le}
+use native.Mathlib.Nat.{mod-lt, mul-le-mul-left}
 use native.Mathlib.Omega.{arith}
 use lib.ListN.{length}
 use borrow.Author.Tests.{lt-ltb, le-ltb}
 use Rattle.format.specs.Basics.Bytes.{Bytes, u32at}
 use Rattle.format.specs.Layout.Geometry.{Geometry, headerDifat, sectorCount, sectorPlace, placeIn, cellsIn, difatIn}
-use Rattle.format.specs.Layout.Header.{fatCount, difatStart, difatPlace}
+use Rattle.format.specs.Layout.Header.{fatCount, difatStart}
 use Rattle.format.specs.Layout.Tables.{difatSector, difatEntry, fatSectors, fatCells, fatCell, cellIn, cellPlaceIn}
 use Rattle.theory.proofs.Below.{getD-below}
 use Rattle.theory.proofs.Scale.{scale-div, scale-mod, scale-below}

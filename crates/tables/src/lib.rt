@@ -1,12 +1,13 @@
 // The tables of an image: the lookup of a cell. Group 11 stands in `sectors`.
 ghost use mathlib.Core.Path.{_≡_};
-ghost use Prim.Native.Nat.{_+_, _≤_, _<_, _*_};
+ghost use Prim.Native.Nat.{_+_, _≤_, _<_, _*_, _/_, _%_};
+ghost use lib.ListN.{length};
 ghost use Rattle.format.specs.Layout.Geometry.{sectorCount, cellsIn};
-ghost use Rattle.format.specs.Layout.Tables.{fatCell};
 ghost use Rattle.kinds.specs.Sizes.{geometryOf};
 ghost use Rattle.header.specs.Sized.{ImageSized, F, D};
-ghost use Rattle.tables.specs.Words.{wordIn};
-ghost use Rattle.tables.specs.Listed.{Listed, tablesOf};
+ghost use Rattle.tables.specs.Words.{wordIn, sectorFor};
+ghost use Rattle.tables.specs.Views.{cellsOf};
+ghost use Rattle.tables.specs.Listed.{FatListed, tablesOf};
 use header::difat_count;
 use header::fat_count;
 use header::sector_count;
@@ -29,6 +30,20 @@ pub fn word_in(img: &[u8], g: Geometry, s: Sector, i: usize) -> u32
     u32_at(img, s.place(g) + 4 * i)
 }
 
+// Number i of a table whose sectors are listed in the work buffer from a place on.
+pub fn table_word(img: &[u8], work: &[u32], g: Geometry, list: usize, i: usize) -> u32
+    requires { ⌜ ImageSized (geometryOf g) (now img) ⌝ }
+    requires { ⌜ list + i / cellsIn (geometryOf g) < length (now work) ⌝ }
+    requires { ⌜ sectorFor (geometryOf g) (now work) list i < sectorCount (geometryOf g) (now img) ⌝ }
+    ensures { λ r. ⌜ r
+        ≡ wordIn (geometryOf g) (now (img .entry)) (sectorFor (geometryOf g) (now (work .entry)) list i) (i % cellsIn (geometryOf g)) ⌝ }
+{
+    let cells = g.cells();
+    word_in(img, g, Sector(work[list + i / cells]), i % cells)
+}
+
+// ---- cells
+
 // The sizes, how many sectors there are, and where in the work buffer the FAT's sectors are listed.
 pub struct Tables {
     pub geometry: Geometry,
@@ -38,15 +53,12 @@ pub struct Tables {
 
 // The cell of a sector.
 pub fn cell_at(img: &[u8], work: &[u32], t: Tables, s: Sector) -> Sector
-    requires { ⌜ Listed (geometryOf (t .geometry)) (now img) (now work) (t .sectors) (t .list) ⌝ }
+    requires { ⌜ FatListed t (now img) (now work) ⌝ }
     requires { ⌜ s .0 < cellsIn (geometryOf (t .geometry)) * F (now img) ⌝ }
-    ensures { λ r. ⌜ r .0 ≡ fatCell (geometryOf (t .geometry)) (now (img .entry)) (s .0) ⌝ }
+    ensures { λ r. ⌜ r .0 ≡ cellsOf t (now (img .entry)) (s .0) ⌝ }
 {
     let g = t.geometry;
-    let list = t.list;
-    let cells = g.cells();
-    let i = s.index();
-    Sector(word_in(img, g, Sector(work[list + i / cells]), i % cells))
+    Sector(table_word(img, work, g, t.list, s.index()))
 }
 
 // The tables of an image whose group 11 holds.

@@ -7,8 +7,9 @@ ghost use Rattle.format.specs.Rules.Tables.{difatNeed, tableCounts, difatRest, 
 ghost use Rattle.kinds.specs.Sizes.{geometryOf};
 ghost use Rattle.header.specs.Sized.{ImageSized, F, D};
 ghost use Rattle.tables.specs.Work.{Wrote, Holds, WorkClear};
-ghost use Rattle.tables.specs.Listed.{Listed};
-ghost use Rattle.tables.specs.Stages.{DifatArgs, DifatListed, Difats, ListArgs, ListLeft, TableMarked, TablesLeft, StageArgs, Built, ListsLeft, MarksLeft};
+ghost use Rattle.tables.specs.Listed.{FatListed};
+ghost use Rattle.tables.specs.Stages.{DifatArgs, DifatListed, Difats, ListArgs, ListLeft, TableMarked, TablesLeft};
+ghost use Rattle.tables.specs.Stages.{StageArgs, Built, ListsLeft, MarksLeft};
 use super::Tables;
 use super::cell_at;
 use super::word_in;
@@ -36,7 +37,7 @@ pub fn table_counts(img: &[u8], g: Geometry) -> bool
 
 // The DIFAT sectors that f FAT sectors need.
 fn difat_need(g: Geometry, f: usize) -> usize
-    requires { ⌜ (512 ≤ g .bytes) × (g .bytes ≤ 4096) × (f < 4294967296) ⌝ }
+    requires { ⌜ (512 ≤ g .bytes) × (g .bytes ≤ 4096) × (f < 0x1_0000_0000) ⌝ }
     ensures { λ r. ⌜ r ≡ difatNeed (geometryOf g) f ⌝ }
 {
     let mut over = 0;
@@ -138,22 +139,22 @@ pub fn mark_list(work: &mut [u32], n: usize, at: usize, count: usize, v: u32) ->
 
 // The cells that mark table sectors are those of the marked sectors.
 pub fn table_marks(img: &[u8], work: &[u32], t: Tables) -> bool
-    requires { ⌜ Listed (geometryOf (t .geometry)) (now img) (now work) (t .sectors) (t .list) ⌝ }
+    requires { ⌜ FatListed t (now img) (now work) ⌝ }
     requires { ⌜ TableMarked (geometryOf (t .geometry)) (now img) (now work) ⌝ }
     ensures { λ r. ⌜ r ≡ tableMarks (geometryOf (t .geometry)) (now (img .entry)) ⌝ }
 {
     let n = t.sectors;
-    let mut i = 0;
-    while i < n {
-        let c = cell_at(img, work, t, Sector(i as u32));
-        let m = work[i];
+    let mut s = Sector::FIRST;
+    while s.index() < n {
+        let c = cell_at(img, work, t, s);
+        let m = work[s.index()];
         if c.is_fat() != (m == 1) {
             return false;
         }
         if c.is_difat() != (m == 2) {
             return false;
         }
-        i += 1;
+        s = s.next();
     }
     true
 }

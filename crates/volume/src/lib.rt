@@ -14,7 +14,6 @@ use tables::work_need;
 pub mod entry_stage;
 pub mod mini_stage;
 pub mod owner_stage;
-pub mod system;
 pub mod table_stage;
 
 // Where everything stands: the FAT's sectors, the directory's, the mini FAT's and the mini stream's are listed in the work buffer.

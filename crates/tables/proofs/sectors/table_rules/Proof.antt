@@ -1,9 +1,8 @@
 use borrow.Author.Needs.{needs}
-use Prim.Native.Nat.{_+_, _-_, _*_, _/_}
+use Prim.Native.Nat.{_+_, _-_}
 use mathlib.Core.Path.{refl, sym, _∙_, ap}
 use Rattle.format.specs.Rules.Length.{workNeed}
 use native.Mathlib.Omega.{arith}
-use lib.ListN.{length}
 use borrow.Author.Tests.{not-false}
 use Rattle.kinds.specs.Sizes.{geometryOf}
 use Rattle.tables.specs.Stages.{Counted, StageArgs}

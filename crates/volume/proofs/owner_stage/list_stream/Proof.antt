@@ -8,7 +8,7 @@ use Rattle.kinds.specs.Sizes.{geometryOf}
 use Rattle.tables.proofs.WorkLaws.{wrote-wider}
 use Rattle.entries.specs.Entry.{entryAt}
 use Rattle.directory.proofs.Places.{placed, place-inside, root-inside}
-use Rattle.volume.proofs.SystemChains.{root-read}
+use Rattle.system_chains.proofs.SystemLaws.{root-read}
 use Rattle.volume.proofs.StreamList.{stream-fits, stream-chain, stream-ready}
 use Rattle.volume.proofs.owner_stage.list_stream.Statement.{statement}
 use Rattle.volume.proofs.owner_stage.list_stream.Tie as tie
