@@ -15,9 +15,9 @@ use Rattle.tables.specs.Work.{Wrote}
 use Rattle.entries.specs.Entry.{entryAt}
 use Rattle.directory.specs.Listed.{countOf, entriesOf, placeOf}
 use Rattle.directory.specs.declared.Directory.{Directory as Where}
-use Rattle.listing.specs.Lines.{lineLength}
-use Rattle.listing.specs.declared.walk.Measured.{Measured}
-use Rattle.listing.specs.declared.walk.Measured.the-variants.{TooLong, Fits}
+use Rattle.lines.specs.Lines.{lineLength}
+use Rattle.listing.specs.declared.Measured.{Measured}
+use Rattle.listing.specs.declared.Measured.the-variants.{TooLong, Fits}
 use Rattle.listing.specs.Walks.{pairs, entryOn, parentOn, turnedAt, measured, measureOf}
 use Rattle.listing.proofs.Walks.{Walks, walks-end, walks-room, walks-line, walks-more}
 

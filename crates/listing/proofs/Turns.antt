@@ -19,7 +19,7 @@ use Rattle.directory.specs.Listed.{countOf, entriesOf, placeOf, DirectoryListed
 use Rattle.directory.specs.declared.Directory.{Directory as Where}
 use Rattle.directory.proofs.Places.{directory-kept, entry-is, named-at}
 use Rattle.entry_rules.proofs.Ruled.{ruled}
-use Rattle.listing.specs.Lines.{beforeLength}
+use Rattle.lines.specs.Lines.{beforeLength}
 use Rattle.listing.specs.Walks.{pairs, spine, pathLength, turned, Turning}
 use Rattle.listing.proofs.Stack.{pairs-long}
 

@@ -20,9 +20,9 @@ use Rattle.entries.specs.Entry.{entryAt, NamedAt}
 use Rattle.directory.specs.Listed.{countOf, entriesOf, placeOf, DirectoryListed}
 use Rattle.directory.specs.declared.Directory.{Directory as Where}
 use Rattle.directory.proofs.Places.{directory-kept, count-is, entry-is}
-use Rattle.listing.specs.Lines.{lineLength}
+use Rattle.lines.specs.Lines.{lineLength}
 use Rattle.listing.specs.Walks.{pairs, entryOn, parentOn, spine, turnedAt, Turning}
-use Rattle.listing.proofs.LineLengths.{line-length}
+use Rattle.lines.proofs.LineLengths.{line-length}
 use Rattle.listing.proofs.Stack.{pairs-long, pairs-top}
 use Rattle.listing.proofs.Turns.{turn-named, turn-inside}
 use Rattle.listing.proofs.Walked.{Walked, pathOf, countCome, walk-start, walk-end, walk-more, top-turning, top-parent, line-room}

@@ -18,9 +18,9 @@ use Rattle.tables.specs.Work.{Wrote}
 use Rattle.entries.specs.Entry.{entryAt}
 use Rattle.directory.specs.Listed.{countOf, entriesOf, placeOf}
 use Rattle.directory.specs.declared.Directory.{Directory as Where}
-use Rattle.listing.specs.Lines.{head, before, lineLength, linePut}
+use Rattle.lines.specs.Lines.{head, before, lineLength, linePut}
 use Rattle.listing.specs.Walks.{pairs, entryOn, parentOn, turnedAt}
-use Rattle.listing.proofs.LineLengths.{line-parts, length-line}
+use Rattle.lines.proofs.LineLengths.{line-parts, length-line}
 use Rattle.text.proofs.Filled.{Filled, filled-behind, filled-length}
 use Rattle.listing.proofs.Prints.{before-front}
 use Rattle.listing.proofs.Walked.{pathOf}

@@ -10,9 +10,9 @@ use Rattle.format.specs.Layout.Tree.{Forest, empty, broken, node, entries, fore
 use Rattle.format.specs.Calls.Text.{printName}
 use Rattle.format.specs.Calls.Listing.{listing}
 use Rattle.theory.specs.TreeViews.{rightOf, childOf, at, Standing}
-use Rattle.listing.specs.Lines.{beforeLength}
-use Rattle.listing.specs.declared.walk.Measured.{Measured}
-use Rattle.listing.specs.declared.walk.Measured.the-variants.{TooLong, Fits}
+use Rattle.lines.specs.Lines.{beforeLength}
+use Rattle.listing.specs.declared.Measured.{Measured}
+use Rattle.listing.specs.declared.Measured.the-variants.{TooLong, Fits}
 
 -- the stack's first n pairs, the last first: an entry, and the length of its parent's path
 unfoldable pub pairs : List ℕ → ℕ → List (ℕ × ℕ)
