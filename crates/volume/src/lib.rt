@@ -2,14 +2,14 @@
 ghost use Rattle.format.specs.Layout.Geometry.{version3};
 ghost use Rattle.volume.specs.Opened.{OpenedRight};
 use directory::Directory;
+use header::length_allowed;
+use header::work_need;
 use kinds::Answer;
 use kinds::Geometry;
 use le::zero_first;
 use minis::Minis;
 use table_stage::table_groups;
 use tables::Tables;
-use tables::length_allowed;
-use tables::work_need;
 
 pub mod entry_stage;
 pub mod mini_stage;
