@@ -1,5 +1,5 @@
 -- The first rule that does not hold decides: the outcome of each stage.
-use Prim.Native.Nat.{ℕ, _*_, _/_, _≤_}
+use Prim.Native.Nat.{ℕ, _≤_}
 use mathlib.Core.Path.{_≡_, refl, sym, _∙_, subst}
 use mathlib.Core.Bool.{Bool, true, false, _&&_, _||_, and-assoc}
 use mathlib.Core.List.{List}
@@ -18,6 +18,7 @@ use Rattle.kinds.specs.declared.Geometry.{Geometry as Sizes}
 use Rattle.kinds.specs.declared.Refusal.{Refusal}
 use Rattle.kinds.specs.Sizes.{geometryOf}
 use Rattle.kinds.specs.Numbers.{refusalNumber}
+use Rattle.header.specs.Sized.{W}
 use Rattle.theory.proofs.Tests.{clash}
 use Rattle.tables.specs.Work.{Wrote}
 use Rattle.tables.proofs.WorkLaws.{wrote-wider, wrote-two}
@@ -31,7 +32,7 @@ use Rattle.volume.specs.declared.Opened.{Opened}
 use Rattle.volume.specs.declared.Opened.the-variants.{Refused}
 
 -- only the part of the work buffer that is ours has changed
-pub wrote-ours : (img : Bytes) {w w′ : List ℕ} {n : ℕ} → Wrote w w′ 0 n → n ≤ 13 * (length img / 512) → Wrote w w′ 0 (workNeed (length img))
+pub wrote-ours : (img : Bytes) {w w′ : List ℕ} {n : ℕ} → Wrote w w′ 0 n → n ≤ W img → Wrote w w′ 0 (workNeed (length img))
 unfolding workNeed
 wrote-ours img r h = wrote-wider 0 _ r (omega arith) (omega arith)
 

@@ -21,10 +21,14 @@ use Rattle.volume.specs.declared.Volume.{Volume}
 use Rattle.volume.specs.declared.Opened.{Opened}
 use Rattle.volume.specs.declared.Opened.the-variants.{Refused, Ready}
 
+-- the sectors of the mini stream
+abbrev pub streamOf : Volume → Bytes → List ℕ
+streamOf v img = miniStreamSectors (geometryOf (v .tables .geometry)) img
+
 -- every list stands in the work buffer, that of the mini stream's sectors first; before it there is room to list every unit of a kind
 pub record Readied (v : Volume) (img : Bytes) (work : List ℕ) : Type 0 where
   pub lists : ListsStand (v .tables) (v .directory) (v .minis) img work
-  pub stream : Holds work (v .stream) (length (miniStreamSectors (geometryOf (v .tables .geometry)) img)) (unitAt (miniStreamSectors (geometryOf (v .tables .geometry)) img))
+  pub stream : Holds work (v .stream) (length (streamOf v img)) (unitAt (streamOf v img))
   pub before : v .stream ≤ v .minis .list
   pub room : 8 * (length img / 512) ≤ v .stream
 
@@ -46,4 +50,5 @@ abbrev pub OpenedRight : Geometry → Bytes → List ℕ → List ℕ → Opened
 OpenedRight g img before after (Refused a) =
     (refusalNumber a ≡ verdict g img (length before)) × (after ≡ workLeft (verdict g img (length before)) img before)
 OpenedRight g img before after (Ready v) =
-    (verdict g img (length before) ≡ 0) × ((geometryOf (v .tables .geometry) ≡ g) × (Readied v img after × ((workNeed (length img) ≤ length before) × Wrote before after 0 (workNeed (length img)))))
+    (verdict g img (length before) ≡ 0)
+    × ((geometryOf (v .tables .geometry) ≡ g) × (Readied v img after × ((workNeed (length img) ≤ length before) × Wrote before after 0 (workNeed (length img)))))

@@ -1,15 +1,15 @@
-// A volume: an image that keeps every rule, opened for the calls. Each stage judges its groups and hands on to the next; the last one opens the volume.
+// A volume: an image that keeps every rule, opened for the calls. Each stage tests its groups and hands on to the next; the last one opens the volume.
 ghost use Rattle.format.specs.Layout.Geometry.{version3};
 ghost use Rattle.volume.specs.Opened.{OpenedRight};
 use directory::Directory;
+use header::length_allowed;
+use header::work_need;
 use kinds::Geometry;
 use kinds::Refusal;
 use le::zero_first;
 use minis::Minis;
 use table_stage::table_groups;
 use tables::Tables;
-use tables::length_allowed;
-use tables::work_need;
 
 pub mod entry_stage;
 pub mod mini_stage;

@@ -9,9 +9,9 @@ use super::entry_stage::entry_groups;
 use chains::Length;
 use chains::cell_rules;
 use chains::directory_length;
+use header::header_rules;
 use kinds::Geometry;
 use kinds::Refusal;
-use tables::header_rules;
 use tables::sectors::table_rules;
 use tables::tables_of;
 

@@ -35,7 +35,7 @@ mini-groups-spec =
     (λ c κs. (hold (c .before), tables (c .before)))  -- clear-marks-requires
     (λ c κs.
     let d = c .before .before .before .clear-marks .ensures in
-    (d .1 .fat, (d .1 .directory, (ap (λ x. x .geometry) (d .0), (omega (arith, d .1 .room), (hold (c .before .before .before .before .before) .chained, d .1 .clear .closed))))))  -- mark-system-requires
+    (record { fat = d .1 .fat; directory = d .1 .directory; same = ap (λ x. x .geometry) (d .0); behind = omega (arith, d .1 .room) }, (d .1 .clear .closed, hold (c .before .before .before .before .before) .chained)))  -- mark-system-requires
     (λ c κs. search needs)  -- is-broken-requires
     (λ c. search needs)  -- same-length
     (λ c.

@@ -50,10 +50,10 @@ owner-groups-spec =
     (λ c κs.
     let p = c .before .before .before .pre in
     let m = p .lists .mini in
-    (m .fat, (m .tables, (m .directory, (m .same, (omega (arith, m .room), p .owners))))))  -- sectors-owned-requires
+    (record { fat = m .fat; directory = m .directory; same = m .same; behind = omega (arith, m .room) }, (m .tables, p .owners)))  -- sectors-owned-requires
     (λ c κs.
     let l = first (c .before .before .before) in
-    (l .minis, (l .mini .directory, (l .mini .same ∙ sym (l .same), omega (arith, l .minis .counts .few, l .mini .room)))))  -- minis-owned-requires
+    record { minis = l .minis; directory = l .mini .directory; same = l .mini .same ∙ sym (l .same); behind = omega (arith, l .minis .counts .few, l .mini .room) })  -- minis-owned-requires
     (λ c κs. search needs)  -- is-broken-requires
     (λ c κs. search needs)  -- is-broken-requires-2
     (λ c. search needs)  -- same-length
