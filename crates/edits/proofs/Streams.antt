@@ -23,7 +23,7 @@ use Rattle.kinds.specs.Sizes.{geometryOf}
 use Rattle.directory.specs.Listed.{entriesOf, placeOf, Placed}
 use Rattle.directory.proofs.Places.{placed, place-inside}
 use Rattle.entries.specs.Entry.{entryAt}
-use Rattle.owners.proofs.StreamLaws.{entry-read}
+use Rattle.system_chains.proofs.SystemLaws.{entry-read}
 use Rattle.volume.specs.declared.Volume.{Volume as Opened}
 use Rattle.spaces.specs.Spaces.{kindFor, spaceOf}
 use Rattle.spaces.proofs.Lengths.{kind-space}

@@ -78,7 +78,7 @@ not-walked sp n s b h c = rw h (marked-none sp _ c)
 
 -- ---- one entry e of an image: whether it is a stream, and its size, as they were read
 
-module _ (g : Geometry) (img : Bytes) (x : ℕ) {e : Bytes} (b : Bool) (n : ℕ) (h : e ≡ directory g img .entry x) (hb : b ≡ isStream e) (hn : n ≡ size e) where
+module _ (g : Geometry) (img : Bytes) (x : ℕ) {e : Bytes} (b : Bool) (n : ℕ) (h : e ≡ volume g img .directory .entry x) (hb : b ≡ isStream e) (hn : n ≡ size e) where
   pub large-walked : (s : ℕ) {w w′ : List ℕ} {a : Marked} → s ≡ start e → (b && leb 4096 n) ≡ true → sectorCount g img ≤ END
       → ChainWalked (fatCell g img) (sectorCount g img) (roundUp n (g .sectorBytes)) s w w′ a
       → ChainsMarked (sectorSpace g img) (largeRight (volume g img) x) (ownSectors (volume g img) x) w w′ a
@@ -88,7 +88,7 @@ module _ (g : Geometry) (img : Bytes) (x : ℕ) {e : Bytes} (b : Bool) (n : ℕ)
   pub large-not-walked : {w : List ℕ} → (b && leb 4096 n) ≡ false → Closed (fatCell g img) (sectorCount g img) (marks w)
       → ChainsMarked (sectorSpace g img) (largeRight (volume g img) x) (ownSectors (volume g img) x) w w Fresh
   unfolding largeRight streamSize cutoff volume sectorSpace
-  large-not-walked t c = rw (large-own (volume g img) x) (rw (hb, hn, h) at (not-walked (sectorSpace g img) n (start (directory g img .entry x)) (b && leb 4096 n) t c))
+  large-not-walked t c = rw (large-own (volume g img) x) (rw (hb, hn, h) at (not-walked (sectorSpace g img) n (start (volume g img .directory .entry x)) (b && leb 4096 n) t c))
 
   pub small-walked : (s : ℕ) {w w′ : List ℕ} {a : Marked} → s ≡ start e → (b && ltb n 4096) ≡ true → miniSpace g img .limit ≤ END
       → ChainWalked (miniSpace g img .cell) (miniSpace g img .limit) (roundUp n miniBytes) s w w′ a
@@ -99,4 +99,4 @@ module _ (g : Geometry) (img : Bytes) (x : ℕ) {e : Bytes} (b : Bool) (n : ℕ)
   pub small-not-walked : {w : List ℕ} → (b && ltb n 4096) ≡ false → Closed (miniSpace g img .cell) (miniSpace g img .limit) (marks w)
       → ChainsMarked (miniSpace g img) (smallRight (volume g img) x) (ownMinis (volume g img) x) w w Fresh
   unfolding smallRight streamSize cutoff volume
-  small-not-walked t c = rw (small-own (volume g img) x) (rw (hb, hn, h) at (not-walked (miniSpace g img) n (start (directory g img .entry x)) (b && ltb n 4096) t c))
+  small-not-walked t c = rw (small-own (volume g img) x) (rw (hb, hn, h) at (not-walked (miniSpace g img) n (start (volume g img .directory .entry x)) (b && ltb n 4096) t c))

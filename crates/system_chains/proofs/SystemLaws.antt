@@ -22,7 +22,7 @@ use Rattle.kinds.specs.declared.Geometry.{Geometry as Sizes}
 use Rattle.kinds.specs.Sizes.{geometryOf}
 use Rattle.header.specs.Sized.{ImageSized}
 use Rattle.tables.specs.Work.{Wrote}
-use Rattle.tables.specs.Views.{sectorCountOf}
+use Rattle.tables.specs.Views.{volumeOf, sectorCountOf}
 use Rattle.tables.specs.declared.Tables.{Tables}
 use Rattle.tables.proofs.WorkLaws.{listed-kept}
 use Rattle.chains.specs.Answers.{ChainWalked, ChainsMarked}
@@ -37,11 +37,13 @@ use Rattle.system_chains.specs.System.{SectorLists}
 
 -- the entry that stands at its place
 pub entry-read : {d : Directory} {img : Bytes} {work : List ℕ} (g : Sizes) (x p : ℕ) → DirectoryListed d img work → d .geometry ≡ g → x < entriesOf d img .count
-    → p ≡ placeOf d work x → entryAt img p ≡ directory (geometryOf g) img .entry x
+    → p ≡ placeOf d work x → entryAt img p ≡ volumeOf g img .directory .entry x
+unfolding volume
 entry-read {img = img} g x p l e h q = ap (entryAt img) q ∙ sym (entry-is l x h) ∙ ap (λ k. directory (geometryOf k) img .entry x) e
 
 -- and the root's
 pub root-read : {d : Directory} {img : Bytes} {w : List ℕ} (s : Sizes) (p : ℕ) → DirectoryListed d img w → d .geometry ≡ s → p ≡ placeOf d w 0 → entryAt img p ≡ directory (geometryOf s) img .entry 0
+unfolding volume
 root-read s p l e q = entry-read s 0 p l e (root-inside l) q
 
 -- the lists stay where only marks change
