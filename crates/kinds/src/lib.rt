@@ -84,6 +84,14 @@ impl Sector {
         self.0 == Sector::DIFSECT.0
     }
 
+    // The sector of an index.
+    pub fn at(i: usize) -> Sector
+        requires { ⌜ i < 0x1_0000_0000 ⌝ }
+        ensures { λ r. ⌜ r .0 ≡ i ⌝ }
+    {
+        Sector(i as u32)
+    }
+
     // The number as an index.
     pub fn index(self) -> usize
         ensures { λ r. ⌜ r ≡ self .0 ⌝ }
@@ -105,6 +113,13 @@ impl Sector {
     {
         (self.0 as usize + 1) * g.bytes
     }
+
+    // The byte of its cell in the FAT, whose sectors are laid end to end.
+    pub fn cell(self) -> usize
+        ensures { λ r. ⌜ r ≡ 4 * self .0 ⌝ }
+    {
+        4 * (self.0 as usize)
+    }
 }
 
 // ---- mini sectors
@@ -115,6 +130,9 @@ impl MiniSector {
     pub const FREE: MiniSector = MiniSector(0xFFFF_FFFF);
 
     pub const END: MiniSector = MiniSector(0xFFFF_FFFE);
+
+    // The bytes of a mini sector, in every version.
+    pub const BYTES: usize = 64;
 
     pub fn is_free(self) -> bool
         ensures { λ r. ⌜ r ≡ eqb (self .0) FREE ⌝ }
@@ -128,6 +146,13 @@ impl MiniSector {
         self.0 == MiniSector::END.0
     }
 
+    pub fn at(i: usize) -> MiniSector
+        requires { ⌜ i < 0x1_0000_0000 ⌝ }
+        ensures { λ r. ⌜ r .0 ≡ i ⌝ }
+    {
+        MiniSector(i as u32)
+    }
+
     pub fn index(self) -> usize
         ensures { λ r. ⌜ r ≡ self .0 ⌝ }
     {
@@ -138,6 +163,20 @@ impl MiniSector {
         ensures { λ r. ⌜ r ≡ ltb (self .0) n ⌝ }
     {
         (self.0 as usize) < n
+    }
+
+    // The byte of the mini stream where it starts.
+    pub fn place(self) -> usize
+        ensures { λ r. ⌜ r ≡ 64 * self .0 ⌝ }
+    {
+        MiniSector::BYTES * (self.0 as usize)
+    }
+
+    // The byte of its cell in the mini FAT.
+    pub fn cell(self) -> usize
+        ensures { λ r. ⌜ r ≡ 4 * self .0 ⌝ }
+    {
+        4 * (self.0 as usize)
     }
 }
 
