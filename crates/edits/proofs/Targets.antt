@@ -3,12 +3,11 @@ use Prim.Native.Nat.{ℕ, zero, suc}
 use mathlib.Core.Path.{_≡_, refl, sym, _∙_, ap, subst}
 use mathlib.Core.Logic.{_≢_}
 use native.Mathlib.Omega.{arith}
-use borrow.Author.Tests.{eq-eqb, ne-eqb}
+use borrow.Author.Tests.{ne-eqb}
 use Rattle.format.specs.Basics.Bytes.{Bytes}
 use Rattle.format.specs.Layout.Geometry.{Geometry}
 use Rattle.format.specs.Layout.Entry.{kind}
 use Rattle.format.specs.Layout.Volume.{Volume}
-use Rattle.format.specs.Layout.Stream.{streamSize}
 use Rattle.format.specs.Calls.Paths.{Path}
 use Rattle.format.specs.Calls.Call.{Call}
 use Rattle.format.specs.Calls.Answer.{firstOf, target, targetAnswer, answerIn}
@@ -23,7 +22,7 @@ use Rattle.queries.specs.declared.find.Find.{Find}
 use Rattle.queries.specs.declared.find.Find.the-variants.{Entry, Refused}
 use Rattle.queries.proofs.Finds.{refused-late}
 use Rattle.queries.proofs.ReadAnswers.{target-none, target-some, target-refused}
-use Rattle.edits.specs.Streams.{StreamAt}
+use Rattle.queries.proofs.Streams.{find-stream}
 use Rattle.edits.specs.Images.{imageIn}
 
 -- ---- any call
@@ -60,9 +59,5 @@ module _ (v : Volume) (path : Path) where
     find-other k = target-none v path (e .id .0) (h .0) (ne-eqb (kind (v .directory .entry (e .id .0))) 2 (λ z. k (h .1 .1 .0 ∙ z)))
 
     module _ (k : e .kind ≡ 2) where
-      pub find-stream : StreamAt v e
-      unfolding streamSize
-      find-stream = record { inside = h .1 .0; stream = eq-eqb (kind (v .directory .entry (e .id .0))) 2 (sym (h .1 .1 .0) ∙ k); sized = h .1 .1 .1 }
-
       pub find-target : (targetAnswer v path ≡ 0) × (target v path ≡ e .id .0)
-      find-target = target-some v path (e .id .0) (h .0) (find-stream .stream)
+      find-target = target-some v path (e .id .0) (h .0) (find-stream v path e h k .stream)

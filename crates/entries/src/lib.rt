@@ -3,9 +3,12 @@ ghost use mathlib.Core.Path.{_≡_};
 ghost use Prim.Native.Nat.{_+_, _≤_};
 ghost use lib.ListN.{length};
 ghost use Rattle.format.specs.Basics.Bytes.{byteAt, u16at, u32at, part, allZero};
-ghost use Rattle.format.specs.Layout.Entry.{nameBytes, kind as kindOf, colour as colourOf, left as leftOf, right as rightOf, child as childOf, start as startOf, size as sizeOf};
+ghost use Rattle.format.specs.Layout.Entry.{nameBytes, kind as kindOf, colour as colourOf, left as leftOf, right as rightOf};
+ghost use Rattle.format.specs.Layout.Entry.{child as childOf, start as startOf, size as sizeOf};
 ghost use Rattle.entries.specs.Entry.{entryAt, Field};
 use kinds::EntryId;
+use kinds::MiniSector;
+use kinds::Sector;
 use le::all_zero;
 use le::u16_at;
 use le::u32_at;
@@ -81,12 +84,19 @@ pub fn child(img: &[u8], p: usize) -> EntryId
     EntryId(word(img, p, 76))
 }
 
-// A sector or a mini sector: the size says which.
-pub fn start(img: &[u8], p: usize) -> u32
+// The start of a stream that lies in sectors, and of one that lies in mini sectors: the size says which.
+pub fn start_sector(img: &[u8], p: usize) -> Sector
     requires { ⌜ p + 128 ≤ length (now img) ⌝ }
-    ensures { λ r. ⌜ r ≡ startOf (entryAt (now (img .entry)) p) ⌝ }
+    ensures { λ r. ⌜ r .0 ≡ startOf (entryAt (now (img .entry)) p) ⌝ }
 {
-    word(img, p, 116)
+    Sector(word(img, p, 116))
+}
+
+pub fn start_mini(img: &[u8], p: usize) -> MiniSector
+    requires { ⌜ p + 128 ≤ length (now img) ⌝ }
+    ensures { λ r. ⌜ r .0 ≡ startOf (entryAt (now (img .entry)) p) ⌝ }
+{
+    MiniSector(word(img, p, 116))
 }
 
 pub fn size(img: &[u8], p: usize) -> u64

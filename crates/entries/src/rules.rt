@@ -14,7 +14,7 @@ use super::name_bytes;
 use super::names::legal_unit;
 use super::names::unit;
 use super::right;
-use super::start;
+use super::word;
 use super::zeros;
 
 // Whether the first n units of the name are legal.
@@ -72,7 +72,7 @@ fn storage_fields(img: &[u8], p: usize) -> bool
     requires { ⌜ p + 128 ≤ length (now img) ⌝ }
     ensures { λ r. ⌜ r ≡ storageFields (entryAt (now (img .entry)) p) ⌝ }
 {
-    name_fields(img, p) & (start(img, p) == 0) & zeros(img, p, 120, 8)
+    name_fields(img, p) & (word(img, p, 116) == 0) & zeros(img, p, 120, 8)
 }
 
 fn root_fields(img: &[u8], p: usize) -> bool

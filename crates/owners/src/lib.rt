@@ -22,7 +22,8 @@ use directory::Directory;
 use directory::place;
 use entries::kind;
 use entries::size;
-use entries::start;
+use entries::start_mini;
+use entries::start_sector;
 use kinds::EntryId;
 use kinds::MiniSector;
 use kinds::Sector;
@@ -47,7 +48,7 @@ fn mark_large(img: &[u8], work: &mut [u32], t: Tables, d: Directory, x: EntryId)
     let p = place(work, d, x);
     let n = size(img, p);
     if (kind(img, p) == 2) & (4096 <= n) {
-        return mark_bytes(img, work, t, Sector(start(img, p)), n);
+        return mark_bytes(img, work, t, start_sector(img, p), n);
     }
     Marked::Fresh
 }
@@ -107,7 +108,7 @@ fn mark_small(img: &[u8], work: &mut [u32], t: Minis, d: Directory, x: EntryId) 
     let p = place(work, d, x);
     let n = size(img, p);
     if (kind(img, p) == 2) & (n < 4096) {
-        return minis::mark_bytes(img, work, t, MiniSector(start(img, p)), n);
+        return minis::mark_bytes(img, work, t, start_mini(img, p), n);
     }
     Marked::Fresh
 }

@@ -20,7 +20,7 @@ use chains::mark_chain;
 use directory::Directory;
 use directory::place;
 use entries::size;
-use entries::start;
+use entries::start_sector;
 use kinds::EntryId;
 use kinds::Sector;
 use le::u32_at;
@@ -59,7 +59,7 @@ fn mark_mini_stream(img: &[u8], work: &mut [u32], t: Tables, d: Directory) -> Ma
     if 0 < n % 64 {
         return Marked::Broken;
     }
-    mark_bytes(img, work, t, Sector(start(img, p)), n)
+    mark_bytes(img, work, t, start_sector(img, p), n)
 }
 
 // Marks all of them. The directory's list stands behind the marks.
