@@ -1,12 +1,11 @@
 -- What a find says of the answer of an edit, and of the image that it leaves.
 use mathlib.Core.Path.{_≡_, sym, _∙_, subst}
 use mathlib.Core.Logic.{_≢_}
-use borrow.Author.Tests.{eq-eqb, ne-eqb}
+use borrow.Author.Tests.{ne-eqb}
 use Rattle.format.specs.Basics.Bytes.{Bytes}
 use Rattle.format.specs.Layout.Geometry.{Geometry}
 use Rattle.format.specs.Layout.Entry.{kind}
 use Rattle.format.specs.Layout.Volume.{Volume}
-use Rattle.format.specs.Layout.Stream.{streamSize}
 use Rattle.format.specs.Calls.Paths.{Path}
 use Rattle.format.specs.Calls.Call.{Call}
 use Rattle.format.specs.Calls.Answer.{target, targetAnswer, answerIn}
@@ -20,7 +19,7 @@ use Rattle.queries.specs.declared.find.Object.{Object}
 use Rattle.queries.specs.declared.find.Find.{Find}
 use Rattle.queries.specs.declared.find.Find.the-variants.{Entry, Refused}
 use Rattle.queries.proofs.ReadAnswers.{target-none, target-some, target-refused}
-use Rattle.edits.specs.Streams.{StreamAt}
+use Rattle.queries.proofs.Streams.{find-stream}
 use Rattle.edits.specs.Images.{imageIn}
 
 -- ---- any call
@@ -47,9 +46,5 @@ module _ (v : Volume) (path : Path) where
     find-other k = target-none v path (e .id .0) (h .0) (ne-eqb (kind (v .directory .entry (e .id .0))) 2 (λ z. k (h .1 .1 .0 ∙ z)))
 
     module _ (k : e .kind ≡ 2) where
-      pub find-stream : StreamAt v e
-      unfolding streamSize
-      find-stream = record { inside = h .1 .0; stream = eq-eqb (kind (v .directory .entry (e .id .0))) 2 (sym (h .1 .1 .0) ∙ k); sized = h .1 .1 .1 }
-
       pub find-target : (targetAnswer v path ≡ 0) × (target v path ≡ e .id .0)
-      find-target = target-some v path (e .id .0) (h .0) (find-stream .stream)
+      find-target = target-some v path (e .id .0) (h .0) (find-stream v path e h k .stream)

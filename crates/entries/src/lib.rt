@@ -8,6 +8,8 @@ ghost use Rattle.format.specs.Layout.Entry.{left as leftOf, right as rightOf, c
 ghost use Rattle.entries.specs.Entry.{entryAt, Field};
 use kinds::EntryId;
 use kinds::EntryType;
+use kinds::MiniSector;
+use kinds::Sector;
 use le::all_zero;
 use le::u16_at;
 use le::u32_at;
@@ -31,7 +33,7 @@ pub fn half(img: &[u8], p: usize, o: usize) -> u16
     u16_at(img, p + o)
 }
 
-fn word(img: &[u8], p: usize, o: usize) -> u32
+pub fn word(img: &[u8], p: usize, o: usize) -> u32
     requires { ⌜ Field (now img) p o 4 ⌝ }
     ensures { λ r. ⌜ r ≡ u32at (entryAt (now (img .entry)) p) o ⌝ }
 {
@@ -82,12 +84,19 @@ pub fn child(img: &[u8], p: usize) -> EntryId
     EntryId(word(img, p, 76))
 }
 
-// A sector or a mini sector: the size says which.
-pub fn start(img: &[u8], p: usize) -> u32
+// The start of a stream that lies in sectors, and of one that lies in mini sectors: the size says which.
+pub fn start_sector(img: &[u8], p: usize) -> Sector
     requires { ⌜ p + 128 ≤ length (now img) ⌝ }
-    ensures { λ r. ⌜ r ≡ startOf (entryAt (now (img .entry)) p) ⌝ }
+    ensures { λ r. ⌜ r .0 ≡ startOf (entryAt (now (img .entry)) p) ⌝ }
 {
-    word(img, p, 116)
+    Sector(word(img, p, 116))
+}
+
+pub fn start_mini(img: &[u8], p: usize) -> MiniSector
+    requires { ⌜ p + 128 ≤ length (now img) ⌝ }
+    ensures { λ r. ⌜ r .0 ≡ startOf (entryAt (now (img .entry)) p) ⌝ }
+{
+    MiniSector(word(img, p, 116))
 }
 
 pub fn size(img: &[u8], p: usize) -> u64

@@ -18,7 +18,7 @@ use entries::name_bytes;
 use entries::names::legal_unit;
 use entries::names::name_unit;
 use entries::right;
-use entries::start;
+use entries::word;
 use entries::zeros;
 use kinds::EntryId;
 
@@ -81,7 +81,7 @@ fn storage_fields(img: &[u8], p: usize) -> bool
     requires { ⌜ p + 128 ≤ length (now img) ⌝ }
     ensures { λ r. ⌜ r ≡ storageFields (entryAt (now (img .entry)) p) ⌝ }
 {
-    name_fields(img, p) & (start(img, p) == 0) & zeros(img, p, 120, 8)
+    name_fields(img, p) & (word(img, p, 116) == 0) & zeros(img, p, 120, 8)
 }
 
 fn root_fields(img: &[u8], p: usize) -> bool

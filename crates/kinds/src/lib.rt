@@ -126,6 +126,13 @@ impl Sector {
     {
         (self.0 as usize + 1) * g.bytes
     }
+
+    // The byte of its cell in the FAT, whose sectors are laid end to end.
+    pub fn cell(self) -> usize
+        ensures { λ r. ⌜ r ≡ 4 * self .0 ⌝ }
+    {
+        4 * (self.0 as usize)
+    }
 }
 
 // ---- mini sectors
@@ -179,6 +186,20 @@ impl MiniSector {
         ensures { λ r. ⌜ r .0 ≡ self .0 + 1 ⌝ }
     {
         MiniSector(self.0 + 1)
+    }
+
+    // The byte of the mini stream where it starts.
+    pub fn place(self) -> usize
+        ensures { λ r. ⌜ r ≡ 64 * self .0 ⌝ }
+    {
+        MiniSector::BYTES * (self.0 as usize)
+    }
+
+    // The byte of its cell in the mini FAT.
+    pub fn cell(self) -> usize
+        ensures { λ r. ⌜ r ≡ 4 * self .0 ⌝ }
+    {
+        4 * (self.0 as usize)
     }
 }
 

@@ -20,7 +20,8 @@ use directory::Directory;
 use directory::place;
 use entries::entry_type;
 use entries::size;
-use entries::start;
+use entries::start_mini;
+use entries::start_sector;
 use kinds::CUTOFF;
 use kinds::EntryId;
 use kinds::MiniSector;
@@ -44,7 +45,7 @@ fn mark_large(img: &[u8], work: &mut [u32], t: Tables, d: Directory, x: EntryId)
     let p = place(work, d, x);
     let n = size(img, p);
     if entry_type(img, p).is_stream() & (CUTOFF <= n) {
-        return mark_bytes(img, work, t, Sector(start(img, p)), n);
+        return mark_bytes(img, work, t, start_sector(img, p), n);
     }
     Marked::Fresh
 }
@@ -101,7 +102,7 @@ fn mark_small(img: &[u8], work: &mut [u32], t: Minis, d: Directory, x: EntryId) 
     let p = place(work, d, x);
     let n = size(img, p);
     if entry_type(img, p).is_stream() & (n < CUTOFF) {
-        return minis::mark_bytes(img, work, t, MiniSector(start(img, p)), n);
+        return minis::mark_bytes(img, work, t, start_mini(img, p), n);
     }
     Marked::Fresh
 }

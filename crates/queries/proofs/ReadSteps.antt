@@ -2,11 +2,11 @@
 use Prim.Native.Nat.{ℕ, _-_, _≤_, _<_, min}
 use mathlib.Core.Path.{_≡_, sym, _∙_, ap, subst}
 use mathlib.Core.Logic.{_≢_}
-use mathlib.Core.Bool.{true, false}
+use mathlib.Core.Bool.{false}
 use mathlib.Core.List.{[], _++_}
 use native.Mathlib.Omega.{arith}
 use lib.ListN.{length, drop}
-use borrow.Author.Tests.{eq-eqb, ne-eqb}
+use borrow.Author.Tests.{ne-eqb}
 use Rattle.format.specs.Basics.Bytes.{Bytes, part}
 use Rattle.format.specs.Layout.Geometry.{Geometry}
 use Rattle.format.specs.Layout.Entry.{isStream, kind, size}
@@ -24,6 +24,7 @@ use Rattle.queries.specs.Inside.{FindRight, replyIn, outIn}
 use Rattle.queries.specs.declared.find.Object.{Object}
 use Rattle.queries.specs.declared.find.Find.{Find}
 use Rattle.queries.specs.declared.find.Find.the-variants.{Entry, Refused}
+use Rattle.queries.proofs.Streams.{find-stream}
 use Rattle.queries.proofs.ReadAnswers.{target-none, target-some, target-refused, answer-refused, answer-beyond, answer-done, read-refused, read-done, out-done}
 
 module _ (g : Geometry) (v : Volume) (img : Bytes) (path : Path) (offset : ℕ) (out : Bytes) where
@@ -44,11 +45,8 @@ module _ (g : Geometry) (v : Volume) (img : Bytes) (path : Path) (offset : ℕ) 
         read-refused v path g offset out img NotAStream (answer-refused v path g offset out NotAStream (target-none v path (e .id .0) (h .0) s))
 
     module _ (k : e .kind ≡ 2) where
-      pub is-stream : isStream (v .directory .entry (e .id .0)) ≡ true
-      is-stream = eq-eqb (kind (v .directory .entry (e .id .0))) 2 (sym (h .1 .1 .0) ∙ k)
-
       there : (targetAnswer v path ≡ 0) × (target v path ≡ e .id .0)
-      there = target-some v path (e .id .0) (h .0) is-stream
+      there = target-some v path (e .id .0) (h .0) (find-stream v path e h k .stream)
 
       size-is : streamSize v (target v path) ≡ e .size
       unfolding streamSize

@@ -2,13 +2,12 @@
 ghost use mathlib.Core.Path.{_≡_};
 ghost use Prim.Native.Nat.{_<_};
 ghost use Rattle.format.specs.Layout.Entry.{kind as kindOf, size as sizeOf};
-ghost use Rattle.format.specs.Layout.Volume.{volume as volumeOf};
-ghost use Rattle.kinds.specs.Sizes.{geometryOf};
 ghost use Rattle.directory.specs.Listed.{entriesOf, DirectoryListed};
+ghost use Rattle.spaces.specs.Spaces.{volumeIn};
 ghost use Rattle.queries.specs.Inside.{Open, FindRight};
 use directory::Directory;
 use directory::place;
-use entries::kind;
+use entries::entry_type;
 use entries::size;
 use kinds::EntryId;
 use kinds::Refusal;
@@ -32,12 +31,13 @@ pub enum Find {
 fn object_at(img: &[u8], work: &[u32], d: Directory, x: EntryId) -> Object
     requires { ⌜ DirectoryListed d (now img) (now work) ⌝ }
     requires { ⌜ x .0 < entriesOf d (now img) .count ⌝ }
-    ensures { λ r. ⌜ r ≡ record { id = x; kind = kindOf (entriesOf d (now (img .entry)) .entry (x .0)); size = sizeOf (entriesOf d (now (img .entry)) .entry (x .0)) } ⌝ }
+    ensures { λ r. ⌜ r
+        ≡ record { id = x; kind = kindOf (entriesOf d (now (img .entry)) .entry (x .0)); size = sizeOf (entriesOf d (now (img .entry)) .entry (x .0)) } ⌝ }
 {
     let p = place(work, d, x);
     Object {
         id: x,
-        kind: kind(img, p),
+        kind: entry_type(img, p).0,
         size: size(img, p),
     }
 }
@@ -45,7 +45,7 @@ fn object_at(img: &[u8], work: &[u32], d: Directory, x: EntryId) -> Object
 // The entry that a path leads to, or the refusal.
 pub fn find_in(path: &[u16], img: &[u8], work: &[u32], v: Volume) -> Find
     requires { ⌜ Open v (now img) (now work) ⌝ }
-    ensures { λ r. ⌜ FindRight (volumeOf (geometryOf (v .tables .geometry)) (now (img .entry))) (now (path .entry)) r ⌝ }
+    ensures { λ r. ⌜ FindRight (volumeIn v (now (img .entry))) (now (path .entry)) r ⌝ }
 {
     let d = v.directory;
     match find_entry(path, img, work, d) {

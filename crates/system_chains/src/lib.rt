@@ -15,13 +15,12 @@ use chains::mark_chain;
 use directory::Directory;
 use directory::place;
 use entries::size;
-use entries::start;
+use entries::start_sector;
 use header::directory_start;
 use header::mini_fat_count;
 use header::mini_fat_start;
 use kinds::EntryId;
 use kinds::MiniSector;
-use kinds::Sector;
 use tables::Tables;
 
 // Marks the directory's chain.
@@ -56,7 +55,7 @@ fn mark_mini_stream(img: &[u8], work: &mut [u32], t: Tables, d: Directory) -> Ma
     if 0 < n % (MiniSector::BYTES as u64) {
         return Marked::Broken;
     }
-    mark_bytes(img, work, t, Sector(start(img, p)), n)
+    mark_bytes(img, work, t, start_sector(img, p), n)
 }
 
 // Marks all of them.

@@ -12,10 +12,9 @@ use chains::units_for;
 use directory::Directory;
 use directory::place;
 use entries::size;
-use entries::start;
+use entries::start_sector;
 use kinds::EntryId;
 use kinds::Refusal;
-use kinds::Sector;
 use minis::Minis;
 use owners::rules::minis_owned;
 use owners::rules::sectors_owned;
@@ -33,7 +32,7 @@ fn list_stream(img: &[u8], work: &mut [u32], t: Tables, d: Directory, m: Minis) 
     let p = place(work, d, EntryId::ROOT);
     let n = units_for(size(img, p), g.bytes as u64) as usize;
     let at = list - n;
-    list_chain(img, work, t, Sector(start(img, p)), n, at);
+    list_chain(img, work, t, start_sector(img, p), n, at);
     Volume {
         tables: t,
         directory: d,

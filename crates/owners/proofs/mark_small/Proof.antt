@@ -18,7 +18,7 @@ mark-small-spec =
     (λ c κs. let p = c .before .before .before .before .pre in omega (arith, c .place .ensures, place-inside (p .0 .directory) _ (p .1 .1)))  -- size-requires
     (λ c κs. let p = c .before .before .before .before .before .pre in omega (arith, c .before .place .ensures, place-inside (p .0 .directory) _ (p .1 .1)))  -- entry-type-requires
     (λ c κs. search needs)  -- is-stream-requires
-    (λ c κs. let p = c .before .before .before .before .before .before .before .before .before .pre in omega (arith, c .before .before .before .before .before .place .ensures, place-inside (p .0 .directory) _ (p .1 .1)))  -- start-requires
+    (λ c κs. let p = c .before .before .before .before .before .before .before .before .before .pre in omega (arith, c .before .before .before .before .before .place .ensures, place-inside (p .0 .directory) _ (p .1 .1)))  -- start-mini-requires
     (λ c κs. let p = c .before .before .before .before .before .before .before .before .before .before .pre in record { listed = p .0 .minis; closed = p .1 .0 })  -- mark-bytes-requires
     (λ c. search needs)  -- same-length
     (λ c.
@@ -26,7 +26,7 @@ mark-small-spec =
     let e = entry-read (p .args .t .geometry) (p .args .x .0) _ (p .pre .0 .directory) (p .pre .0 .same) (p .pre .1 .1) (c .before .before .before .before .before .before .before .before .before .place .ensures) in
     small-walked (geometryOf (p .args .t .geometry)) (p .args .img .now) (p .args .x .0) _ _ e
     (c .before .before .before .before .before .before .is-stream .ensures ∙ ap (λ k. eqb k 2) (c .before .before .before .before .before .before .before .entry-type .ensures)) (c .before .before .before .before .before .before .before .before .size .ensures)
-    _ (c .before .before .before .start .ensures) (c .before .before .before .before .before .if1 .taken) (omega (arith, units-few (p .pre .0 .minis))) (c .before .before .mark-bytes .ensures))  -- returns
+    _ (c .before .before .before .start-mini .ensures) (c .before .before .before .before .before .if1 .taken) (omega (arith, units-few (p .pre .0 .minis))) (c .before .before .mark-bytes .ensures))  -- returns
     (λ c. search needs)  -- same-length-2
     (λ c.
     let p = c .before .before .before .before .before .before .before .before in

@@ -25,11 +25,11 @@ mark-mini-stream-spec =
     (λ c. search needs)  -- rem-if1
     (λ c. search needs)  -- same-length
     (λ c. marked-broken _ _ (size-odd _ _ _ (root (c .before .before)) (rw (← c .before .size .ensures) (omega (arith, c .if1 .taken)))) (wrote-none _ 0 _))  -- returns
-    (λ c κs. let l = c .before .before .before .before .before .before .before .pre .0 .directory in omega (arith, c .before .before .before .place .ensures, place-inside l _ (root-inside l)))  -- start-requires
+    (λ c κs. let l = c .before .before .before .before .before .before .before .pre .0 .directory in omega (arith, c .before .before .before .place .ensures, place-inside l _ (root-inside l)))  -- start-sector-requires
     (λ c κs. let p = c .before .before .before .before .before .before .before .before .pre in record { listed = p .0 .fat; closed = p .1 })  -- mark-bytes-requires
     (λ c. search needs)  -- same-length-2
     (λ c.
     let p = c .before .before .before .before .before .before .before .before .before .before .before in
     let n = c .before .before .before .before .before .before .size .ensures in
     mini-stream-marked (p .pre .0 .fat .sized) _ _ (c .before .before .mark-bytes .ensures) _ (root (c .before .before .before .before .before .before .before))
-    (rw (← n) (omega (arith, c .before .before .before .before .before .if1 .left))) (ap (λ x. roundUp x (p .args .t .geometry .bytes)) n) (c .before .before .before .start .ensures)))  -- returns-2
+    (rw (← n) (omega (arith, c .before .before .before .before .before .if1 .left))) (ap (λ x. roundUp x (p .args .t .geometry .bytes)) n) (c .before .before .before .start-sector .ensures)))  -- returns-2

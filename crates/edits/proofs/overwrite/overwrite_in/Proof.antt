@@ -4,10 +4,11 @@ use borrow.Author.Tests.{ltb-false}
 use Rattle.kinds.specs.Sizes.{geometryOf}
 use Rattle.kinds.specs.declared.Refusal.the-variants.{NotAStream}
 use Rattle.tables.proofs.WorkLaws.{wrote-none}
+use Rattle.spaces.specs.Spaces.{volumeIn}
 use Rattle.queries.specs.Inside.{FindRight}
 use Rattle.queries.specs.declared.find.Find.the-variants.{Entry}
-use Rattle.edits.specs.Streams.{volumeIn}
-use Rattle.edits.proofs.Targets.{find-stopped, find-other, find-stream, find-target}
+use Rattle.queries.proofs.Streams.{find-stream}
+use Rattle.edits.proofs.Targets.{find-stopped, find-other, find-target}
 use Rattle.edits.proofs.Overwrites.{over-refused, over-beyond, over-done}
 use Rattle.edits.proofs.overwrite.overwrite_in.Statement.{statement}
 use Rattle.edits.proofs.overwrite.overwrite_in.Tie as tie

@@ -3,10 +3,11 @@ use mathlib.Core.Path.{sym, _∙_, subst}
 use Rattle.kinds.specs.Sizes.{geometryOf}
 use Rattle.kinds.specs.declared.Refusal.the-variants.{NotAStream}
 use Rattle.tables.proofs.WorkLaws.{wrote-none}
+use Rattle.spaces.specs.Spaces.{volumeIn}
 use Rattle.queries.specs.Inside.{FindRight}
 use Rattle.queries.specs.declared.find.Find.the-variants.{Entry}
-use Rattle.edits.specs.Streams.{volumeIn}
-use Rattle.edits.proofs.Targets.{find-stopped, find-other, find-stream, find-target}
+use Rattle.queries.proofs.Streams.{find-stream}
+use Rattle.edits.proofs.Targets.{find-stopped, find-other, find-target}
 use Rattle.edits.proofs.LengthAnswers.{length-refused, length-changed, length-crossed, length-same}
 use Rattle.edits.proofs.resize.set_length_in.Statement.{statement}
 use Rattle.edits.proofs.resize.set_length_in.Tie as tie

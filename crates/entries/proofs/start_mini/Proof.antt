@@ -1,11 +1,11 @@
 use borrow.Author.Needs.{needs}
 use Rattle.format.specs.Layout.Entry.{start}
-use Rattle.entries.proofs.start.Statement.{statement}
-use Rattle.entries.proofs.start.Tie as tie
+use Rattle.entries.proofs.start_mini.Statement.{statement}
+use Rattle.entries.proofs.start_mini.Tie as tie
 
-pub start-spec : {M : Type 1} → statement M
+pub start-mini-spec : {M : Type 1} → statement M
 unfolding start
-start-spec =
+start-mini-spec =
     tie.close
     (tie.spec
     (λ c κs. search needs)  -- word-requires
