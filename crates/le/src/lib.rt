@@ -109,7 +109,7 @@ pub fn fill_zero(bytes: &mut [u8])
 }
 
 // The bytes of another part that is as long.
-fn copy(to: &mut [u8], from: &[u8])
+pub fn copy(to: &mut [u8], from: &[u8])
     requires { ⌜ length (now to) ≡ length (now from) ⌝ }
     ensures { λ _. ⌜ now (to .exit) ≡ now (from .entry) ⌝ }
 {
