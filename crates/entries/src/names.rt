@@ -12,7 +12,7 @@ use kinds::Order;
 
 // ---- units
 
-// How many units the name has, without the zero unit that ends it.
+// How many 16-bit units the name has, without the zero unit that ends it.
 pub fn name_units(img: &[u8], p: usize) -> usize
     requires { ⌜ p + 128 ≤ length (now img) ⌝ }
     ensures { λ r. ⌜ r ≡ length (nameAt (now (img .entry)) p) ⌝ }

@@ -21,7 +21,7 @@ use lookup::find_child;
 
 // ---- names
 
-// How many units the first name of a path has: those before the first slash.
+// How many 16-bit units the first name of a path has: those before the first slash.
 fn first_name_length(path: &[u16]) -> usize
     ensures { λ r. ⌜ r ≡ length (firstName (now (path .entry))) ⌝ }
 {
