@@ -13,7 +13,7 @@ use Rattle.format.specs.Calls.Paths.{Path}
 use Rattle.entries.specs.Entry.{entryAt}
 use Rattle.directory.specs.Listed.{entriesOf, placeOf, Placed}
 use Rattle.directory.proofs.Places.{placed, place-inside}
-use Rattle.owners.proofs.StreamLaws.{entry-read}
+use Rattle.system_chains.proofs.SystemLaws.{entry-read}
 use Rattle.volume.specs.declared.Volume.{Volume as Opened}
 use Rattle.spaces.specs.Spaces.{volumeIn}
 use Rattle.spaces.specs.Units.{kindOf, numberIn, unitOf}
