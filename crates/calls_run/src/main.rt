@@ -51,10 +51,11 @@ fn found(f: Find) -> Values {
     match f {
         Find::Entry(e) => {
             let x = e.id;
+            let t = e.entry_type;
             Values {
                 number: 0,
                 entry: x.0,
-                kind: e.kind,
+                kind: t.0,
                 size: e.size,
                 count: 0,
             }

@@ -41,7 +41,8 @@ pub extern "C" fn cfb_find(
     match find(image, work, path) {
         Find::Entry(e) => {
             *entry = e.id.0;
-            *kind = e.kind as u32;
+            let t = e.entry_type;
+            *kind = t.0 as u32;
             *size = e.size;
             0
         }

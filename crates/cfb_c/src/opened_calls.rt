@@ -123,7 +123,8 @@ pub extern "C" fn cfb_opened_find(
     match find_opened(image, work, unpack(volume), path) {
         Find::Entry(e) => {
             *entry = e.id.0;
-            *kind = e.kind as u32;
+            let t = e.entry_type;
+            *kind = t.0 as u32;
             *size = e.size;
             0
         }

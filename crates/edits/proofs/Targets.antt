@@ -42,9 +42,9 @@ module _ (v : Volume) (path : Path) where
 
   module _ (e : Object) (h : FindRight v path (Entry e)) where
     -- a storage, or the root
-    pub find-other : e .kind ≢ 2 → targetAnswer v path ≡ 23
+    pub find-other : e .«entry_type» .0 ≢ 2 → targetAnswer v path ≡ 23
     find-other k = target-none v path (e .id .0) (h .0) (ne-eqb (kind (v .directory .entry (e .id .0))) 2 (λ z. k (h .1 .1 .0 ∙ z)))
 
-    module _ (k : e .kind ≡ 2) where
+    module _ (k : e .«entry_type» .0 ≡ 2) where
       pub find-target : (targetAnswer v path ≡ 0) × (target v path ≡ e .id .0)
       find-target = target-some v path (e .id .0) (h .0) (find-stream v path e h k .stream)

@@ -82,7 +82,8 @@ pub fn overwrite_in(
     let Find::Entry(e) = f else {
         return Answer::Refused(refusal(f));
     };
-    if e.kind != 2 {
+    let t = e.entry_type;
+    if !t.is_stream() {
         return Answer::Refused(Refusal::NotAStream);
     }
     if ends_beyond(e.size, offset, bytes.len()) {

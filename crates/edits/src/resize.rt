@@ -173,7 +173,8 @@ pub fn set_length_in(
     let Find::Entry(e) = f else {
         return Answer::Refused(refusal(f));
     };
-    if e.kind != 2 {
+    let t = e.entry_type;
+    if !t.is_stream() {
         return Answer::Refused(Refusal::NotAStream);
     }
     if e.size == new_len {

@@ -138,7 +138,8 @@ fn print_find(f: Find) {
             let x = e.id;
             io::write_all(1, b"find 0");
             print_next(x.0 as u64);
-            print_next(e.kind as u64);
+            let t = e.entry_type;
+            print_next(t.0 as u64);
             print_line(b"", e.size);
         }
         Find::Refused(a) => print_line(b"find", refusal_number(a) as u64),

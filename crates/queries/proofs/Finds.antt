@@ -64,12 +64,13 @@ module _ {v : Opened} {img : Bytes} {w : List ℕ} (o : Open v img w) where
     says = subst (λ d. foundOf d r ≡ resolve d path) (same-entries o) e
 
     pub find-found : {x : EntryId} (y : Object) → r ≡ At x → x .0 < entriesOf (v .directory) img .count
-        → y ≡ record { id = x; kind = kind (entriesOf (v .directory) img .entry (x .0)); size = size (entriesOf (v .directory) img .entry (x .0)) }
+        → (y .id ≡ x) × ((y .«entry_type» .0 ≡ kind (entriesOf (v .directory) img .entry (x .0))) × (y .size ≡ size (entriesOf (v .directory) img .entry (x .0))))
         → FindRight (volume g img) path (Entry y)
     find-found {x} y k l z =
         let q = same-entries o in
-        subst (λ u. FindRight (volume g img) path (Entry u)) (sym z)
-        (subst (λ u. foundOf (volume g img .directory) u ≡ resolve (volume g img .directory) path) k says, (subst (λ d. x .0 < d .count) q l, (ap (λ d. kind (d .entry (x .0))) q, ap (λ d. size (d .entry (x .0))) q)))
+        let i : y .id .0 ≡ x .0 = ap (λ (u : EntryId). u .0) (z .0) in
+        rw i
+        (subst (λ u. foundOf (volume g img .directory) u ≡ resolve (volume g img .directory) path) k says, (subst (λ d. x .0 < d .count) q l, (z .1 .0 ∙ ap (λ d. kind (d .entry (x .0))) q, z .1 .1 ∙ ap (λ d. size (d .entry (x .0))) q)))
 
     pub find-refused : {a : Refusal} → r ≡ Stopped a → FindRight (volume g img) path (Refused a)
     find-refused {a} k = subst (λ u. foundOf (volume g img .directory) u ≡ resolve (volume g img .directory) path) k says

@@ -39,12 +39,12 @@ module _ (g : Geometry) (v : Volume) (img : Bytes) (path : Path) (offset : ℕ) 
 
   module _ (e : Object) (h : FindRight v path (Entry e)) where
     -- a storage, or the root
-    pub read-not-stream : e .kind ≢ 2 → (plain 23 ≡ replyIn g v call) × (out ≡ outIn g v img call)
+    pub read-not-stream : e .«entry_type» .0 ≢ 2 → (plain 23 ≡ replyIn g v call) × (out ≡ outIn g v img call)
     read-not-stream k =
         let s : isStream (v .directory .entry (e .id .0)) ≡ false = ne-eqb (kind (v .directory .entry (e .id .0))) 2 (λ z. k (h .1 .1 .0 ∙ z)) in
         read-refused v path g offset out img NotAStream (answer-refused v path g offset out NotAStream (target-none v path (e .id .0) (h .0) s))
 
-    module _ (k : e .kind ≡ 2) where
+    module _ (k : e .«entry_type» .0 ≡ 2) where
       there : (targetAnswer v path ≡ 0) × (target v path ≡ e .id .0)
       there = target-some v path (e .id .0) (h .0) (find-stream v path e h k .stream)
 

@@ -26,7 +26,7 @@ use Rattle.queries.specs.declared.find.Object.{Object}
 use Rattle.queries.specs.declared.find.Find.the-variants.{Entry}
 use Rattle.queries.proofs.Finds.{same-entries, find-asks}
 
-pub find-stream : (vol : Volume) (path : Path) (e : Object) → FindRight vol path (Entry e) → e .kind ≡ 2 → StreamAt vol e
+pub find-stream : (vol : Volume) (path : Path) (e : Object) → FindRight vol path (Entry e) → e .«entry_type» .0 ≡ 2 → StreamAt vol e
 unfolding streamSize
 find-stream vol path e h k =
     record { inside = h .1 .0; stream = eq-eqb (kind (vol .directory .entry (e .id .0))) 2 (sym (h .1 .1 .0) ∙ k); sized = h .1 .1 .1 }

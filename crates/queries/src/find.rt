@@ -10,6 +10,7 @@ use directory::place;
 use entries::entry_type;
 use entries::size;
 use kinds::EntryId;
+use kinds::EntryType;
 use kinds::Refusal;
 use paths::Found;
 use paths::find_entry;
@@ -18,7 +19,7 @@ use volume::Volume;
 // An entry: its number, its type and its size.
 pub struct Object {
     pub id: EntryId,
-    pub kind: u8,
+    pub entry_type: EntryType,
     pub size: u64,
 }
 
@@ -31,13 +32,14 @@ pub enum Find {
 fn object_at(img: &[u8], work: &[u32], d: Directory, x: EntryId) -> Object
     requires { ⌜ DirectoryListed d (now img) (now work) ⌝ }
     requires { ⌜ x .0 < entriesOf d (now img) .count ⌝ }
-    ensures { λ r. ⌜ r
-        ≡ record { id = x; kind = kindOf (entriesOf d (now (img .entry)) .entry (x .0)); size = sizeOf (entriesOf d (now (img .entry)) .entry (x .0)) } ⌝ }
+    ensures { λ r. ⌜ r .id ≡ x ⌝ }
+    ensures { λ r. ⌜ r .«entry_type» .0 ≡ kindOf (entriesOf d (now (img .entry)) .entry (x .0)) ⌝ }
+    ensures { λ r. ⌜ r .size ≡ sizeOf (entriesOf d (now (img .entry)) .entry (x .0)) ⌝ }
 {
     let p = place(work, d, x);
     Object {
         id: x,
-        kind: entry_type(img, p).0,
+        entry_type: entry_type(img, p),
         size: size(img, p),
     }
 }

@@ -59,7 +59,8 @@ pub fn read_in(
     let Find::Entry(e) = f else {
         return Read::Refused(refusal(f));
     };
-    if e.kind != 2 {
+    let t = e.entry_type;
+    if !t.is_stream() {
         return Read::Refused(Refusal::NotAStream);
     }
     if e.size < offset {

@@ -1,4 +1,5 @@
 use borrow.Author.Needs.{needs}
+use borrow.Author.Tests.{eqb-true, eqb-false, not-true, not-false}
 use mathlib.Core.Path.{sym, _∙_, subst}
 use Rattle.kinds.specs.Sizes.{geometryOf}
 use Rattle.kinds.specs.declared.Refusal.the-variants.{NotAStream}
@@ -32,45 +33,46 @@ set-length-in-spec =
     let z = find-stopped vol (a .path .now) _ (c .before .before .before .find-in .ensures) (c .refusal .ensures) in
     let l = length-refused (geometryOf (a .v .tables .geometry)) vol (a .img .now) (a .path .now) (a .new-len) (c .refusal .result) z in
     (l .0, (l .1, wrote-none _ 0 _)))  -- returns
+    (λ c κs. search needs)  -- is-stream-requires
     (λ c. search needs)  -- same-length-3
     (λ c. search needs)  -- same-length-4
     (λ c.
-    let a = c .before .before .before .before .before .before .before .before .before .before .before .args in
+    let a = c .before .before .before .before .before .before .before .before .before .before .before .before .args in
     let vol = volumeIn (a .v) (a .img .now) in
-    let l = length-refused (geometryOf (a .v .tables .geometry)) vol (a .img .now) (a .path .now) (a .new-len) NotAStream (find-other vol (a .path .now) _ (found (c .before .before .before)) (c .if1 .taken)) in
+    let l = length-refused (geometryOf (a .v .tables .geometry)) vol (a .img .now) (a .path .now) (a .new-len) NotAStream (find-other vol (a .path .now) _ (found (c .before .before .before .before)) (eqb-false _ _ (sym (c .before .is-stream .ensures) ∙ not-true _ (c .if1 .taken)))) in
     (l .0, (l .1, wrote-none _ 0 _)))  -- returns-2
     (λ c. search needs)  -- same-length-5
     (λ c. search needs)  -- same-length-6
     (λ c.
-    let a = c .before .before .before .before .before .before .before .before .before .before .before .before .before .args in
+    let a = c .before .before .before .before .before .before .before .before .before .before .before .before .before .before .args in
     let vol = volumeIn (a .v) (a .img .now) in
-    let f = found (c .before .before .before .before .before) in
-    let k = c .before .before .if1 .left in
+    let f = found (c .before .before .before .before .before .before) in
+    let k = eqb-true _ _ (sym (c .before .before .before .is-stream .ensures) ∙ not-false _ (c .before .before .if1 .left)) in
     let l = length-same (geometryOf (a .v .tables .geometry)) vol (a .img .now) (a .path .now) (a .new-len) _ _ (find-target vol (a .path .now) _ f k) (find-stream vol (a .path .now) _ f k .sized) (c .if2 .taken) in
     (l .0, (l .1, wrote-none _ 0 _)))  -- returns-3
     (λ c κs. search needs)  -- crossing-requires
     (λ c. search needs)  -- same-length-7
     (λ c. search needs)  -- same-length-8
     (λ c.
-    let a = c .before .before .before .before .before .before .before .before .before .before .before .before .before .before .before .args in
+    let a = c .before .before .before .before .before .before .before .before .before .before .before .before .before .before .before .before .args in
     let vol = volumeIn (a .v) (a .img .now) in
-    let f = found (c .before .before .before .before .before .before .before) in
-    let k = c .before .before .before .before .if1 .left in
+    let f = found (c .before .before .before .before .before .before .before .before) in
+    let k = eqb-true _ _ (sym (c .before .before .before .before .before .is-stream .ensures) ∙ not-false _ (c .before .before .before .before .if1 .left)) in
     let l = length-crossed (geometryOf (a .v .tables .geometry)) vol (a .img .now) (a .path .now) (a .new-len) _ _ (find-target vol (a .path .now) _ f k) (find-stream vol (a .path .now) _ f k .sized) (sym (c .before .crossing .ensures) ∙ c .if3 .taken) in
     (l .0, (l .1, wrote-none _ 0 _)))  -- returns-4
     (λ c κs.
-    let p = c .before .before .before .before .before .before .before .before .before .before .before .before .before .before .before .before .before in
+    let p = c .before .before .before .before .before .before .before .before .before .before .before .before .before .before .before .before .before .before in
     let vol = volumeIn (p .args .v) (p .args .img .now) in
-    let f = found (c .before .before .before .before .before .before .before .before .before) in
-    let k = c .before .before .before .before .before .before .if1 .left in
+    let f = found (c .before .before .before .before .before .before .before .before .before .before) in
+    let k = eqb-true _ _ (sym (c .before .before .before .before .before .before .before .is-stream .ensures) ∙ not-false _ (c .before .before .before .before .before .before .if1 .left)) in
     (p .pre, (find-stream vol (p .args .path .now) _ f k, (sym (c .before .before .before .crossing .ensures) ∙ c .before .before .if3 .left, λ z. c .before .before .before .before .if2 .left (sym z)))))  -- change-length-requires
     (λ c. search needs)  -- same-length-9
     (λ c. search needs)  -- same-length-10
     (λ c.
-    let a = c .before .before .before .before .before .before .before .before .before .before .before .before .before .before .before .before .before .before .before .before .before .before .args in
+    let a = c .before .before .before .before .before .before .before .before .before .before .before .before .before .before .before .before .before .before .before .before .before .before .before .args in
     let vol = volumeIn (a .v) (a .img .now) in
-    let f = found (c .before .before .before .before .before .before .before .before .before .before .before .before .before .before) in
-    let k = c .before .before .before .before .before .before .before .before .before .before .before .if1 .left in
+    let f = found (c .before .before .before .before .before .before .before .before .before .before .before .before .before .before .before) in
+    let k = eqb-true _ _ (sym (c .before .before .before .before .before .before .before .before .before .before .before .before .is-stream .ensures) ∙ not-false _ (c .before .before .before .before .before .before .before .before .before .before .before .if1 .left)) in
     let e = c .before .before .before .before .change-length .ensures in
     let l = length-changed (geometryOf (a .v .tables .geometry)) vol (a .img .now) (a .path .now) (a .new-len) _ _ (find-target vol (a .path .now) _ f k) (find-stream vol (a .path .now) _ f k .sized) (e .0) (e .1 .0) in
     (l .0, (l .1, e .1 .1))))  -- returns-5
