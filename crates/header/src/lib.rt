@@ -61,6 +61,9 @@ pub fn sector_count(img: &[u8], g: Geometry) -> usize
 
 // ---- fields
 
+// How many entries of the DIFAT stand in the header.
+pub const DIFAT_ENTRIES: usize = 109;
+
 // How many sectors the FAT has.
 pub fn fat_count(img: &[u8]) -> u32
     requires { ⌜ 512 ≤ length (now img) ⌝ }

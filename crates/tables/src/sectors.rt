@@ -13,6 +13,7 @@ ghost use Rattle.tables.specs.Stages.{StageArgs, Built, ListsLeft, Marks
 use super::Tables;
 use super::cell_at;
 use super::word_in;
+use header::DIFAT_ENTRIES;
 use header::difat_count;
 use header::difat_in_header;
 use header::difat_start;
@@ -41,8 +42,8 @@ fn difat_need(g: Geometry, f: usize) -> usize
     ensures { λ r. ⌜ r ≡ difatNeed (geometryOf g) f ⌝ }
 {
     let mut over = 0;
-    if 109 < f {
-        over = f - 109;
+    if DIFAT_ENTRIES < f {
+        over = f - DIFAT_ENTRIES;
     }
     let per = g.difat();
     (over + (per - 1)) / per
@@ -75,19 +76,20 @@ pub fn difat_entry(img: &[u8], work: &[u32], g: Geometry, at: usize, i: usize) -
     requires { ⌜ i < headerDifat + difatIn (geometryOf g) * D (now img) ⌝ }
     ensures { λ r. ⌜ r .0 ≡ difatEntry (geometryOf g) (now (img .entry)) i ⌝ }
 {
-    if i < 109 {
+    if i < DIFAT_ENTRIES {
         return difat_in_header(img, g, i);
     }
     let per = g.difat();
-    Sector(word_in(img, g, Sector(work[at + (i - 109) / per]), (i - 109) % per))
+    let j = i - DIFAT_ENTRIES;
+    Sector(word_in(img, g, Sector(work[at + j / per]), j % per))
 }
 
 // Lists the f FAT sectors, in front of the DIFAT sectors.
 pub fn list_fats(img: &[u8], work: &mut [u32], g: Geometry, at: usize, f: usize)
     requires { ⌜ Difats (geometryOf g) (now img) (now work) (at + F (now img)) ⌝ }
     requires { ⌜ f ≡ F (now img) ⌝ }
-    ensures { λ _. ⌜ Wrote (now (work .entry)) (now (work .exit)) at (F (now (img .entry))) ⌝ }
-    ensures { λ _. ⌜ Holds (now (work .exit)) at (F (now (img .entry))) (difatEntry (geometryOf g) (now (img .entry))) ⌝ }
+    ensures wrote { λ _. ⌜ Wrote (now (work .entry)) (now (work .exit)) at (F (now (img .entry))) ⌝ }
+    ensures holds { λ _. ⌜ Holds (now (work .exit)) at (F (now (img .entry))) (difatEntry (geometryOf g) (now (img .entry))) ⌝ }
 {
     let mut k = 0;
     while k < f {
@@ -103,7 +105,7 @@ pub fn difat_rest(img: &[u8], work: &[u32], g: Geometry, at: usize, f: usize, d:
     requires { ⌜ (f ≡ F (now img)) × (d ≡ D (now img)) ⌝ }
     ensures { λ r. ⌜ r ≡ difatRest (geometryOf g) (now (img .entry)) ⌝ }
 {
-    let end = 109 + g.difat() * d - f;
+    let end = DIFAT_ENTRIES + g.difat() * d - f;
     let mut i = 0;
     while i < end {
         let s = difat_entry(img, work, g, at, f + i);
@@ -218,8 +220,8 @@ pub fn mark_tables(
 pub fn table_rules(img: &[u8], work: &mut [u32], g: Geometry) -> bool
     requires { ⌜ ImageSized (geometryOf g) (now img) ⌝ }
     requires { ⌜ WorkClear (geometryOf g) (now img) (now work) ⌝ }
-    ensures { λ r. ⌜ r ≡ tableRules (geometryOf g) (now (img .entry)) ⌝ }
-    ensures { λ r. ⌜ TablesLeft (geometryOf g) (now (img .entry)) (now (work .entry)) (now (work .exit)) r ⌝ }
+    ensures answer { λ r. ⌜ r ≡ tableRules (geometryOf g) (now (img .entry)) ⌝ }
+    ensures left { λ r. ⌜ TablesLeft (geometryOf g) (now (img .entry)) (now (work .entry)) (now (work .exit)) r ⌝ }
 {
     let need = work_need(img.len());
     let n = sector_count(img, g);

@@ -51,4 +51,5 @@ OpenedRight g img before after (Refused a) =
     (refusalNumber a ≡ verdict g img (length before)) × (after ≡ workLeft (verdict g img (length before)) img before)
 OpenedRight g img before after (Ready v) =
     (verdict g img (length before) ≡ 0)
-    × ((geometryOf (v .tables .geometry) ≡ g) × (Readied v img after × ((workNeed (length img) ≤ length before) × Wrote before after 0 (workNeed (length img)))))
+    × ((geometryOf (v .tables .geometry) ≡ g)
+    × (Readied v img after × ((workNeed (length img) ≤ length before) × Wrote before after 0 (workNeed (length img)))))

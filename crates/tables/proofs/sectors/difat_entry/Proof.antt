@@ -32,10 +32,10 @@ difat-entry-spec =
     (λ c κs. search needs)  -- difat-in-header-requires
     (λ c. c .difat-in-header .ensures)  -- returns
     (λ c κs. search needs)  -- difat-requires
-    (λ c. per-some c)  -- div-t12
-    (λ c. omega (arith, listed-in c))  -- add-t13
-    (λ c. omega (arith, listed-in c))  -- mul-t14
-    (λ c. listed-in (c .before))  -- shared-slice-read-t16
+    (λ c. per-some c)  -- div-t10
+    (λ c. omega (arith, listed-in c))  -- add-t11
+    (λ c. omega (arith, listed-in c))  -- mul-t12
+    (λ c. listed-in (c .before))  -- shared-slice-read-t14
     (λ c. per-some (c .before))  -- rem-word-in
     (λ c κs.
     let p = c .before .before .before .before .before in

@@ -16,7 +16,7 @@ table-counts-spec =
     (tie.spec
     (λ c κs. search needs)  -- fat-count-requires
     (λ c. search needs)  -- cast-f
-    (λ c κs. search needs)  -- fat-count-requires-2
+    (λ c κs. search needs)  -- difat-count-requires
     (λ c. search needs)  -- cast-d
     (λ c κs. search needs)  -- sector-count-requires
     (λ c κs. search needs)  -- cells-requires

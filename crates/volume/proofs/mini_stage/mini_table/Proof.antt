@@ -11,7 +11,7 @@ use Rattle.kinds.specs.Sizes.{geometryOf}
 use Rattle.tables.specs.Work.{Wrote}
 use Rattle.tables.proofs.WorkLaws.{wrote-none}
 use Rattle.directory.proofs.Places.{placed, place-inside, root-inside}
-use Rattle.minis.specs.Listed.{MiniCounts, minisAt}
+use Rattle.minis.specs.Listed.{MiniCounts}
 use Rattle.volume.specs.Passed.{miniCellRules}
 use Rattle.system_chains.proofs.SystemLaws.{root-read}
 use Rattle.volume.proofs.MiniCounts.{units-are, table-short, table-cells, mini-counts, cells-too-few, cells-by-rules}
@@ -82,11 +82,10 @@ mini-table-spec =
     (λ c. search needs)  -- same-length-3
     (λ c.
     let l = c .before .before .before .before .before in
-    let e = l .before .before in
-    let p = c .before .before .before .before .before .before .before .before .before .before .before .before .before .before .before .before .args in (
+    let e = l .before .before in (
       (
         rules (c .before) ∙ not-false _ (c .if2 .left),
-        (l .list-minis .ensures .0 ∙ ap₂ (λ k m. minisAt (p .t) (p .img .now) k (p .d .list - m)) (units (e .before .before .before)) (many e), l .list-minis .ensures .1 .0),
+        (rw (units (e .before .before .before), many e) at (l .list-minis .ensures .0), l .list-minis .ensures .1 .0),
       ),
       wrote l,
     )))  -- returns-3
