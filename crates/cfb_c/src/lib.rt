@@ -4,12 +4,14 @@ ghost use Rattle.format.specs.Layout.Geometry.{version3};
 ghost use Rattle.format.specs.Calls.Call.{validate as validateCall, find as findCall, read as readCall, overwrite as overwriteCall, setLength as lengthCall, list as listCall};
 ghost use Rattle.format.specs.Calls.Reply.{plain, reply};
 ghost use Rattle.format.specs.Calls.Buffers.{imageAfter, outAfter, workAfter};
+ghost use Rattle.kinds.specs.Numbers.{refusalNumber};
 use cfb::find;
 use cfb::list;
 use cfb::overwrite;
 use cfb::read;
 use cfb::set_length;
 use cfb::validate;
+use kinds::Refusal;
 use kinds::number;
 use kinds::refusal_number;
 use queries::find::Find;
@@ -55,6 +57,15 @@ pub extern "C" fn cfb_find(
     }
 }
 
+// A refusal's count is 0.
+fn refused(count: &mut u64, a: Refusal) -> u32
+    ensures { λ r. ⌜ r ≡ refusalNumber a ⌝ }
+    ensures { λ _. ⌜ now (count .exit) ≡ 0 ⌝ }
+{
+    *count = 0;
+    refusal_number(a)
+}
+
 #[no_mangle]
 pub extern "C" fn cfb_read(
     image: &[u8],
@@ -73,10 +84,7 @@ pub extern "C" fn cfb_read(
             *count = n as u64;
             0
         }
-        Read::Refused(a) => {
-            *count = 0;
-            refusal_number(a)
-        }
+        Read::Refused(a) => refused(count, a),
     }
 }
 
@@ -115,9 +123,6 @@ pub extern "C" fn cfb_list(image: &[u8], work: &mut [u32], out: &mut [u8], count
             *count = n as u64;
             0
         }
-        List::Refused(a) => {
-            *count = 0;
-            refusal_number(a)
-        }
+        List::Refused(a) => refused(count, a),
     }
 }

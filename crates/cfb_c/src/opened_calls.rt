@@ -11,6 +11,7 @@ ghost use Rattle.format.specs.Calls.Buffers.{workCleared, imageAfter, outAfter,
 ghost use Rattle.tables.specs.Work.{Wrote};
 ghost use Rattle.opened.specs.OpenVolume.{OpenVolume};
 ghost use Rattle.cfb_c.specs.Packed.{sizes3, unpacked};
+use super::refused;
 use directory::Directory;
 use kinds::Geometry;
 use kinds::number;
@@ -158,10 +159,7 @@ pub extern "C" fn cfb_opened_read(
             *count = n as u64;
             0
         }
-        Read::Refused(a) => {
-            *count = 0;
-            refusal_number(a)
-        }
+        Read::Refused(a) => refused(count, a),
     }
 }
 
@@ -223,9 +221,6 @@ pub extern "C" fn cfb_opened_list(
             *count = n as u64;
             0
         }
-        List::Refused(a) => {
-            *count = 0;
-            refusal_number(a)
-        }
+        List::Refused(a) => refused(count, a),
     }
 }
