@@ -8,8 +8,8 @@ use cfb::overwrite;
 use cfb::read;
 use cfb::set_length;
 use cfb::validate;
-use kinds::Answer;
 use kinds::number;
+use kinds::refusal_number;
 use le::u16_at;
 use le::u32_at;
 use le::u64_at;
@@ -27,9 +27,9 @@ struct Values {
     count: usize,
 }
 
-fn plain(a: Answer) -> Values {
+fn plain(n: u32) -> Values {
     Values {
-        number: number(a),
+        number: n,
         entry: 0,
         kind: 0,
         size: 0,
@@ -51,29 +51,30 @@ fn found(f: Find) -> Values {
     match f {
         Find::Entry(e) => {
             let x = e.id;
+            let t = e.entry_type;
             Values {
                 number: 0,
                 entry: x.0,
-                kind: e.kind,
+                kind: t.0,
                 size: e.size,
                 count: 0,
             }
         }
-        Find::Refused(a) => plain(a),
+        Find::Refused(a) => plain(refusal_number(a)),
     }
 }
 
 fn copied(r: Read) -> Values {
     match r {
         Read::Done(n) => counted(n),
-        Read::Refused(a) => plain(a),
+        Read::Refused(a) => plain(refusal_number(a)),
     }
 }
 
 fn listed(r: List) -> Values {
     match r {
         List::Done(n) => counted(n),
-        List::Refused(a) => plain(a),
+        List::Refused(a) => plain(refusal_number(a)),
     }
 }
 
@@ -93,12 +94,12 @@ fn make(
     bytes: &mut [u8],
 ) -> Outcome {
     match kind {
-        0 => Outcome::Made(plain(validate(image, work))),
+        0 => Outcome::Made(plain(number(validate(image, work)))),
         1 => Outcome::Made(found(find(image, work, path))),
         2 => Outcome::Made(copied(read(image, work, path, place, bytes))),
         3 => Outcome::Made(listed(list(image, work, bytes))),
-        4 => Outcome::Made(plain(overwrite(image, work, path, place, bytes))),
-        5 => Outcome::Made(plain(set_length(image, work, path, place))),
+        4 => Outcome::Made(plain(number(overwrite(image, work, path, place, bytes)))),
+        5 => Outcome::Made(plain(number(set_length(image, work, path, place)))),
         _ => Outcome::Unknown,
     }
 }

@@ -25,12 +25,10 @@ pub fn validate(image: &[u8], work: &mut [u32]) -> Answer
     ensures { λ _. ⌜ now (work .exit) ≡ workAfter version3 (now (image .entry)) (validateCall (now (work .entry))) ⌝ }
 {
     match open_image(image, work) {
-        Opened::Refused(answer) => answer,
-        Opened::Ready(v) => {
-            close(image, work, v);
-            Answer::Done
-        }
+        Opened::Refused(a) => return Answer::Refused(a),
+        Opened::Ready(v) => close(image, work, v),
     }
+    Answer::Done
 }
 
 // The entry that a path leads to: its number, its type and its size.
@@ -77,7 +75,7 @@ pub fn overwrite(
     ensures { λ _. ⌜ now (work .exit) ≡ workAfter version3 (now (image .entry)) (overwriteCall (now (path .entry)) offset (now (bytes .entry)) (now (work .entry))) ⌝ }
 {
     match open_image(image, work) {
-        Opened::Refused(a) => a,
+        Opened::Refused(a) => Answer::Refused(a),
         Opened::Ready(v) => {
             let r = overwrite_opened(image, work, v, path, offset, bytes);
             close(image, work, v);
@@ -87,15 +85,15 @@ pub fn overwrite(
 }
 
 // Gives the stream that a path leads to another length: cut there, or with zero bytes up to there.
-pub fn set_length(image: &mut [u8], work: &mut [u32], path: &[u16], length: u64) -> Answer
-    ensures { λ r. ⌜ plain (numberOf r) ≡ reply version3 (now (image .entry)) (lengthCall (now (path .entry)) length (now (work .entry))) ⌝ }
-    ensures { λ _. ⌜ now (image .exit) ≡ imageAfter version3 (now (image .entry)) (lengthCall (now (path .entry)) length (now (work .entry))) ⌝ }
-    ensures { λ _. ⌜ now (work .exit) ≡ workAfter version3 (now (image .entry)) (lengthCall (now (path .entry)) length (now (work .entry))) ⌝ }
+pub fn set_length(image: &mut [u8], work: &mut [u32], path: &[u16], new_len: u64) -> Answer
+    ensures { λ r. ⌜ plain (numberOf r) ≡ reply version3 (now (image .entry)) (lengthCall (now (path .entry)) «new_len» (now (work .entry))) ⌝ }
+    ensures { λ _. ⌜ now (image .exit) ≡ imageAfter version3 (now (image .entry)) (lengthCall (now (path .entry)) «new_len» (now (work .entry))) ⌝ }
+    ensures { λ _. ⌜ now (work .exit) ≡ workAfter version3 (now (image .entry)) (lengthCall (now (path .entry)) «new_len» (now (work .entry))) ⌝ }
 {
     match open_image(image, work) {
-        Opened::Refused(a) => a,
+        Opened::Refused(a) => Answer::Refused(a),
         Opened::Ready(v) => {
-            let r = set_length_opened(image, work, v, path, length);
+            let r = set_length_opened(image, work, v, path, new_len);
             close(image, work, v);
             r
         }

@@ -10,8 +10,9 @@ use Rattle.format.specs.Rules.Length.{workNeed}
 use Rattle.format.specs.Calls.Call.{validate}
 use Rattle.format.specs.Calls.Reply.{plain, reply}
 use Rattle.format.specs.Calls.Buffers.{workAfter}
-use Rattle.kinds.specs.Numbers.{numberOf}
-use Rattle.kinds.specs.declared.Answer.{Answer}
+use Rattle.kinds.specs.Numbers.{refusalNumber}
+use Rattle.kinds.specs.declared.Refusal.{Refusal}
+use Rattle.kinds.proofs.Refusals.{refusal-some}
 use Rattle.tables.specs.Work.{Wrote}
 use Rattle.volume.specs.declared.Volume.{Volume}
 use Rattle.volume.specs.declared.Opened.the-variants.{Refused, Ready}
@@ -29,10 +30,10 @@ OpeningSays img w w₁ p q r =
     × ((r ≡ 0 → Wrote w w₁ 0 (workNeed (length img))) × ((r ≢ 0 → w₁ ≡ workAfter version3 img (validate w)) × (r ≢ 0 → q ≡ p))))
 
 module _ (img : Bytes) (w w₁ p : List ℕ) where
-  pub refused-opening : (r : ℕ) (a : Answer) → OpeningRight version3 img w w₁ (Refused a) → r ≡ numberOf a → OpeningSays img w w₁ p p r
+  pub refused-opening : (r : ℕ) (a : Refusal) → OpeningRight version3 img w w₁ (Refused a) → r ≡ refusalNumber a → OpeningSays img w w₁ p p r
   refused-opening r a o e =
       let x = validate-refused version3 img w w₁ (Refused a) o refl in
-      let no : r ≢ 0 = λ z. o .1 .0 (sym (o .0) ∙ sym e ∙ z) in
+      let no : r ≢ 0 = λ z. refusal-some a (sym e ∙ z) in
       (ap plain e ∙ x .0, ((λ z. absurd (no z)), ((λ z. absurd (no z)), ((λ _. x .1), (λ _. refl)))))
 
   pub ready-opening : (q : List ℕ) (v : Volume) → OpeningRight version3 img w w₁ (Ready v) → unpacked q ≡ v → OpeningSays img w w₁ p q 0

@@ -4,13 +4,16 @@ ghost use Rattle.format.specs.Layout.Geometry.{version3};
 ghost use Rattle.format.specs.Calls.Call.{validate as validateCall, find as findCall, read as readCall, overwrite as overwriteCall, setLength as lengthCall, list as listCall};
 ghost use Rattle.format.specs.Calls.Reply.{plain, reply};
 ghost use Rattle.format.specs.Calls.Buffers.{imageAfter, outAfter, workAfter};
+ghost use Rattle.kinds.specs.Numbers.{refusalNumber};
 use cfb::find;
 use cfb::list;
 use cfb::overwrite;
 use cfb::read;
 use cfb::set_length;
 use cfb::validate;
+use kinds::Refusal;
 use kinds::number;
+use kinds::refusal_number;
 use queries::find::Find;
 use queries::list::List;
 use queries::read::Read;
@@ -40,7 +43,8 @@ pub extern "C" fn cfb_find(
     match find(image, work, path) {
         Find::Entry(e) => {
             *entry = e.id.0;
-            *kind = e.kind as u32;
+            let t = e.entry_type;
+            *kind = t.0 as u32;
             *size = e.size;
             0
         }
@@ -48,9 +52,18 @@ pub extern "C" fn cfb_find(
             *entry = 0;
             *kind = 0;
             *size = 0;
-            number(a)
+            refusal_number(a)
         }
     }
+}
+
+// A refusal's count is 0.
+fn refused(count: &mut u64, a: Refusal) -> u32
+    ensures { λ r. ⌜ r ≡ refusalNumber a ⌝ }
+    ensures { λ _. ⌜ now (count .exit) ≡ 0 ⌝ }
+{
+    *count = 0;
+    refusal_number(a)
 }
 
 #[no_mangle]
@@ -71,10 +84,7 @@ pub extern "C" fn cfb_read(
             *count = n as u64;
             0
         }
-        Read::Refused(a) => {
-            *count = 0;
-            number(a)
-        }
+        Read::Refused(a) => refused(count, a),
     }
 }
 
@@ -113,9 +123,6 @@ pub extern "C" fn cfb_list(image: &[u8], work: &mut [u32], out: &mut [u8], count
             *count = n as u64;
             0
         }
-        List::Refused(a) => {
-            *count = 0;
-            number(a)
-        }
+        List::Refused(a) => refused(count, a),
     }
 }

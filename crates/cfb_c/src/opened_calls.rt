@@ -11,9 +11,11 @@ ghost use Rattle.format.specs.Calls.Buffers.{workCleared, imageAfter, outAfter,
 ghost use Rattle.tables.specs.Work.{Wrote};
 ghost use Rattle.opened.specs.OpenVolume.{OpenVolume};
 ghost use Rattle.cfb_c.specs.Packed.{sizes3, unpacked};
+use super::refused;
 use directory::Directory;
 use kinds::Geometry;
 use kinds::number;
+use kinds::refusal_number;
 use minis::Minis;
 use opened::close;
 use opened::find_opened;
@@ -87,7 +89,7 @@ pub extern "C" fn cfb_open(image: &[u8], work: &mut [u32], volume: &mut [u64; 9]
     ensures { λ r. ⌜ (r ≢ 0 → now (volume .exit) ≡ now (volume .entry)) ⌝ }
 {
     match open_image(image, work) {
-        Opened::Refused(a) => number(a),
+        Opened::Refused(a) => refusal_number(a),
         Opened::Ready(v) => {
             pack(v, volume);
             0
@@ -122,7 +124,8 @@ pub extern "C" fn cfb_opened_find(
     match find_opened(image, work, unpack(volume), path) {
         Find::Entry(e) => {
             *entry = e.id.0;
-            *kind = e.kind as u32;
+            let t = e.entry_type;
+            *kind = t.0 as u32;
             *size = e.size;
             0
         }
@@ -130,7 +133,7 @@ pub extern "C" fn cfb_opened_find(
             *entry = 0;
             *kind = 0;
             *size = 0;
-            number(a)
+            refusal_number(a)
         }
     }
 }
@@ -156,10 +159,7 @@ pub extern "C" fn cfb_opened_read(
             *count = n as u64;
             0
         }
-        Read::Refused(a) => {
-            *count = 0;
-            number(a)
-        }
+        Read::Refused(a) => refused(count, a),
     }
 }
 
@@ -221,9 +221,6 @@ pub extern "C" fn cfb_opened_list(
             *count = n as u64;
             0
         }
-        List::Refused(a) => {
-            *count = 0;
-            number(a)
-        }
+        List::Refused(a) => refused(count, a),
     }
 }

@@ -9,16 +9,18 @@ use lib.ListN.{length, take, drop, replicate, length-append, length-replicate}
 use lib.Seq.{take-all, take-append-seam, length-take-le}
 use Rattle.format.specs.Basics.Bytes.{Bytes}
 use Rattle.format.specs.Layout.Geometry.{Geometry}
-use Rattle.format.specs.Layout.Directory.{Directory}
 use Rattle.format.specs.Layout.Volume.{volume}
 use Rattle.format.specs.Rules.Length.{workNeed}
 use Rattle.format.specs.Calls.Read.{over}
-use Rattle.format.specs.Calls.Listing.{firstLine, listing}
+use Rattle.format.specs.Calls.Listing.{listing}
 use Rattle.format.specs.Calls.Call.{list, workOf, outOf}
 use Rattle.format.specs.Calls.Answer.{answerIn, answer}
 use Rattle.format.specs.Calls.Reply.{plain, counted, onZero, done, reply}
 use Rattle.format.specs.Calls.Buffers.{handedOut, outAfter}
 use Rattle.format.specs.Calls.Program.{programCapacity, refusedLine, programCall, programOutput}
+use Rattle.kinds.specs.Numbers.{refusalNumber}
+use Rattle.kinds.specs.declared.Refusal.{Refusal}
+use Rattle.kinds.proofs.Refusals.{refusal-some}
 
 -- ---- the bytes at the front
 
@@ -84,10 +86,6 @@ module _ (g : Geometry) (img : Bytes) where
 
 -- ---- the answers
 
-some-bytes : (d : Directory) → 8 ≤ length (listing d)
-unfolding listing firstLine
-some-bytes d = omega arith
-
 module _ (g : Geometry) (input out : Bytes) (work : List ℕ) (short : length input ≤ 65536) (f : length work ≡ workNeed programCapacity) (e : length out ≡ programCapacity) where
   same : programOutput g input ≡ answered g input (answer g input (list out work))
   same = output-within g input short ∙ ap (answered g input) (sym (program-answer g input out work f e))
@@ -100,17 +98,17 @@ module _ (g : Geometry) (input out : Bytes) (work : List ℕ) (short : length in
   listed-by zero n r o = let k = ap (λ z. z .count) r in rw (o, k) (front-room text out, front-is text out)
   listed-by (suc a) n r o = absurd (omega (arith, ap (λ z. z .number) r))
 
-  refused-by : (a n : ℕ) → plain n ≡ onZero a (counted (length text)) (plain a) → refusedLine n ≡ answered g input a
+  refused-by : (n : ℕ) (a : Refusal) → plain (refusalNumber a) ≡ onZero n (counted (length text)) (plain n) → refusedLine (refusalNumber a) ≡ answered g input n
   unfolding onZero counted plain
-  refused-by zero n r = absurd (omega (arith, ap (λ z. z .count) r, some-bytes (volume g input .directory)))
-  refused-by (suc a) n r = ap (λ z. refusedLine (z .number)) r
+  refused-by zero a r = absurd (refusal-some a (ap (λ z. z .number) r))
+  refused-by (suc n) a r = ap (λ z. refusedLine (z .number)) r
 
   -- a count is the listing's
   pub listed : (n : ℕ) {out₁ : Bytes} → counted n ≡ reply g input (list out work) → out₁ ≡ outAfter g input (list out work) → (n ≤ length out₁) × (take n out₁ ≡ programOutput g input)
   unfolding reply done outAfter handedOut outOf
   listed n r o = rw same (listed-by (answer g input (list out work)) n r o)
 
-  -- a number is the refusal's
-  pub refused : (n : ℕ) → plain n ≡ reply g input (list out work) → refusedLine n ≡ programOutput g input
+  -- a refusal is the program's
+  pub refused : (a : Refusal) → plain (refusalNumber a) ≡ reply g input (list out work) → refusedLine (refusalNumber a) ≡ programOutput g input
   unfolding reply done
-  refused n r = refused-by (answer g input (list out work)) n r ∙ sym same
+  refused a r = refused-by (answer g input (list out work)) a r ∙ sym same

@@ -1,2 +1,1 @@
--- What the lister's functions are stated with, beside `format`'s own definitions.
-pub mod Line
+-- The lister is stated with `format`'s own definitions.

@@ -6,39 +6,20 @@ ghost use Rattle.format.specs.Layout.Geometry.{version3};
 ghost use Rattle.format.specs.Rules.Length.{workNeed};
 ghost use Rattle.format.specs.Calls.Read.{over};
 ghost use Rattle.format.specs.Calls.Program.{programCapacity, refusedLine, programOutput};
-ghost use Rattle.kinds.specs.Numbers.{numberOf};
-ghost use Rattle.cfbls.specs.Line.{refusedWord};
+ghost use Rattle.kinds.specs.Numbers.{refusalNumber};
 use cfb::list;
-use kinds::Answer;
-use kinds::number;
+use kinds::Refusal;
+use kinds::refusal_number;
 use queries::list::List;
-use text::put_decimal;
-
-// Writes the word of a refusal and the space behind it.
-fn put_word(out: &mut [u8])
-    requires { ⌜ 8 ≤ length (now out) ⌝ }
-    ensures { λ _. ⌜ now (out .exit) ≡ over refusedWord (now (out .entry)) ⌝ }
-{
-    out[0] = 0x72;
-    out[1] = 0x65;
-    out[2] = 0x66;
-    out[3] = 0x75;
-    out[4] = 0x73;
-    out[5] = 0x65;
-    out[6] = 0x64;
-    out[7] = 0x20;
-}
+use text::put_number_line;
 
 // Writes the line of a refusal, and returns how many bytes it takes.
-fn put_refused(out: &mut [u8], a: Answer) -> usize
+fn put_refused(out: &mut [u8], a: Refusal) -> usize
     requires { ⌜ 29 ≤ length (now out) ⌝ }
-    ensures { λ r. ⌜ r ≡ length (refusedLine (numberOf a)) ⌝ }
-    ensures { λ _. ⌜ now (out .exit) ≡ over (refusedLine (numberOf a)) (now (out .entry)) ⌝ }
+    ensures count { λ r. ⌜ r ≡ length (refusedLine (refusalNumber a)) ⌝ }
+    ensures written { λ _. ⌜ now (out .exit) ≡ over (refusedLine (refusalNumber a)) (now (out .entry)) ⌝ }
 {
-    put_word(out);
-    let n = put_decimal(&mut out[8..], number(a) as u64);
-    out[8 + n] = 0x0A;
-    8 + n + 1
+    put_number_line(out, b"refused ", refusal_number(a) as u64)
 }
 
 // Puts what the program writes for an input at the front of the out buffer, and returns how many bytes it is.
@@ -49,7 +30,7 @@ fn report(input: &[u8], work: &mut [u32], out: &mut [u8]) -> usize
     ensures { λ r. ⌜ take r (now (out .exit)) ≡ programOutput version3 (now (input .entry)) ⌝ }
 {
     if 65536 < input.len() {
-        return put_refused(out, Answer::BadLength);
+        return put_refused(out, Refusal::BadLength);
     }
     match list(input, work, out) {
         List::Done(n) => n,

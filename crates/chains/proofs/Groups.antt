@@ -10,18 +10,18 @@ use lib.Dec.{eqb, ltb, leb}
 use lib.ListN.{length}
 use borrow.Author.Tests.{lt-ltb, le-ltb}
 use Rattle.format.specs.Basics.Lists.{allBelow}
-use Rattle.format.specs.Basics.Bytes.{Bytes, u32at}
+use Rattle.format.specs.Basics.Bytes.{Bytes}
 use Rattle.format.specs.Layout.Geometry.{Geometry, sectorCount, cellsIn}
 use Rattle.format.specs.Layout.Header.{fatCount, directoryStart}
 use Rattle.format.specs.Layout.Chain.{END, FREE, FATSECT, DIFSECT, chain, follow}
 use Rattle.format.specs.Layout.Tables.{fatCell, fatCells, sectorSpace}
 use Rattle.format.specs.Layout.Directory.{directorySectors}
 use Rattle.format.specs.Layout.Volume.{directorySectorsOf, volume}
-use Rattle.format.specs.Rules.Cells.{plainCell, tableMark, fatCellRight, spareCellFree, restFree, cellRules}
+use Rattle.format.specs.Rules.Cells.{plainCell, tableMark, fatCellRight, restFree, cellRules}
 use Rattle.format.specs.Rules.Directory.{someChain, directoryRules}
 use Rattle.theory.proofs.Marks.{chain-end, chain-step}
-use Rattle.tables.specs.Sized.{F}
-use Rattle.tables.specs.Listed.{Listed}
+use Rattle.header.specs.Sized.{F}
+use Rattle.tables.specs.Listed.{FatListedAt}
 use Rattle.tables.proofs.Places.{cells-short as short}
 use Rattle.chains.specs.Answers.{lengthAnswer}
 
@@ -36,16 +36,21 @@ pub cell-right : (g : Geometry) (img : Bytes) (s x : ℕ) (b : Bool) → x ≡ f
 unfolding fatCellRight tableMark plainCell sectorSpace
 cell-right g img s x b e h = rw (← e) h
 
-pub rest-is : (g : Geometry) (img : Bytes) → restFree (sectorSpace g img) ≡ allBelow (cellsIn g * F img - sectorCount g img) (spareCellFree (sectorSpace g img))
-unfolding restFree sectorSpace fatCells fatCount
-rest-is g img = refl
+-- N and the cells, as the space of sectors has them
+pub limit-is : (g : Geometry) (img : Bytes) → sectorCount g img ≡ sectorSpace g img .limit
+unfolding sectorSpace
+limit-is g img = refl
 
-pub spare-free : (g : Geometry) (img : Bytes) (i x : ℕ) (b : Bool) → x ≡ fatCell g img (sectorCount g img + i) → eqb x FREE ≡ b → spareCellFree (sectorSpace g img) i ≡ b
-unfolding spareCellFree sectorSpace
-spare-free g img i x b e h = rw (← e) h
+pub cells-are : (g : Geometry) (img : Bytes) → cellsIn g * F img ≡ sectorSpace g img .cells
+unfolding sectorSpace fatCells fatCount
+cells-are g img = refl
+
+pub cell-is : (g : Geometry) (img : Bytes) (s : ℕ) → fatCell g img s ≡ sectorSpace g img .cell s
+unfolding sectorSpace
+cell-is g img s = refl
 
 -- the cells of the FAT take no more bytes than the image has
-pub cells-short : {g : Geometry} {img : Bytes} {w : List ℕ} {n list : ℕ} → Listed g img w n list → 4 * (cellsIn g * F img) ≤ length img
+pub cells-short : {g : Geometry} {img : Bytes} {w : List ℕ} {n list : ℕ} → FatListedAt g img w n list → 4 * (cellsIn g * F img) ≤ length img
 cells-short {g} {img} l = short (l .sized) (F img) (omega (arith, l .few))
 
 -- ---- group 13: with m steps left of the limit the walk is at s
@@ -85,7 +90,7 @@ module _ {cell : ℕ → ℕ} {limit s₀ : ℕ} where
       (w .size ∙ rw (follow-none cell limit m s h, add-zero) (sym e), rw e (rw add-zero at (w .rest 0) ∙ chain-end cell limit s))
 
 pub directory-is : (g : Geometry) (img : Bytes) (k s : ℕ)
-    → (length (follow (fatCell g img) (sectorCount g img) (sectorCount g img) (u32at img 48)) ≡ k) × (chain (fatCell g img) (sectorCount g img) k (u32at img 48) ≡ eqb s END)
+    → (length (follow (fatCell g img) (sectorCount g img) (sectorCount g img) (directoryStart img)) ≡ k) × (chain (fatCell g img) (sectorCount g img) k (directoryStart img) ≡ eqb s END)
     → lengthAnswer (directoryRules (volume g img)) (length (directorySectorsOf g img)) ≡ lengthAnswer (leb 1 k && eqb s END) k
-unfolding directoryRules someChain volume directorySectorsOf directorySectors directoryStart sectorSpace
+unfolding directoryRules someChain volume directorySectorsOf directorySectors sectorSpace
 directory-is g img k s h = rw (h .0, h .1)

@@ -2,4 +2,5 @@
 pub mod Walks
 pub mod Owners
 pub mod Listing
+pub mod Spare
 pub mod Groups

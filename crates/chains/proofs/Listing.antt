@@ -11,21 +11,21 @@ use Rattle.format.specs.Layout.Chain.{chain, units}
 use Rattle.format.specs.Layout.Tables.{fatCell}
 use Rattle.theory.proofs.Chains.{chain-next, units-next}
 use Rattle.tables.specs.Work.{Wrote, Holds}
-use Rattle.tables.specs.Listed.{Listed}
+use Rattle.tables.specs.Listed.{FatListedAt}
 use Rattle.tables.proofs.WorkLaws.{wrote-none, wrote-set, holds-none, holds-more, listed-kept}
 use Rattle.chains.specs.Answers.{unitAt}
 
 pub record Listing (g : Geometry) (img : Bytes) (w₀ : List ℕ) (sectors list n s₀ at : ℕ) (w : List ℕ) (s i : ℕ) : Type 0 where
   pub some : i ≤ n
   pub room : at + n ≤ list
-  pub listed : Listed g img w sectors list
+  pub listed : FatListedAt g img w sectors list
   pub wrote : Wrote w₀ w at n
   pub holds : Holds w at i (unitAt (units (fatCell g img) n s₀))
   pub left : chain (fatCell g img) (sectorCount g img) (n - i) s ≡ true
   pub rest : (j : ℕ) → getD (units (fatCell g img) n s₀) (i + j) 0 ≡ getD (units (fatCell g img) (n - i) s) j 0
 
 module _ {g : Geometry} {img : Bytes} {w₀ : List ℕ} {sectors list n s₀ at : ℕ} where
-  pub listing-start : Listed g img w₀ sectors list → at + n ≤ list → chain (fatCell g img) (sectorCount g img) n s₀ ≡ true → Listing g img w₀ sectors list n s₀ at w₀ s₀ 0
+  pub listing-start : FatListedAt g img w₀ sectors list → at + n ≤ list → chain (fatCell g img) (sectorCount g img) n s₀ ≡ true → Listing g img w₀ sectors list n s₀ at w₀ s₀ 0
   listing-start l r h =
       record {
         some = omega arith;
@@ -58,7 +58,7 @@ module _ {g : Geometry} {img : Bytes} {w₀ : List ℕ} {sectors list n s₀ at 
     fewer : n - i - 1 ≡ n - (i + 1)
     fewer = omega arith
 
-    pub listing-set : Listed g img (set w (at + i) s) sectors list
+    pub listing-set : FatListedAt g img (set w (at + i) s) sectors list
     listing-set =
         let k : Wrote w (set w (at + i) s) at n = wrote-set (at + i) s (wrote-none w at n) (omega arith) (omega arith) in
         listed-kept (a .listed) k (a .room)

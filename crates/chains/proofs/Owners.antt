@@ -12,7 +12,7 @@ use Rattle.tables.specs.Work.{Wrote}
 use Rattle.tables.proofs.WorkLaws.{wrote-none, wrote-two}
 use Rattle.theory.proofs.Tests.{clash}
 use Rattle.theory.proofs.OwnerMarks.{owning-fresh, owning-shared}
-use Rattle.chains.specs.Answers.{markAnswer, isBroken, isShared, andThen, Remarked, ChainsMarked}
+use Rattle.chains.specs.Answers.{markAnswer, isBroken, isShared, andThen, ChainWalked, ChainsMarked}
 use Rattle.chains.specs.declared.Marked.{Marked}
 use Rattle.chains.specs.declared.Marked.the-variants.{Broken, Fresh, Shared}
 
@@ -25,42 +25,30 @@ shared-by : (b : Bool) → isShared (cond b Fresh Shared) ≡ not b
 shared-by true = refl
 shared-by false = refl
 
-module _ (cell : ℕ → ℕ) (limit n s : ℕ) (w : List ℕ) {a : Marked} (e : a ≡ markAnswer cell limit n s (marks w)) where
+module _ {cell : ℕ → ℕ} {limit n s : ℕ} {w w′ : List ℕ} {a : Marked} (r : ChainWalked cell limit n s w w′ a) where
   broken-is : isBroken a ≡ not (chain cell limit n s)
   unfolding markAnswer
-  broken-is = ap isBroken e ∙ broken-by (chain cell limit n s) (all (unmarked (marks w)) (units cell n s))
+  broken-is = ap isBroken (r .answer) ∙ broken-by (chain cell limit n s) (all (unmarked (marks w)) (units cell n s))
 
   shared-is : chain cell limit n s ≡ true → isShared a ≡ not (all (unmarked (marks w)) (units cell n s))
   unfolding markAnswer
-  shared-is h = ap isShared e ∙ rw h (shared-by (all (unmarked (marks w)) (units cell n s)))
-
-  pub broken-chain : isBroken a ≡ true → chain cell limit n s ≡ false
-  broken-chain h = not-true (chain cell limit n s) (sym broken-is ∙ h)
-
-  pub right-chain : isBroken a ≡ false → chain cell limit n s ≡ true
-  right-chain h = not-false (chain cell limit n s) (sym broken-is ∙ h)
+  shared-is h = ap isShared (r .answer) ∙ rw h (shared-by (all (unmarked (marks w)) (units cell n s)))
 
   -- the chain's units are owned too, and a unit is shared now if one was before or the answer says so
-  module _ {w′ : List ℕ} (b : limit ≤ END) (r : Remarked cell limit n s w w′) (h : chain cell limit n s ≡ true) where
-    owning-marked : (owned : List ℕ) (shared : Bool) → Owning cell limit owned (marks w) shared → Owning cell limit (owned ++ units cell n s) (marks w′) (shared || isShared a)
-    owning-marked owned shared o = go (all (unmarked (marks w)) (units cell n s)) refl
-      where
-        go : (f : Bool) → all (unmarked (marks w)) (units cell n s) ≡ f → Owning cell limit (owned ++ units cell n s) (marks w′) (shared || isShared a)
-        go true f = rw (shared-is h, f, or-false) (owning-fresh b o h (r .chained h) f)
-        go false f = rw (shared-is h, f, or-true) (owning-shared b o h (r .chained h) f)
+  owning-marked : limit ≤ END → chain cell limit n s ≡ true → (owned : List ℕ) (shared : Bool) → Owning cell limit owned (marks w) shared
+      → Owning cell limit (owned ++ units cell n s) (marks w′) (shared || isShared a)
+  owning-marked b h owned shared o = go (all (unmarked (marks w)) (units cell n s)) refl
+    where
+      go : (f : Bool) → all (unmarked (marks w)) (units cell n s) ≡ f → Owning cell limit (owned ++ units cell n s) (marks w′) (shared || isShared a)
+      go true f = rw (shared-is h, f, or-false) (owning-fresh b o h (r .chained h) f)
+      go false f = rw (shared-is h, f, or-true) (owning-shared b o h (r .chained h) f)
 
 -- ---- chains, one after the other
 
 -- a walk along one chain
-pub marked-chain : (sp : Space) (n s : ℕ) {w w′ : List ℕ} {a : Marked} → sp .limit ≤ END → a ≡ markAnswer (sp .cell) (sp .limit) n s (marks w) → Remarked (sp .cell) (sp .limit) n s w w′
+pub marked-chain : (sp : Space) (n s : ℕ) {w w′ : List ℕ} {a : Marked} → sp .limit ≤ END → ChainWalked (sp .cell) (sp .limit) n s w w′ a
     → ChainsMarked sp (chain (sp .cell) (sp .limit) n s) (units (sp .cell) n s) w w′ a
-marked-chain sp n s {w} b e r =
-    record {
-      answer = broken-is (sp .cell) (sp .limit) n s w e;
-      closed = λ h. r .chained h .closed;
-      owners = λ h. owning-marked (sp .cell) (sp .limit) n s w e b r h;
-      wrote = r .wrote;
-    }
+marked-chain sp n s b r = record { answer = broken-is r; closed = λ h. r .chained h .closed; owners = λ h. owning-marked r b h; wrote = r .wrote }
 
 -- no walk
 pub marked-none : (sp : Space) (w : List ℕ) → Closed (sp .cell) (sp .limit) (marks w) → ChainsMarked sp true [] w w Fresh

@@ -12,16 +12,14 @@ use Rattle.format.specs.Basics.Lists.{all}
 use Rattle.format.specs.Basics.Bytes.{Bytes}
 use Rattle.format.specs.Layout.Geometry.{Geometry, sectorCount}
 use Rattle.format.specs.Layout.Chain.{END, chain, units}
-use Rattle.format.specs.Layout.Tables.{fatCell}
 use Rattle.theory.specs.Marks.{marks, unmarked, Closed}
 use Rattle.theory.proofs.Tests.{clash, false-of}
 use Rattle.theory.proofs.Chains.{chain-short}
-use Rattle.theory.proofs.Marks.{closed-none, Marking, marking-start, marking-step, marking-end, marking-fresh, marking-done, marking-out, marking-met, marking-clash}
-use Rattle.tables.specs.Work.{Wrote, WorkClear}
-use Rattle.tables.specs.Listed.{Listed}
-use Rattle.chains.specs.Answers.{markAnswer, Remarked}
+use Rattle.theory.proofs.Marks.{Marking, marking-start, marking-step, marking-end, marking-fresh, marking-done, marking-out, marking-met, marking-clash}
+use Rattle.tables.specs.Work.{Wrote}
+use Rattle.tables.specs.Listed.{FatListedAt}
+use Rattle.chains.specs.Answers.{markAnswer, ChainWalked}
 use Rattle.tables.proofs.WorkLaws.{wrote-none, wrote-set, listed-kept}
-use Rattle.chains.specs.declared.Marked.{Marked}
 use Rattle.chains.specs.declared.Marked.the-variants.{Broken, Fresh, Shared}
 
 -- ---- marks in a list
@@ -38,12 +36,8 @@ marks-other : (w : List ℕ) (s v u : ℕ) → u ≢ s → marks (set w s v) u �
 unfolding marks
 marks-other w s v u d = getD-set-other w s u v 0 d
 
--- a work buffer without marks is one in which chains may be marked
-pub clear-closed : (g : Geometry) (img : Bytes) (w : List ℕ) → WorkClear g img w → Closed (fatCell g img) (sectorCount g img) (marks w)
-clear-closed g img w c = closed-none (λ u l. rw marks-at (c .clear u l))
-
 -- the list of FAT sectors stays
-pub listed-set : {g : Geometry} {img : Bytes} {w : List ℕ} {n list : ℕ} (u v : ℕ) → Listed g img w n list → u < sectorCount g img → Listed g img (set w u v) n list
+pub listed-set : {g : Geometry} {img : Bytes} {w : List ℕ} {n list : ℕ} (u v : ℕ) → FatListedAt g img w n list → u < sectorCount g img → FatListedAt g img (set w u v) n list
 listed-set {g} {img} {w} u v l h =
     let k : Wrote w (set w u v) 0 (sectorCount g img) = wrote-set u v (wrote-none w 0 _) (omega arith) (omega arith) in
     listed-kept l k (omega (arith, l .apart))
@@ -70,11 +64,6 @@ pub record Walk (cell : ℕ → ℕ) (limit : ℕ) (w₀ : List ℕ) (n s₀ : �
   pub marking : Marking cell limit n s₀ (marks w₀) k s (marks w)
   pub wrote : Wrote w₀ w 0 limit
 
--- what the walk answers, and the buffer that it leaves
-pub record Answered (cell : ℕ → ℕ) (limit : ℕ) (w₀ : List ℕ) (n s₀ : ℕ) (w : List ℕ) (a : Marked) : Type 0 where
-  pub answer : a ≡ markAnswer cell limit n s₀ (marks w₀)
-  pub left : Remarked cell limit n s₀ w₀ w
-
 module _ {cell : ℕ → ℕ} {limit : ℕ} {w₀ : List ℕ} {n s₀ : ℕ} where
   pub walk-start : limit ≤ length w₀ → Closed cell limit (marks w₀) → Walk cell limit w₀ n s₀ w₀ s₀ n
   walk-start l c = record { room = l; marking = marking-start c; wrote = wrote-none w₀ 0 _ }
@@ -88,33 +77,34 @@ module _ {cell : ℕ → ℕ} {limit : ℕ} {w₀ : List ℕ} {n s₀ : ℕ} whe
           wrote = wrote-set s k (at .wrote) (omega arith) (omega arith);
         }
 
-    broken : chain cell limit n s₀ ≡ false → Answered cell limit w₀ n s₀ w Broken
-    broken h = record { answer = answer-broken _ _ _ _ _ h; left = record { chained = λ e. absurd (clash e h); wrote = at .wrote } }
+    broken : chain cell limit n s₀ ≡ false → ChainWalked cell limit n s₀ w₀ w Broken
+    broken h = record { answer = answer-broken _ _ _ _ _ h; chained = λ e. absurd (clash e h); wrote = at .wrote }
 
-    pub walk-out : 0 < k → limit ≤ s → Answered cell limit w₀ n s₀ w Broken
+    pub walk-out : 0 < k → limit ≤ s → ChainWalked cell limit n s₀ w₀ w Broken
     walk-out p h = broken (marking-out (at .marking) p h)
 
-    pub walk-clash : limit ≤ END → Closed cell limit (marks w₀) → s < limit → 0 < getD w s 0 → getD w s 0 ≢ k → Answered cell limit w₀ n s₀ w Broken
+    pub walk-clash : limit ≤ END → Closed cell limit (marks w₀) → s < limit → 0 < getD w s 0 → getD w s 0 ≢ k → ChainWalked cell limit n s₀ w₀ w Broken
     walk-clash b c l p d = broken (marking-clash b c (at .marking) l (rw marks-at p) (rw marks-at d))
 
-    pub walk-shared : 0 < k → s < limit → getD w s 0 ≡ k → Answered cell limit w₀ n s₀ w Shared
+    pub walk-shared : 0 < k → s < limit → getD w s 0 ≡ k → ChainWalked cell limit n s₀ w₀ w Shared
     walk-shared p l e =
         let r = marking-met (at .marking) p l (rw marks-at e) in
-        record { answer = answer-shared _ _ _ _ _ (r .0) (r .1); left = record { chained = λ h. r .2; wrote = at .wrote } }
+        record { answer = answer-shared _ _ _ _ _ (r .0) (r .1); chained = λ h. r .2; wrote = at .wrote }
 
-    pub walk-fresh : k ≤ 0 → s ≡ END → Answered cell limit w₀ n s₀ w Fresh
+    pub walk-fresh : k ≤ 0 → s ≡ END → ChainWalked cell limit n s₀ w₀ w Fresh
     walk-fresh z e =
         let y : k ≡ 0 = omega arith in
         record {
           answer = answer-fresh _ _ _ _ _ (marking-end (at .marking) y ∙ eq-eqb s END e) (marking-fresh (at .marking) y);
-          left = record { chained = λ h. marking-done (at .marking) y e; wrote = at .wrote };
+          chained = λ h. marking-done (at .marking) y e;
+          wrote = at .wrote;
         }
 
-    pub walk-off : k ≤ 0 → s ≢ END → Answered cell limit w₀ n s₀ w Broken
+    pub walk-off : k ≤ 0 → s ≢ END → ChainWalked cell limit n s₀ w₀ w Broken
     walk-off z d = broken (marking-end (at .marking) (omega arith) ∙ ne-eqb s END d)
 
 -- a chain of more units than there are is none, whatever stands in the buffer
-pub too-long : {cell : ℕ → ℕ} {limit : ℕ} (w : List ℕ) {n s : ℕ} → limit ≤ END → limit < n → Answered cell limit w n s w Broken
+pub too-long : {cell : ℕ → ℕ} {limit : ℕ} (w : List ℕ) {n s : ℕ} → limit ≤ END → limit < n → ChainWalked cell limit n s w w Broken
 too-long {cell} {limit} w {n} {s} b h =
     let f : chain cell limit n s ≡ true → ⊥ = λ e. omega (arith, chain-short cell limit b n s e) in
-    record { answer = answer-broken _ _ _ _ _ (false-of _ f); left = record { chained = λ e. absurd (f e); wrote = wrote-none w 0 _ } }
+    record { answer = answer-broken _ _ _ _ _ (false-of _ f); chained = λ e. absurd (f e); wrote = wrote-none w 0 _ }

@@ -5,10 +5,14 @@ use mathlib.Core.Bool.{Bool, true, false, not, cond, _||_}
 use mathlib.Core.List.{List, _++_}
 use lib.ListN.{getD}
 use Rattle.format.specs.Basics.Lists.{all}
+use Rattle.format.specs.Basics.Bytes.{Bytes}
 use Rattle.format.specs.Layout.Chain.{chain, units}
 use Rattle.format.specs.Layout.Space.{Space}
 use Rattle.theory.specs.Marks.{marks, unmarked, Closed, ChainMarked, Owning}
 use Rattle.tables.specs.Work.{Wrote}
+use Rattle.tables.specs.Views.{cellsOf, sectorCountOf}
+use Rattle.tables.specs.Listed.{FatListed}
+use Rattle.tables.specs.declared.Tables.{Tables}
 use Rattle.chains.specs.declared.Marked.{Marked}
 use Rattle.chains.specs.declared.Marked.the-variants.{Broken, Fresh, Shared}
 use Rattle.chains.specs.declared.Length.{Length}
@@ -29,8 +33,9 @@ isShared Broken = false
 isShared Fresh = false
 isShared Shared = true
 
--- the work buffer after a chain of n from s was marked in it: the marks of a right chain, and nothing but units' marks changed
-pub record Remarked (cell : ℕ → ℕ) (limit n s : ℕ) (before after : List ℕ) : Type 0 where
+-- One chain of n from s has been walked along and marked: the answer, the marks of a right chain, and nothing but units' marks changed.
+pub record ChainWalked (cell : ℕ → ℕ) (limit n s : ℕ) (before after : List ℕ) (a : Marked) : Type 0 where
+  pub answer : a ≡ markAnswer cell limit n s (marks before)
   pub chained : chain cell limit n s ≡ true → ChainMarked cell limit n s (marks before) (marks after)
   pub wrote : Wrote before after 0 limit
 
@@ -49,6 +54,22 @@ pub record ChainsMarked (sp : Space) (right : Bool) (own before after : List ℕ
   pub owners : right ≡ true → (owned : List ℕ) (shared : Bool) → Owning (sp .cell) (sp .limit) owned (marks before) shared
       → Owning (sp .cell) (sp .limit) (owned ++ own) (marks after) (shared || isShared a)
   pub wrote : Wrote before after 0 (sp .limit)
+
+-- ---- sectors
+
+-- the marks of sectors agree with the FAT
+abbrev pub SectorsClosed : Tables → Bytes → List ℕ → Type 0
+SectorsClosed t img work = Closed (cellsOf t img) (sectorCountOf t img) (marks work)
+
+-- and its sectors stand listed: chains may be marked
+pub record SectorMarks (t : Tables) (img : Bytes) (work : List ℕ) : Type 0 where
+  pub listed : FatListed t img work
+  pub closed : SectorsClosed t img work
+
+abbrev pub SectorsWalked : Tables → Bytes → ℕ → ℕ → List ℕ → List ℕ → Marked → Type 0
+SectorsWalked t img n s before after a = ChainWalked (cellsOf t img) (sectorCountOf t img) n s before after a
+
+-- ---- lists and lengths
 
 -- unit k of a chain's units
 abbrev pub unitAt : List ℕ → ℕ → ℕ

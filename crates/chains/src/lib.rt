@@ -5,20 +5,19 @@ ghost use Prim.Native.Nat.{_+_, _≤_, _<_};
 ghost use lib.Dec.{leb, eqb};
 ghost use lib.ListN.{length};
 ghost use Rattle.format.specs.Basics.Lists.{allBelow};
-ghost use Rattle.format.specs.Layout.Geometry.{sectorCount};
 ghost use Rattle.format.specs.Layout.Need.{roundUp};
 ghost use Rattle.format.specs.Layout.Chain.{END, chain, units};
-ghost use Rattle.format.specs.Layout.Tables.{fatCell, sectorSpace};
-ghost use Rattle.format.specs.Layout.Volume.{directorySectorsOf, volume};
+ghost use Rattle.format.specs.Layout.Volume.{directorySectorsOf};
 ghost use Rattle.format.specs.Rules.Cells.{fatCellRight, restFree, cellRules};
 ghost use Rattle.format.specs.Rules.Directory.{directoryRules};
-ghost use Rattle.theory.specs.Marks.{marks, Closed};
 ghost use Rattle.kinds.specs.Sizes.{geometryOf};
 ghost use Rattle.tables.specs.Work.{Wrote, Holds};
-ghost use Rattle.tables.specs.Listed.{Listed};
-ghost use Rattle.chains.specs.Answers.{markAnswer, isBroken, isShared, andThen, Remarked, unitAt, lengthAnswer};
+ghost use Rattle.tables.specs.Views.{volumeOf, sectorCountOf, cellsOf, sectorsOf};
+ghost use Rattle.tables.specs.Listed.{FatListed};
+ghost use Rattle.chains.specs.Answers.{isBroken, isShared, andThen, SectorMarks, SectorsWalked, unitAt, lengthAnswer};
+use header::directory_start;
+use header::fat_count;
 use kinds::Sector;
-use le::u32_at;
 use tables::Tables;
 use tables::cell_at;
 
@@ -70,10 +69,8 @@ impl Marked {
 
 // Marks the n sectors of a chain, each with how many are left from there.
 pub fn mark_chain(img: &[u8], work: &mut [u32], t: Tables, start: Sector, n: u32) -> Marked
-    requires { ⌜ Listed (geometryOf (t .geometry)) (now img) (now work) (t .sectors) (t .list) ⌝ }
-    requires { ⌜ Closed (fatCell (geometryOf (t .geometry)) (now img)) (sectorCount (geometryOf (t .geometry)) (now img)) (marks (now work)) ⌝ }
-    ensures { λ r. ⌜ r ≡ markAnswer (fatCell (geometryOf (t .geometry)) (now (img .entry))) (sectorCount (geometryOf (t .geometry)) (now (img .entry))) n (start .0) (marks (now (work .entry))) ⌝ }
-    ensures { λ _. ⌜ Remarked (fatCell (geometryOf (t .geometry)) (now (img .entry))) (sectorCount (geometryOf (t .geometry)) (now (img .entry))) n (start .0) (now (work .entry)) (now (work .exit)) ⌝ }
+    requires { ⌜ SectorMarks t (now img) (now work) ⌝ }
+    ensures { λ r. ⌜ SectorsWalked t (now (img .entry)) n (start .0) (now (work .entry)) (now (work .exit)) r ⌝ }
 {
     let mut s = start;
     let mut k = n;
@@ -111,10 +108,8 @@ pub fn units_for(size: u64, unit: u64) -> u64
 
 // Marks the sectors of a chain that holds so many bytes. One of more sectors than there are is broken without a walk.
 pub fn mark_bytes(img: &[u8], work: &mut [u32], t: Tables, start: Sector, size: u64) -> Marked
-    requires { ⌜ Listed (geometryOf (t .geometry)) (now img) (now work) (t .sectors) (t .list) ⌝ }
-    requires { ⌜ Closed (fatCell (geometryOf (t .geometry)) (now img)) (sectorCount (geometryOf (t .geometry)) (now img)) (marks (now work)) ⌝ }
-    ensures { λ r. ⌜ r ≡ markAnswer (fatCell (geometryOf (t .geometry)) (now (img .entry))) (sectorCount (geometryOf (t .geometry)) (now (img .entry))) (roundUp size (t .geometry .bytes)) (start .0) (marks (now (work .entry))) ⌝ }
-    ensures { λ _. ⌜ Remarked (fatCell (geometryOf (t .geometry)) (now (img .entry))) (sectorCount (geometryOf (t .geometry)) (now (img .entry))) (roundUp size (t .geometry .bytes)) (start .0) (now (work .entry)) (now (work .exit)) ⌝ }
+    requires { ⌜ SectorMarks t (now img) (now work) ⌝ }
+    ensures { λ r. ⌜ SectorsWalked t (now (img .entry)) (roundUp size (t .geometry .bytes)) (start .0) (now (work .entry)) (now (work .exit)) r ⌝ }
 {
     let g = t.geometry;
     let n = units_for(size, g.bytes as u64);
@@ -128,11 +123,11 @@ pub fn mark_bytes(img: &[u8], work: &mut [u32], t: Tables, start: Sector, size: 
 
 // Writes the n sectors of a chain into the work buffer from a place on.
 pub fn list_chain(img: &[u8], work: &mut [u32], t: Tables, start: Sector, n: usize, at: usize)
-    requires { ⌜ Listed (geometryOf (t .geometry)) (now img) (now work) (t .sectors) (t .list) ⌝ }
-    requires { ⌜ chain (fatCell (geometryOf (t .geometry)) (now img)) (sectorCount (geometryOf (t .geometry)) (now img)) n (start .0) ≡ true ⌝ }
+    requires { ⌜ FatListed t (now img) (now work) ⌝ }
+    requires { ⌜ chain (cellsOf t (now img)) (sectorCountOf t (now img)) n (start .0) ≡ true ⌝ }
     requires { ⌜ at + n ≤ t .list ⌝ }
-    ensures { λ _. ⌜ Wrote (now (work .entry)) (now (work .exit)) at n ⌝ }
-    ensures { λ _. ⌜ Holds (now (work .exit)) at n (unitAt (units (fatCell (geometryOf (t .geometry)) (now (img .entry))) n (start .0))) ⌝ }
+    ensures wrote { λ _. ⌜ Wrote (now (work .entry)) (now (work .exit)) at n ⌝ }
+    ensures holds { λ _. ⌜ Holds (now (work .exit)) at n (unitAt (units (cellsOf t (now (img .entry))) n (start .0))) ⌝ }
 {
     let mut s = start;
     let mut i = 0;
@@ -147,46 +142,46 @@ pub fn list_chain(img: &[u8], work: &mut [u32], t: Tables, start: Sector, n: usi
 
 // The cells below the number of sectors.
 pub fn cells_below(img: &[u8], work: &[u32], t: Tables) -> bool
-    requires { ⌜ Listed (geometryOf (t .geometry)) (now img) (now work) (t .sectors) (t .list) ⌝ }
-    ensures { λ r. ⌜ r ≡ allBelow (sectorCount (geometryOf (t .geometry)) (now (img .entry))) (fatCellRight (sectorSpace (geometryOf (t .geometry)) (now (img .entry)))) ⌝ }
+    requires { ⌜ FatListed t (now img) (now work) ⌝ }
+    ensures { λ r. ⌜ r ≡ allBelow (sectorCountOf t (now (img .entry))) (fatCellRight (sectorsOf t (now (img .entry)))) ⌝ }
 {
     let n = t.sectors;
-    let mut i = 0;
-    while i < n {
-        let c = cell_at(img, work, t, Sector(i as u32));
+    let mut s = Sector::FIRST;
+    while s.index() < n {
+        let c = cell_at(img, work, t, s);
         let right = (c.is_fat() | c.is_difat()) | (c.below(n) | c.is_end() | c.is_free());
         if !right {
             return false;
         }
-        i += 1;
+        s = s.next();
     }
     true
 }
 
 // The cells from the number of sectors on. Each has a number of 32 bits, since the image is shorter than 4 GiB.
 pub fn cells_rest(img: &[u8], work: &[u32], t: Tables) -> bool
-    requires { ⌜ Listed (geometryOf (t .geometry)) (now img) (now work) (t .sectors) (t .list) ⌝ }
-    ensures { λ r. ⌜ r ≡ restFree (sectorSpace (geometryOf (t .geometry)) (now (img .entry))) ⌝ }
+    requires { ⌜ FatListed t (now img) (now work) ⌝ }
+    ensures { λ r. ⌜ r ≡ restFree (sectorsOf t (now (img .entry))) ⌝ }
 {
     let g = t.geometry;
     let n = t.sectors;
-    let f = u32_at(img, 44) as usize;
-    let end = g.cells() * f - n;
-    let mut i = 0;
-    while i < end {
-        let c = cell_at(img, work, t, Sector((n + i) as u32));
+    let f = fat_count(img) as usize;
+    let end = g.cells() * f;
+    let mut s = Sector::at(n);
+    while s.index() < end {
+        let c = cell_at(img, work, t, s);
         if !c.is_free() {
             return false;
         }
-        i += 1;
+        s = s.next();
     }
     true
 }
 
 // Group 12.
 pub fn cell_rules(img: &[u8], work: &[u32], t: Tables) -> bool
-    requires { ⌜ Listed (geometryOf (t .geometry)) (now img) (now work) (t .sectors) (t .list) ⌝ }
-    ensures { λ r. ⌜ r ≡ cellRules (sectorSpace (geometryOf (t .geometry)) (now (img .entry))) ⌝ }
+    requires { ⌜ FatListed t (now img) (now work) ⌝ }
+    ensures { λ r. ⌜ r ≡ cellRules (sectorsOf t (now (img .entry))) ⌝ }
 {
     cells_below(img, work, t) & cells_rest(img, work, t)
 }
@@ -213,11 +208,13 @@ fn length_of(k: usize, next: Sector) -> Length
 
 // Group 13: how many sectors the directory has.
 pub fn directory_length(img: &[u8], work: &[u32], t: Tables) -> Length
-    requires { ⌜ Listed (geometryOf (t .geometry)) (now img) (now work) (t .sectors) (t .list) ⌝ }
-    ensures { λ r. ⌜ r ≡ lengthAnswer (directoryRules (volume (geometryOf (t .geometry)) (now (img .entry)))) (length (directorySectorsOf (geometryOf (t .geometry)) (now (img .entry)))) ⌝ }
+    requires { ⌜ FatListed t (now img) (now work) ⌝ }
+    ensures { λ r. ⌜ r
+        ≡ lengthAnswer (directoryRules (volumeOf (t .geometry) (now (img .entry))))
+        (length (directorySectorsOf (geometryOf (t .geometry)) (now (img .entry)))) ⌝ }
 {
     let n = t.sectors;
-    let mut s = Sector(u32_at(img, 48));
+    let mut s = directory_start(img);
     let mut m = n;
     while 0 < m {
         if !s.below(n) {

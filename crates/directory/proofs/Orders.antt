@@ -1,6 +1,6 @@
 -- What an answer about two entries' names says of their order.
 use Prim.Native.Nat.{ℕ}
-use mathlib.Core.Path.{_≡_, sym, _∙_}
+use mathlib.Core.Path.{_≡_, sym}
 use mathlib.Core.Bool.{true, false}
 use Rattle.format.specs.Layout.Entry.{name}
 use Rattle.format.specs.Layout.Directory.{Directory}
@@ -13,12 +13,12 @@ use Rattle.entries.proofs.Orderings.{told}
 module _ (e : Directory) (x y : ℕ) {o : Order} (r : o ≡ ordering (name (e .entry x)) (name (e .entry y))) where
   pub order-less : o ≡ Less → true ≡ less e x y
   unfolding less
-  order-less h = sym (told (name (e .entry x)) (name (e .entry y)) Less (sym h ∙ r))
+  order-less h = sym (told (name (e .entry x)) (name (e .entry y)) r h)
 
   pub order-same : o ≡ Same → false ≡ less e x y
   unfolding less
-  order-same h = sym (told (name (e .entry x)) (name (e .entry y)) Same (sym h ∙ r) .1)
+  order-same h = sym (told (name (e .entry x)) (name (e .entry y)) r h .1)
 
   pub order-more : o ≡ More → false ≡ less e x y
   unfolding less
-  order-more h = sym (told (name (e .entry x)) (name (e .entry y)) More (sym h ∙ r) .1)
+  order-more h = sym (told (name (e .entry x)) (name (e .entry y)) r h .1)

@@ -1,7 +1,6 @@
 -- Where entries stand: inside the image, at the place that the list gives.
 use Prim.Native.Nat.{ℕ, _+_, _*_, _/_, _%_, _≤_, _<_}
 use mathlib.Core.Path.{_≡_, sym, _∙_, ap}
-use mathlib.Core.Bool.{Bool, true}
 use mathlib.Core.List.{List}
 use mathlib.Core.Logic.{inr}
 use native.Mathlib.Nat.{mod-lt, mul-le-mul-left, mul-le-mul-right, mul-comm, mul-assoc, add-mul}
@@ -9,20 +8,16 @@ use native.Mathlib.Omega.{arith}
 use lib.ListN.{length}
 use borrow.Author.Tests.{lt-ltb}
 use Rattle.format.specs.Basics.Bytes.{Bytes, part}
-use Rattle.format.specs.Basics.Lists.{allBelow}
 use Rattle.format.specs.Layout.Geometry.{Geometry, sectorCount, placeIn, entriesIn, entryBytes}
-use Rattle.format.specs.Layout.Directory.{Directory, entryPlace, entryCount, entryIn, directoryOf}
+use Rattle.format.specs.Layout.Directory.{entryPlace, entryCount, entryIn, directoryOf}
 use Rattle.format.specs.Layout.Volume.{directorySectorsOf, directory}
-use Rattle.format.specs.Rules.Entries.{entryRight, entryRules, entryFields}
 use Rattle.kinds.specs.Sizes.{geometryOf}
-use Rattle.theory.proofs.Tests.{below-at}
 use Rattle.theory.proofs.Scale.{scale-div, scale-mod, scale-below}
-use Rattle.tables.specs.Sized.{ImageSized}
+use Rattle.header.specs.Sized.{ImageSized}
 use Rattle.tables.specs.Work.{Wrote}
 use Rattle.tables.proofs.Places.{sector-inside}
 use Rattle.entries.specs.Entry.{entryAt, NamedAt}
-use Rattle.entries.proofs.NameLaws.{name-fits}
-use Rattle.directory.specs.Listed.{entriesOf, countOf, placeOf, Placed, Listed, NamedIn, Ruled}
+use Rattle.directory.specs.Listed.{entriesOf, countOf, placeOf, Placed, DirectoryListed, NamedIn}
 use Rattle.directory.specs.declared.Directory.{Directory as Where}
 
 module _ {g : Geometry} {img : Bytes} (z : ImageSized g img) where
@@ -55,7 +50,7 @@ module _ {d : Where} {work : List ℕ} {x : ℕ} (p : Placed d work x) where
   unfolding entriesIn entryBytes
   placed-few = let w = p .narrow in omega arith
 
-module _ {d : Where} {img : Bytes} {work : List ℕ} (l : Listed d img work) where
+module _ {d : Where} {img : Bytes} {work : List ℕ} (l : DirectoryListed d img work) where
   abbrev g : Geometry
   g = geometryOf (d .geometry)
 
@@ -102,22 +97,8 @@ module _ {d : Where} {img : Bytes} {work : List ℕ} (l : Listed d img work) whe
     pub named-at : NamedIn (entriesOf d img) x → (p : ℕ) → p ≡ placeOf d work x → NamedAt img p
     named-at n p e = rw e (record { whole = place-inside; named = rw (← entry-is) (n .named) })
 
-  pub rules-are : entryRules (entriesOf d img) ≡ allBelow (countOf d) (entryRight (entriesOf d img))
-  unfolding entryRules
-  rules-are = ap (λ n. allBelow n (entryRight (entriesOf d img))) count-is
-
-  -- the test of one entry, by what stands at its place
-  pub entry-tested : (x : ℕ) (h : x < entriesOf d img .count) {r : Bool} → r ≡ entryFields x (entryAt img (placeOf d work x)) → entryRight (entriesOf d img) x ≡ r
-  unfolding entryRight
-  entry-tested x h e = ap (entryFields x) (entry-is x h) ∙ sym e
-
--- group 14 holds: every name but the root's lies in its place
-pub ruled : (e : Directory) → entryRules e ≡ true → Ruled e
-unfolding entryRules entryRight
-ruled e h = record { names = λ x p l. record { inside = l; named = name-fits x (e .entry x) (omega arith) (below-at (e .count) (entryRight e) h x l) } }
-
 -- the directory's list stays where only what stands before it changes
-pub directory-kept : {d : Where} {img : Bytes} {w w′ : List ℕ} {at m : ℕ} → Listed d img w → Wrote w w′ at m → at + m ≤ d .list → Listed d img w′
+pub directory-kept : {d : Where} {img : Bytes} {w w′ : List ℕ} {at m : ℕ} → DirectoryListed d img w → Wrote w w′ at m → at + m ≤ d .list → DirectoryListed d img w′
 directory-kept l r k =
     record {
       sized = l .sized;

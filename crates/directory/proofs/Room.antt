@@ -24,7 +24,7 @@ use Rattle.theory.proofs.Chains.{linked-below, linked-once}
 use Rattle.theory.proofs.Counts.{eqb-cases, count-append, pigeonhole}
 use Rattle.theory.proofs.Loops.{distinct-once}
 use Rattle.theory.proofs.Tests.{both, below-at, all-at, beq-equal}
-use Rattle.tables.specs.Sized.{ImageSized, F, D}
+use Rattle.header.specs.Sized.{ImageSized, F, D}
 use Rattle.tables.specs.Listed.{listPlace}
 use Rattle.directory.proofs.Places.{entries-few}
 use Rattle.directory.proofs.Sectors.{directory-linked}

@@ -7,7 +7,7 @@ use native.Mathlib.Omega.{arith}
 use lib.Dec.{leb}
 use lib.ListN.{length, getD}
 use borrow.Author.Tests.{leb-true}
-use Rattle.format.specs.Basics.Bytes.{Bytes, u32at}
+use Rattle.format.specs.Basics.Bytes.{Bytes}
 use Rattle.format.specs.Layout.Geometry.{Geometry, sectorCount}
 use Rattle.format.specs.Layout.Chain.{END, chain, units}
 use Rattle.format.specs.Layout.Header.{directoryStart}
@@ -21,29 +21,29 @@ use Rattle.theory.proofs.Tests.{both}
 use Rattle.theory.proofs.Counts.{count-at}
 use Rattle.theory.proofs.Chains.{chain-linked, follow-units, linked-below, linked-short}
 use Rattle.tables.specs.Work.{Holds}
-use Rattle.tables.specs.Listed.{Listed as FatListed}
+use Rattle.tables.specs.Listed.{FatListed}
 use Rattle.tables.specs.declared.Tables.{Tables}
 use Rattle.chains.specs.Answers.{unitAt}
-use Rattle.directory.specs.Listed.{directoryAt, Listed}
+use Rattle.directory.specs.Listed.{directoryAt, DirectoryListed}
 
 module _ (g : Geometry) (img : Bytes) (h : directoryRules (volume g img) ≡ true) where
   -- the two parts of group 13
-  rules : (leb 1 (length (directorySectorsOf g img)) ≡ true) × (chain (fatCell g img) (sectorCount g img) (length (directorySectorsOf g img)) (u32at img 48) ≡ true)
-  unfolding directoryRules someChain volume sectorSpace directoryStart
-  rules = both (leb 1 (length (directorySectorsOf g img))) (chain (fatCell g img) (sectorCount g img) (length (directorySectorsOf g img)) (u32at img 48)) h
+  rules : (leb 1 (length (directorySectorsOf g img)) ≡ true) × (chain (fatCell g img) (sectorCount g img) (length (directorySectorsOf g img)) (directoryStart img) ≡ true)
+  unfolding directoryRules someChain volume sectorSpace
+  rules = both (leb 1 (length (directorySectorsOf g img))) (chain (fatCell g img) (sectorCount g img) (length (directorySectorsOf g img)) (directoryStart img)) h
 
   pub directory-some : 1 ≤ length (directorySectorsOf g img)
   directory-some = leb-true 1 (length (directorySectorsOf g img)) (rules .0)
 
-  pub directory-chain : chain (fatCell g img) (sectorCount g img) (length (directorySectorsOf g img)) (u32at img 48) ≡ true
+  pub directory-chain : chain (fatCell g img) (sectorCount g img) (length (directorySectorsOf g img)) (directoryStart img) ≡ true
   directory-chain = rules .1
 
-  pub directory-units : units (fatCell g img) (length (directorySectorsOf g img)) (u32at img 48) ≡ directorySectorsOf g img
-  unfolding directorySectorsOf directorySectors directoryStart sectorSpace
-  directory-units = follow-units (fatCell g img) (sectorCount g img) (sectorCount g img) (u32at img 48)
+  pub directory-units : units (fatCell g img) (length (directorySectorsOf g img)) (directoryStart img) ≡ directorySectorsOf g img
+  unfolding directorySectorsOf directorySectors sectorSpace
+  directory-units = follow-units (fatCell g img) (sectorCount g img) (sectorCount g img) (directoryStart img)
 
   pub directory-linked : Linked (fatCell g img) (sectorCount g img) (directorySectorsOf g img)
-  directory-linked = rw directory-units at (chain-linked (fatCell g img) (sectorCount g img) (length (directorySectorsOf g img)) (u32at img 48) directory-chain .0)
+  directory-linked = rw directory-units at (chain-linked (fatCell g img) (sectorCount g img) (length (directorySectorsOf g img)) (directoryStart img) directory-chain .0)
 
   pub directory-few : sectorCount g img ≤ END → length (directorySectorsOf g img) ≤ sectorCount g img
   directory-few l = linked-short (fatCell g img) (sectorCount g img) l (directorySectorsOf g img) directory-linked
@@ -52,8 +52,8 @@ module _ (g : Geometry) (img : Bytes) (h : directoryRules (volume g img) ≡ tru
   directory-below k l = linked-below (fatCell g img) (sectorCount g img) (directorySectorsOf g img) directory-linked _ (count-at (directorySectorsOf g img) k 0 l)
 
 -- the walk that lists the chain: what it is called with, and what it leaves
-module _ {img : Bytes} {w : List ℕ} (t : Tables) (n s : ℕ) (l : FatListed (geometryOf (t .geometry)) img w (t .sectors) (t .list))
-    (e : n ≡ length (directorySectorsOf (geometryOf (t .geometry)) img)) (d : s ≡ u32at img 48) (h : directoryRules (volume (geometryOf (t .geometry)) img) ≡ true) where
+module _ {img : Bytes} {w : List ℕ} (t : Tables) (n s : ℕ) (l : FatListed t img w)
+    (e : n ≡ length (directorySectorsOf (geometryOf (t .geometry)) img)) (d : s ≡ directoryStart img) (h : directoryRules (volume (geometryOf (t .geometry)) img) ≡ true) where
   abbrev g : Geometry
   g = geometryOf (t .geometry)
 
@@ -66,7 +66,7 @@ module _ {img : Bytes} {w : List ℕ} (t : Tables) (n s : ℕ) (l : FatListed (g
   units-are : units (fatCell g img) n s ≡ directorySectorsOf g img
   units-are = ap₂ (λ k u. units (fatCell g img) k u) e d ∙ directory-units g img h
 
-  pub listing-left : {w′ : List ℕ} {at : ℕ} → Holds w′ at n (unitAt (units (fatCell g img) n s)) → Listed (directoryAt t n at) img w′
+  pub listing-left : {w′ : List ℕ} {at : ℕ} → Holds w′ at n (unitAt (units (fatCell g img) n s)) → DirectoryListed (directoryAt t n at) img w′
   listing-left a =
       record {
         sized = l .sized;

@@ -1,20 +1,19 @@
-// The directory: its entries by number, and group 14. Its sectors stand listed in the work buffer.
+// The directory: its entries by number. Its sectors stand listed in the work buffer.
 ghost use mathlib.Core.Path.{_≡_};
 ghost use Prim.Native.Nat.{_≤_, _<_};
 ghost use Rattle.format.specs.Layout.Entry.{kind as kindOf, colour as colourOf, left as leftOf, right as rightOf, child as childOf, name};
-ghost use Rattle.format.specs.Rules.Entries.{entryRules};
 ghost use Rattle.format.specs.Rules.Trees.{isObject, less as lessOf};
 ghost use Rattle.kinds.specs.Ordering.{ordering};
-ghost use Rattle.directory.specs.Listed.{countOf, entriesOf, placeOf, Listed, Placed, NamedIn};
+ghost use Rattle.directory.specs.Listed.{countOf, entriesOf, placeOf, DirectoryListed, Placed, NamedIn};
 use entries::child;
 use entries::colour;
-use entries::kind;
+use entries::entry_type;
 use entries::left;
 use entries::names::compare;
 use entries::names::compare_name;
 use entries::right;
-use entries::rules::entry_fields;
 use kinds::EntryId;
+use kinds::EntryType;
 use kinds::Geometry;
 use kinds::Order;
 use kinds::Sector;
@@ -52,16 +51,16 @@ pub fn place(work: &[u32], d: Directory, x: EntryId) -> usize
     Sector(work[list + i / per]).place(g) + 128 * (i % per)
 }
 
-pub fn kind_of(img: &[u8], work: &[u32], d: Directory, x: EntryId) -> u8
-    requires { ⌜ Listed d (now img) (now work) ⌝ }
+pub fn type_of(img: &[u8], work: &[u32], d: Directory, x: EntryId) -> EntryType
+    requires { ⌜ DirectoryListed d (now img) (now work) ⌝ }
     requires { ⌜ x .0 < entriesOf d (now img) .count ⌝ }
-    ensures { λ r. ⌜ r ≡ kindOf (entriesOf d (now (img .entry)) .entry (x .0)) ⌝ }
+    ensures { λ r. ⌜ r .0 ≡ kindOf (entriesOf d (now (img .entry)) .entry (x .0)) ⌝ }
 {
-    kind(img, place(work, d, x))
+    entry_type(img, place(work, d, x))
 }
 
 pub fn colour_of(img: &[u8], work: &[u32], d: Directory, x: EntryId) -> u8
-    requires { ⌜ Listed d (now img) (now work) ⌝ }
+    requires { ⌜ DirectoryListed d (now img) (now work) ⌝ }
     requires { ⌜ x .0 < entriesOf d (now img) .count ⌝ }
     ensures { λ r. ⌜ r ≡ colourOf (entriesOf d (now (img .entry)) .entry (x .0)) ⌝ }
 {
@@ -69,7 +68,7 @@ pub fn colour_of(img: &[u8], work: &[u32], d: Directory, x: EntryId) -> u8
 }
 
 pub fn left_of(img: &[u8], work: &[u32], d: Directory, x: EntryId) -> EntryId
-    requires { ⌜ Listed d (now img) (now work) ⌝ }
+    requires { ⌜ DirectoryListed d (now img) (now work) ⌝ }
     requires { ⌜ x .0 < entriesOf d (now img) .count ⌝ }
     ensures { λ r. ⌜ r .0 ≡ leftOf (entriesOf d (now (img .entry)) .entry (x .0)) ⌝ }
 {
@@ -77,7 +76,7 @@ pub fn left_of(img: &[u8], work: &[u32], d: Directory, x: EntryId) -> EntryId
 }
 
 pub fn right_of(img: &[u8], work: &[u32], d: Directory, x: EntryId) -> EntryId
-    requires { ⌜ Listed d (now img) (now work) ⌝ }
+    requires { ⌜ DirectoryListed d (now img) (now work) ⌝ }
     requires { ⌜ x .0 < entriesOf d (now img) .count ⌝ }
     ensures { λ r. ⌜ r .0 ≡ rightOf (entriesOf d (now (img .entry)) .entry (x .0)) ⌝ }
 {
@@ -85,7 +84,7 @@ pub fn right_of(img: &[u8], work: &[u32], d: Directory, x: EntryId) -> EntryId
 }
 
 pub fn child_of(img: &[u8], work: &[u32], d: Directory, x: EntryId) -> EntryId
-    requires { ⌜ Listed d (now img) (now work) ⌝ }
+    requires { ⌜ DirectoryListed d (now img) (now work) ⌝ }
     requires { ⌜ x .0 < entriesOf d (now img) .count ⌝ }
     ensures { λ r. ⌜ r .0 ≡ childOf (entriesOf d (now (img .entry)) .entry (x .0)) ⌝ }
 {
@@ -94,19 +93,19 @@ pub fn child_of(img: &[u8], work: &[u32], d: Directory, x: EntryId) -> EntryId
 
 // Whether entry x is a storage or a stream.
 pub fn object(img: &[u8], work: &[u32], d: Directory, x: EntryId) -> bool
-    requires { ⌜ Listed d (now img) (now work) ⌝ }
+    requires { ⌜ DirectoryListed d (now img) (now work) ⌝ }
     requires { ⌜ x .0 < entriesOf d (now img) .count ⌝ }
     ensures { λ r. ⌜ r ≡ isObject (entriesOf d (now (img .entry))) (x .0) ⌝ }
 {
-    let k = kind_of(img, work, d, x);
-    (k == 1) | (k == 2)
+    let t = type_of(img, work, d, x);
+    t.is_storage() | t.is_stream()
 }
 
 // ---- names
 
 // Whether the name of x comes before that of y.
 pub fn less(img: &[u8], work: &[u32], d: Directory, x: EntryId, y: EntryId) -> bool
-    requires { ⌜ Listed d (now img) (now work) ⌝ }
+    requires { ⌜ DirectoryListed d (now img) (now work) ⌝ }
     requires { ⌜ NamedIn (entriesOf d (now img)) (x .0) ⌝ }
     requires { ⌜ NamedIn (entriesOf d (now img)) (y .0) ⌝ }
     ensures { λ r. ⌜ r ≡ lessOf (entriesOf d (now (img .entry))) (x .0) (y .0) ⌝ }
@@ -120,26 +119,9 @@ pub fn less(img: &[u8], work: &[u32], d: Directory, x: EntryId, y: EntryId) -> b
 
 // How a name lies to that of entry x.
 pub fn order_to(want: &[u16], img: &[u8], work: &[u32], d: Directory, x: EntryId) -> Order
-    requires { ⌜ Listed d (now img) (now work) ⌝ }
+    requires { ⌜ DirectoryListed d (now img) (now work) ⌝ }
     requires { ⌜ NamedIn (entriesOf d (now img)) (x .0) ⌝ }
     ensures { λ r. ⌜ r ≡ ordering (now (want .entry)) (name (entriesOf d (now (img .entry)) .entry (x .0))) ⌝ }
 {
     compare_name(want, img, place(work, d, x))
-}
-
-// ---- group 14
-
-pub fn entry_rules(img: &[u8], work: &[u32], d: Directory) -> bool
-    requires { ⌜ Listed d (now img) (now work) ⌝ }
-    ensures { λ r. ⌜ r ≡ entryRules (entriesOf d (now (img .entry))) ⌝ }
-{
-    let n = d.count();
-    let mut i = 0;
-    while i < n {
-        if !entry_fields(img, place(work, d, EntryId(i as u32)), i) {
-            return false;
-        }
-        i += 1;
-    }
-    true
 }

@@ -1,16 +1,16 @@
 -- A chain's units listed, and free ones behind them: whether there are enough, and what stands in the work buffer.
-use Prim.Native.Nat.{ℕ, zero, suc, _+_, _≤_, _<_, min}
-use mathlib.Core.Path.{_≡_, refl, sym, _∙_, ap, subst}
+use Prim.Native.Nat.{ℕ, _+_, _≤_, _<_, min}
+use mathlib.Core.Path.{_≡_, sym, _∙_, ap, subst}
 use mathlib.Core.Bool.{true, false, not}
-use mathlib.Core.List.{List, [], _∷_, _++_}
+use mathlib.Core.List.{List, _++_}
 use native.Mathlib.Omega.{arith}
 use native.Mathlib.Decide.{decLt}
 use lib.Dec.{ltb, eqb}
-use lib.ListN.{length, getD, take}
+use lib.ListN.{length, take}
 use lib.Seq.{take-take, take-append-le, take-all}
 use borrow.Author.Tests.{lt-ltb, le-ltb, eq-eqb, ne-eqb, eqb-true}
 use Rattle.format.specs.Basics.Bytes.{Bytes}
-use Rattle.format.specs.Layout.Chain.{chain, units, startOf}
+use Rattle.format.specs.Layout.Chain.{chain, units}
 use Rattle.format.specs.Layout.Space.{Space, freeUnits}
 use Rattle.format.specs.Rules.Length.{workNeed}
 use Rattle.theory.proofs.Chains.{chain-linked, chain-short, length-units}
@@ -20,16 +20,9 @@ use Rattle.tables.proofs.WorkLaws.{wrote-wider}
 use Rattle.volume.specs.Opened.{Readied}
 use Rattle.volume.specs.declared.Volume.{Volume as Opened}
 use Rattle.volume.proofs.ListsKept.{ready-kept}
-use Rattle.spaces.specs.Spaces.{spaceOf}
+use Rattle.spaces.specs.Spaces.{spaceAt}
 use Rattle.spaces.specs.declared.Kind.{Kind}
 use Rattle.unitlists.proofs.Limits.{limit-room, limit-end}
-use Rattle.edits.specs.Streams.{volumeIn}
-
--- the first of the first n
-pub first-taken : (w : List ℕ) (n : ℕ) → (n ≡ 0 → ⊥) → n ≤ length w → getD w 0 0 ≡ startOf (take n w)
-first-taken w zero z h = absurd (z refl)
-first-taken [] (suc n) z h = absurd (omega arith)
-first-taken (x ∷ w) (suc n) z h = refl
 
 -- ---- the work buffer
 
@@ -40,7 +33,7 @@ module _ {v : Opened} {img : Bytes} {w : List ℕ} (r : Readied v img w) where
   stream-within = omega (arith, r .before, r .lists .before, r .lists .mini .before, r .lists .mini .within)
 
   -- units of a kind are listed before them
-  pub gathered-wrote : (kind : Kind) (n : ℕ) {w₀ w₁ : List ℕ} → n ≤ spaceOf kind (volumeIn v img) .limit → Wrote w₀ w₁ 0 n → Wrote w₀ w₁ 0 (v .stream)
+  pub gathered-wrote : (kind : Kind) (n : ℕ) {w₀ w₁ : List ℕ} → n ≤ spaceAt v img kind .limit → Wrote w₀ w₁ 0 n → Wrote w₀ w₁ 0 (v .stream)
   gathered-wrote kind n h q = wrote-wider 0 (v .stream) q (omega arith) (omega (arith, h, limit-room r kind))
 
   pub gathered-ready : {w₁ : List ℕ} → Wrote w w₁ 0 (v .stream) → Readied v img w₁
@@ -51,9 +44,9 @@ module _ {v : Opened} {img : Bytes} {w : List ℕ} (r : Readied v img w) where
 
   -- ---- a chain of the units of a kind
 
-  module _ (kind : Kind) (old f : ℕ) (c : chain (spaceOf kind (volumeIn v img) .cell) (spaceOf kind (volumeIn v img) .limit) old f ≡ true) where
+  module _ (kind : Kind) (old f : ℕ) (c : chain (spaceAt v img kind .cell) (spaceAt v img kind .limit) old f ≡ true) where
     abbrev sp : Space
-    sp = spaceOf kind (volumeIn v img)
+    sp = spaceAt v img kind
 
     abbrev us : List ℕ
     us = units (sp .cell) old f

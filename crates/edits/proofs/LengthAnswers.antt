@@ -1,7 +1,6 @@
 -- Changes of length: the answer and the image, by what the find found.
 use Prim.Native.Nat.{ℕ, _+_}
 use mathlib.Core.Path.{_≡_, refl, sym, _∙_, ap, ap₂}
-use mathlib.Core.Logic.{_≢_}
 use mathlib.Core.Bool.{true, false}
 use mathlib.Core.List.{[]}
 use native.Mathlib.Omega.{arith}
@@ -19,9 +18,12 @@ use Rattle.format.specs.Calls.SetLength.{crosses, tooFew, resized}
 use Rattle.format.specs.Calls.Answer.{firstOf, target, targetAnswer, lengthAnswer, answerIn}
 use Rattle.format.specs.Calls.Reply.{onZero}
 use Rattle.format.specs.Calls.Buffers.{edited}
+use Rattle.kinds.specs.Numbers.{refusalNumber}
+use Rattle.kinds.specs.declared.Refusal.{Refusal}
+use Rattle.kinds.proofs.Refusals.{first-refused}
 use Rattle.edits.specs.Images.{imageIn}
 use Rattle.edits.proofs.Streams.{same-uncrossed}
-use Rattle.edits.proofs.Targets.{image-refused, first-refused}
+use Rattle.edits.proofs.Targets.{image-refused}
 
 -- the same length needs no room
 same-enough : (g : Geometry) (s m n : ℕ) → tooFew g s m n n ≡ false
@@ -36,12 +38,12 @@ module _ (g : Geometry) (v : Volume) (img : Bytes) (path : Path) (new : ℕ) whe
   abbrev call : Call
   call = setLength path new []
 
-  answer-first : (n : ℕ) → targetAnswer v path ≡ n → n ≢ 0 → answerIn g v call ≡ n
+  answer-first : (a : Refusal) → targetAnswer v path ≡ refusalNumber a → answerIn g v call ≡ refusalNumber a
   unfolding answerIn
-  answer-first n e h = rw e (first-refused n _ h)
+  answer-first a e = rw e (first-refused a _)
 
-  pub length-refused : (n : ℕ) → targetAnswer v path ≡ n → n ≢ 0 → (n ≡ answerIn g v call) × (img ≡ imageIn g v img call)
-  length-refused n e h = let a = answer-first n e h in (sym a, image-refused g v img call n a h)
+  pub length-refused : (a : Refusal) → targetAnswer v path ≡ refusalNumber a → (refusalNumber a ≡ answerIn g v call) × (img ≡ imageIn g v img call)
+  length-refused a e = let h = answer-first a e in (sym h, image-refused g v img call a h)
 
   module _ (x size : ℕ) (e : (targetAnswer v path ≡ 0) × (target v path ≡ x)) (s : size ≡ streamSize v x) where
     answer-later : answerIn g v call ≡ lengthAnswer g v size new

@@ -1,7 +1,6 @@
 -- Overwrites: the steps, the answer and the image.
 use Prim.Native.Nat.{ℕ, _+_, _-_, _*_, _≤_, _<_}
 use mathlib.Core.Path.{_≡_, sym, _∙_, ap, ap₂, subst}
-use mathlib.Core.Logic.{_≢_}
 use mathlib.Core.Bool.{true, false, cond}
 use mathlib.Core.List.{List, []}
 use native.Mathlib.Omega.{arith}
@@ -26,18 +25,22 @@ use Rattle.format.specs.Calls.Buffers.{edited}
 use Rattle.theory.proofs.Chains.{chain-linked, linked-below}
 use Rattle.theory.proofs.RoundUp.{round-enough}
 use Rattle.frame.specs.Good.{spaceOf as sideSpace}
+use Rattle.kinds.specs.Numbers.{refusalNumber}
+use Rattle.kinds.specs.declared.Refusal.{Refusal}
+use Rattle.kinds.specs.declared.Refusal.the-variants.{Beyond}
+use Rattle.kinds.proofs.Refusals.{first-refused}
 use Rattle.volume.specs.Opened.{Readied}
 use Rattle.volume.specs.declared.Volume.{Volume as Opened}
-use Rattle.spaces.specs.Spaces.{kindFor, spaceOf, listedSpace}
+use Rattle.spaces.specs.Spaces.{kindFor, volumeIn, spaceAt, unitBytes, listedSpace}
 use Rattle.spaces.proofs.Listed.{unit-same, units-stand}
 use Rattle.writes.specs.Writable.{Writable}
 use Rattle.queries.specs.Inside.{Open}
 use Rattle.queries.specs.declared.find.Object.{Object}
-use Rattle.edits.specs.Streams.{volumeIn, StreamAt}
+use Rattle.queries.specs.Streams.{StreamAt}
 use Rattle.edits.specs.Images.{imageIn}
 use Rattle.edits.proofs.Streams.{kind-side, same-uncrossed, stream-chain}
 use Rattle.edits.proofs.Writables.{writable, put-listed}
-use Rattle.edits.proofs.Targets.{image-refused, image-done, first-refused}
+use Rattle.edits.proofs.Targets.{image-refused, image-done}
 
 -- a sum that is not above the size, without the sum
 pub beyond-sum : (size offset n : ℕ) → offset ≤ size → ltb (size - offset) n ≡ ltb size (offset + n)
@@ -53,12 +56,12 @@ module _ (g : Geometry) (v : Volume) (img : Bytes) (path : Path) (offset : ℕ) 
   abbrev call : Call
   call = overwrite path offset bytes []
 
-  answer-first : (n : ℕ) → targetAnswer v path ≡ n → n ≢ 0 → answerIn g v call ≡ n
+  answer-first : (a : Refusal) → targetAnswer v path ≡ refusalNumber a → answerIn g v call ≡ refusalNumber a
   unfolding answerIn
-  answer-first n e h = rw e (first-refused n _ h)
+  answer-first a e = rw e (first-refused a _)
 
-  pub over-refused : (n : ℕ) → targetAnswer v path ≡ n → n ≢ 0 → (n ≡ answerIn g v call) × (img ≡ imageIn g v img call)
-  over-refused n e h = let a = answer-first n e h in (sym a, image-refused g v img call n a h)
+  pub over-refused : (a : Refusal) → targetAnswer v path ≡ refusalNumber a → (refusalNumber a ≡ answerIn g v call) × (img ≡ imageIn g v img call)
+  over-refused a e = let h = answer-first a e in (sym h, image-refused g v img call a h)
 
   module _ (x size : ℕ) (e : (targetAnswer v path ≡ 0) × (target v path ≡ x)) (s : size ≡ streamSize v x) where
     abbrev later : ℕ
@@ -71,7 +74,7 @@ module _ (g : Geometry) (v : Volume) (img : Bytes) (path : Path) (offset : ℕ) 
     pub over-beyond : ltb size (offset + length bytes) ≡ true → (24 ≡ answerIn g v call) × (img ≡ imageIn g v img call)
     over-beyond h =
         let a : answerIn g v call ≡ 24 = answer-later ∙ ap (λ b. cond b 24 0) h in
-        (sym a, image-refused g v img call 24 a (omega arith))
+        (sym a, image-refused g v img call Beyond a)
 
     pub over-done : {new : Bytes} → ltb size (offset + length bytes) ≡ false → new ≡ overwritten v img x offset bytes → (0 ≡ answerIn g v call) × (new ≡ imageIn g v img call)
     unfolding edited
@@ -82,41 +85,41 @@ module _ (g : Geometry) (v : Volume) (img : Bytes) (path : Path) (offset : ℕ) 
 -- ---- the steps
 
 module _ {v : Opened} {img : Bytes} {w : List ℕ} (o : Open v img w) {e : Object} (s : StreamAt (volumeIn v img) e) (n : ℕ)
-    (many : n ≡ roundUp (e .size) (spaceOf (kindFor (e .size)) (volumeIn v img) .unit)) where
+    (many : n ≡ roundUp (e .size) (spaceAt v img (kindFor (e .size)) .unit)) where
   -- the units of the stream
-  own : let sp = spaceOf (kindFor (e .size)) (volumeIn v img) in
+  own : let sp = spaceAt v img (kindFor (e .size)) in
       (chain (sp .cell) (sp .limit) n (start (volumeIn v img .directory .entry (e .id .0))) ≡ true)
       × (units (sp .cell) n (start (volumeIn v img .directory .entry (e .id .0))) ≡ streamUnits (volumeIn v img) (e .id .0))
-  own = rw many (subst (λ m. let sp = spaceOf (kindFor m) (volumeIn v img) in
+  own = rw many (subst (λ m. let sp = spaceAt v img (kindFor m) in
       (chain (sp .cell) (sp .limit) (roundUp (e .size) (sp .unit)) (start (volumeIn v img .directory .entry (e .id .0))) ≡ true)
       × (units (sp .cell) (roundUp (e .size) (sp .unit)) (start (volumeIn v img .directory .entry (e .id .0))) ≡ streamUnits (volumeIn v img) (e .id .0)))
       (omega arith) (stream-chain o s (e .size) (same-uncrossed (e .size))))
 
-  pub over-chain : (f : ℕ) → f ≡ start (volumeIn v img .directory .entry (e .id .0)) → let sp = spaceOf (kindFor (e .size)) (volumeIn v img) in chain (sp .cell) (sp .limit) n f ≡ true
-  over-chain f h = rw h (own .0)
+  pub over-chain : let sp = spaceAt v img (kindFor (e .size)) in chain (sp .cell) (sp .limit) n (start (volumeIn v img .directory .entry (e .id .0))) ≡ true
+  over-chain = own .0
 
-  module _ {w₁ : List ℕ} (r : Readied v img w₁) (l : take n w₁ ≡ units (spaceOf (kindFor (e .size)) (volumeIn v img) .cell) n (start (volumeIn v img .directory .entry (e .id .0)))) (k : n ≤ length w₁) where
-    below : (u : ℕ) → 0 < count u (take n w₁) → u < spaceOf (kindFor (e .size)) (volumeIn v img) .limit
+  module _ {w₁ : List ℕ} (r : Readied v img w₁) (l : take n w₁ ≡ units (spaceAt v img (kindFor (e .size)) .cell) n (start (volumeIn v img .directory .entry (e .id .0)))) (k : n ≤ length w₁) where
+    below : (u : ℕ) → 0 < count u (take n w₁) → u < spaceAt v img (kindFor (e .size)) .limit
     below u q =
-        let sp = spaceOf (kindFor (e .size)) (volumeIn v img) in
+        let sp = spaceAt v img (kindFor (e .size)) in
         linked-below (sp .cell) (sp .limit) (units (sp .cell) n (start (volumeIn v img .directory .entry (e .id .0)))) (chain-linked (sp .cell) (sp .limit) n (start (volumeIn v img .directory .entry (e .id .0))) (own .0) .0) u (subst (λ us. 0 < count u us) l q)
 
     pub over-writable : Writable v w₁ (kindFor (e .size)) (length img) n
     over-writable = writable r (kindFor (e .size)) n k below
 
-    pub over-room : (offset m : ℕ) → offset + m ≤ e .size → offset + m ≤ n * listedSpace v w₁ (kindFor (e .size)) .unit
+    pub over-room : (offset m : ℕ) → offset + m ≤ e .size → offset + m ≤ n * unitBytes v (kindFor (e .size))
     over-room offset m h =
-        let sp = spaceOf (kindFor (e .size)) (volumeIn v img) in
-        rw (unit-same r (kindFor (e .size)) w₁, many) (omega (arith, h, round-enough (e .size) (sp .unit) (units-stand r (kindFor (e .size)) .some)))
+        let sp = spaceAt v img (kindFor (e .size)) in
+        rw (unit-same r (kindFor (e .size)), many) (omega (arith, h, round-enough (e .size) (sp .unit) (units-stand r (kindFor (e .size)) .some)))
 
     pub over-written : (offset : ℕ) (bytes : Bytes) → offset + length bytes ≤ e .size
         → putChain (listedSpace v w₁ (kindFor (e .size))) (take n w₁) img offset bytes ≡ overwritten (volumeIn v img) img (e .id .0) offset bytes
     unfolding overwritten spaceFor
     over-written offset bytes h =
-        let sp = spaceOf (kindFor (e .size)) (volumeIn v img) in
+        let sp = spaceAt v img (kindFor (e .size)) in
         let long : length (take n w₁) ≡ n = length-take-le n w₁ k in
-        put-listed r (kindFor (e .size)) (take n w₁) below offset bytes (rw (long, ← unit-same r (kindFor (e .size)) w₁) (over-room offset (length bytes) h))
+        put-listed r (kindFor (e .size)) (take n w₁) below offset bytes (rw (long, ← unit-same r (kindFor (e .size))) (over-room offset (length bytes) h))
         ∙ ap₂ (λ sp us. putChain sp us img offset bytes) space-is (l ∙ own .1)
       where
-        space-is : spaceOf (kindFor (e .size)) (volumeIn v img) ≡ spaceFor (volumeIn v img) (streamSize (volumeIn v img) (e .id .0))
+        space-is : spaceAt v img (kindFor (e .size)) ≡ spaceFor (volumeIn v img) (streamSize (volumeIn v img) (e .id .0))
         space-is = kind-side (volumeIn v img) (e .size) ∙ ap (λ z. sideSpace (volumeIn v img) (ltb z cutoff)) (s .sized)

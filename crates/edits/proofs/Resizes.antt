@@ -33,17 +33,19 @@ use Rattle.directory.specs.Listed.{placeOf}
 use Rattle.directory.proofs.Places.{placed, place-inside, place-is}
 use Rattle.volume.specs.Opened.{Readied}
 use Rattle.volume.specs.declared.Volume.{Volume as Opened}
-use Rattle.spaces.specs.Spaces.{kindFor, spaceOf, listedSpace}
+use Rattle.spaces.specs.Spaces.{kindFor, volumeIn, spaceAt, unitBytes, listedSpace}
 use Rattle.spaces.specs.declared.Kind.{Kind}
 use Rattle.spaces.proofs.Listed.{unit-same, units-stand}
 use Rattle.unitlists.proofs.Limits.{limit-work, limit-end}
-use Rattle.writes.specs.Writable.{Writable}
+use Rattle.writes.specs.Writable.{Writable, EntryRoom}
+use Rattle.writes.specs.Puts.{entryPut}
 use Rattle.queries.specs.Inside.{Open}
 use Rattle.queries.specs.declared.find.Object.{Object}
-use Rattle.edits.specs.Streams.{volumeIn, StreamAt}
-use Rattle.edits.specs.Rewritten.{tailFilled, entryPut, rewritten, EntryRoom}
+use Rattle.queries.specs.Streams.{StreamAt}
+use Rattle.queries.proofs.Streams.{entry-inside}
+use Rattle.edits.specs.Rewritten.{tailFilled, rewritten}
 use Rattle.edits.proofs.Needs.{too-few-is}
-use Rattle.edits.proofs.Streams.{kind-side, bytes-some, entry-inside, stream-chain}
+use Rattle.edits.proofs.Streams.{kind-side, bytes-some, stream-chain}
 use Rattle.edits.proofs.Writables.{writable, rewritten-listed}
 
 -- another length, by its units
@@ -53,8 +55,8 @@ unfolding resized tailZeroed entryWritten rewritten tailFilled entryPut
 resized-by vol img x new h = rw (ne-eqb new (streamSize vol x) h)
 
 module _ {v : Opened} {img : Bytes} {w : List ℕ} (o : Open v img w) {e : Object} (s : StreamAt (volumeIn v img) e) (new : ℕ) (c : crosses (e .size) new ≡ false)
-    (old need : ℕ) (many : old ≡ roundUp (e .size) (spaceOf (kindFor (max (e .size) new)) (volumeIn v img) .unit))
-    (wanted : need ≡ roundUp new (spaceOf (kindFor (max (e .size) new)) (volumeIn v img) .unit)) where
+    (old need : ℕ) (many : old ≡ roundUp (e .size) (spaceAt v img (kindFor (max (e .size) new)) .unit))
+    (wanted : need ≡ roundUp new (spaceAt v img (kindFor (max (e .size) new)) .unit)) where
   abbrev vol : Volume
   vol = volumeIn v img
 
@@ -62,7 +64,7 @@ module _ {v : Opened} {img : Bytes} {w : List ℕ} (o : Open v img w) {e : Objec
   k = kindFor (max (e .size) new)
 
   abbrev sp : Space
-  sp = spaceOf (kindFor (max (e .size) new)) (volumeIn v img)
+  sp = spaceAt v img (kindFor (max (e .size) new))
 
   space-is : sp ≡ editSpace vol (e .id .0) new
   unfolding editSpace spaceFor
@@ -88,25 +90,19 @@ module _ {v : Opened} {img : Bytes} {w : List ℕ} (o : Open v img w) {e : Objec
   own : (chain (sp .cell) (sp .limit) old (start (vol .directory .entry (e .id .0))) ≡ true) × (units (sp .cell) old (start (vol .directory .entry (e .id .0))) ≡ streamUnits vol (e .id .0))
   own = rw many (stream-chain o s new c)
 
-  pub resize-chain : (f : ℕ) → f ≡ start (vol .directory .entry (e .id .0)) → chain (sp .cell) (sp .limit) old f ≡ true
-  resize-chain f h = rw h (own .0)
+  pub resize-chain : chain (sp .cell) (sp .limit) old (start (vol .directory .entry (e .id .0))) ≡ true
+  resize-chain = own .0
 
   linked : Linked (sp .cell) (sp .limit) (units (sp .cell) old (start (vol .directory .entry (e .id .0))))
   linked = chain-linked (sp .cell) (sp .limit) old (start (vol .directory .entry (e .id .0))) (own .0) .0
 
   -- ---- what gathering left: the stream's units, and enough of them
 
-  module _ {w₁ : List ℕ} (r : Readied v img w₁) (f : ℕ) (first : f ≡ start (vol .directory .entry (e .id .0)))
-      (mine : take old w₁ ≡ units (sp .cell) old f) (all : take need w₁ ≡ take need (units (sp .cell) old f ++ freeUnits sp)) (enough : ltb (old + length (freeUnits sp)) need ≡ false) where
-    abbrev us : List ℕ
-    us = units (sp .cell) old (start (vol .directory .entry (e .id .0)))
+  abbrev us : List ℕ
+  us = units (sp .cell) old (start (vol .directory .entry (e .id .0)))
 
-    own-is : take old w₁ ≡ us
-    own-is = mine ∙ ap (units (sp .cell) old) first
-
-    all-is : take need w₁ ≡ take need (us ++ freeUnits sp)
-    all-is = all ∙ ap (λ z. take need (units (sp .cell) old z ++ freeUnits sp)) first
-
+  module _ {w₁ : List ℕ} (r : Readied v img w₁) (own-is : take old w₁ ≡ us) (all-is : take need w₁ ≡ take need (us ++ freeUnits sp))
+      (enough : ltb (old + length (freeUnits sp)) need ≡ false) where
     own-below : (u : ℕ) → 0 < count u (take old w₁) → u < sp .limit
     own-below u q = linked-below (sp .cell) (sp .limit) us linked u (subst (λ l. 0 < count u l) own-is q)
 
@@ -142,8 +138,8 @@ module _ {v : Opened} {img : Bytes} {w : List ℕ} (o : Open v img w) {e : Objec
     tail : e .size < new → e .size ≤ need * sp .unit
     tail h = omega (arith, h, round-enough new (sp .unit) (units-stand r k .some), ap (λ n. n * sp .unit) wanted)
 
-    pub resize-tail : e .size < new → e .size ≤ need * listedSpace v w₁ k .unit
-    resize-tail h = rw (unit-same r k w₁) (tail h)
+    pub resize-tail : e .size < new → e .size ≤ need * unitBytes v k
+    resize-tail h = rw (unit-same r k) (tail h)
 
     new-is : take need w₁ ≡ newUnits vol (e .id .0) new
     unfolding newUnits

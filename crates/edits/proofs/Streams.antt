@@ -1,13 +1,12 @@
 -- A stream of an opened volume: its units are a chain of the space that its length says, and of the space of a change of length.
-use Prim.Native.Nat.{ℕ, _+_, _≤_, _<_, max}
+use Prim.Native.Nat.{ℕ, _<_, max}
 use native.Mathlib.Decide.{decLt}
 use borrow.Author.Tests.{lt-leb, le-leb, le-ltb}
-use mathlib.Core.Path.{_≡_, refl, sym, _∙_, ap, subst}
+use mathlib.Core.Path.{_≡_, refl}
 use mathlib.Core.Bool.{Bool, true, false, _&&_, _||_}
 use mathlib.Core.List.{List}
 use native.Mathlib.Omega.{arith}
 use lib.Dec.{ltb, leb}
-use lib.ListN.{length}
 use Rattle.format.specs.Basics.Bytes.{Bytes}
 use Rattle.format.specs.Layout.Need.{cutoff, roundUp}
 use Rattle.format.specs.Layout.Chain.{chain, units}
@@ -20,20 +19,15 @@ use Rattle.frame.specs.Good.{Good, spaceOf as sideSpace}
 use Rattle.frame.proofs.Good.{groups-good}
 use Rattle.frame.proofs.LengthUnits.{old-units-linked, old-units-length}
 use Rattle.kinds.specs.Sizes.{geometryOf}
-use Rattle.directory.specs.Listed.{entriesOf, placeOf, Placed}
-use Rattle.directory.proofs.Places.{placed, place-inside}
-use Rattle.entries.specs.Entry.{entryAt}
-use Rattle.owners.proofs.StreamLaws.{entry-read}
 use Rattle.volume.specs.declared.Volume.{Volume as Opened}
-use Rattle.spaces.specs.Spaces.{kindFor, spaceOf}
+use Rattle.spaces.specs.Spaces.{kindFor, volumeIn, spaceIn}
 use Rattle.spaces.proofs.Lengths.{kind-space}
 use Rattle.queries.specs.Inside.{Open}
 use Rattle.queries.specs.declared.find.Object.{Object}
-use Rattle.queries.proofs.Finds.{same-entries, find-asks}
-use Rattle.edits.specs.Streams.{volumeIn, StreamAt}
+use Rattle.queries.specs.Streams.{StreamAt}
 
 -- the kind of a length and the side of the cutoff that it lies on
-pub kind-side : (vol : Volume) (n : ℕ) → spaceOf (kindFor n) vol ≡ sideSpace vol (ltb n cutoff)
+pub kind-side : (vol : Volume) (n : ℕ) → spaceIn vol (kindFor n) ≡ sideSpace vol (ltb n cutoff)
 unfolding spaceFor
 kind-side vol n = kind-space vol n
 
@@ -64,30 +58,16 @@ module _ {v : Opened} {img : Bytes} {w : List ℕ} (o : Open v img w) where
   pub good : Good vol
   good = groups-good bytes-some (o .groups)
 
-  module _ {e : Object} (s : StreamAt vol e) where
-    pub entry-inside : e .id .0 < entriesOf (v .directory) img .count
-    entry-inside = subst (λ d. e .id .0 < d .count) (sym (same-entries o)) (s .inside)
+  module _ {e : Object} (s : StreamAt vol e) (new : ℕ) (c : crosses (e .size) new ≡ false) where
+    within : crosses (streamSize vol (e .id .0)) new ≡ false
+    within = rw (← s .sized) c
 
-    -- where it starts
-    pub stream-start : (p f : ℕ) → p ≡ placeOf (v .directory) w (e .id .0) → f ≡ start (entryAt img p) → f ≡ start (vol .directory .entry (e .id .0))
-    stream-start p f h k = k ∙ ap start (entry-read (v .tables .geometry) (e .id .0) p (find-asks o .0) (o .ready .lists .mini .same) entry-inside h)
-
-    pub stream-placed : Placed (v .directory) w (e .id .0)
-    stream-placed = placed (find-asks o .0) (e .id .0) entry-inside
-
-    pub stream-room : (p : ℕ) → p ≡ placeOf (v .directory) w (e .id .0) → p + 128 ≤ length img
-    stream-room p h = omega (arith, h, place-inside (find-asks o .0) (e .id .0) entry-inside)
-
-    module _ (new : ℕ) (c : crosses (e .size) new ≡ false) where
-      within : crosses (streamSize vol (e .id .0)) new ≡ false
-      within = rw (← s .sized) c
-
-      -- its units, in the space of the change
-      pub stream-chain : let sp = spaceOf (kindFor (max (e .size) new)) vol in
-          (chain (sp .cell) (sp .limit) (roundUp (e .size) (sp .unit)) (start (vol .directory .entry (e .id .0))) ≡ true)
-          × (units (sp .cell) (roundUp (e .size) (sp .unit)) (start (vol .directory .entry (e .id .0))) ≡ streamUnits vol (e .id .0))
-      stream-chain =
-          let sp = sideSpace vol (ltb (max (streamSize vol (e .id .0)) new) cutoff) in
-          rw (kind-side vol (max (e .size) new), s .sized)
-          (linked-chain (sp .cell) (sp .limit) (roundUp (streamSize vol (e .id .0)) (sp .unit)) (start (vol .directory .entry (e .id .0))) (streamUnits vol (e .id .0))
-          (old-units-linked vol good (e .id .0) new (s .inside) (s .stream) within) (old-units-length vol good (e .id .0) new (s .inside) (s .stream) within) (good .chains (e .id .0) (s .inside) (s .stream) .head))
+    -- its units, in the space of the change
+    pub stream-chain : let sp = spaceIn vol (kindFor (max (e .size) new)) in
+        (chain (sp .cell) (sp .limit) (roundUp (e .size) (sp .unit)) (start (vol .directory .entry (e .id .0))) ≡ true)
+        × (units (sp .cell) (roundUp (e .size) (sp .unit)) (start (vol .directory .entry (e .id .0))) ≡ streamUnits vol (e .id .0))
+    stream-chain =
+        let sp = sideSpace vol (ltb (max (streamSize vol (e .id .0)) new) cutoff) in
+        rw (kind-side vol (max (e .size) new), s .sized)
+        (linked-chain (sp .cell) (sp .limit) (roundUp (streamSize vol (e .id .0)) (sp .unit)) (start (vol .directory .entry (e .id .0))) (streamUnits vol (e .id .0))
+        (old-units-linked vol good (e .id .0) new (s .inside) (s .stream) within) (old-units-length vol good (e .id .0) new (s .inside) (s .stream) within) (good .chains (e .id .0) (s .inside) (s .stream) .head))

@@ -1,4 +1,3 @@
 -- What edits are stated with, beside `format`.
-pub mod Streams
 pub mod Images
 pub mod Rewritten

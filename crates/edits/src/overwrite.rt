@@ -10,19 +10,20 @@ ghost use Rattle.format.specs.Calls.Answer.{answerIn};
 ghost use Rattle.kinds.specs.Sizes.{geometryOf};
 ghost use Rattle.kinds.specs.Numbers.{numberOf};
 ghost use Rattle.tables.specs.Work.{Wrote};
+ghost use Rattle.spaces.specs.Spaces.{volumeIn};
 ghost use Rattle.queries.specs.Inside.{Open};
-ghost use Rattle.edits.specs.Streams.{volumeIn, StreamAt};
+ghost use Rattle.queries.specs.Streams.{StreamAt};
 ghost use Rattle.edits.specs.Images.{imageIn};
 use chains::units_for;
 use directory::place;
-use entries::start;
 use kinds::Answer;
+use kinds::Refusal;
 use queries::find::Find;
 use queries::find::Object;
 use queries::find::find_in;
 use queries::find::refusal;
-use spaces::Unit;
 use spaces::kind_for;
+use spaces::start_unit;
 use spaces::unit_bytes;
 use unitlists::list_units;
 use volume::Volume;
@@ -55,17 +56,8 @@ fn put_in_stream(
 {
     let kind = kind_for(e.size);
     let n = units_for(e.size, unit_bytes(v, kind) as u64) as usize;
-    let first = start(img, place(work, v.directory, e.id));
-    list_units(
-        img,
-        work,
-        v,
-        Unit {
-            kind: kind,
-            number: first,
-        },
-        n,
-    );
+    let first = start_unit(img, place(work, v.directory, e.id), kind);
+    list_units(img, work, v, first, n);
     put_bytes(img, work, v, kind, n, offset, bytes);
 }
 
@@ -79,19 +71,23 @@ pub fn overwrite_in(
     bytes: &[u8],
 ) -> Answer
     requires { ⌜ Open v (now img) (now work) ⌝ }
-    ensures { λ r. ⌜ numberOf r ≡ answerIn (geometryOf (v .tables .geometry)) (volumeIn v (now (img .entry))) (overwriteCall (now (path .entry)) offset (now (bytes .entry)) []) ⌝ }
-    ensures { λ _. ⌜ now (img .exit) ≡ imageIn (geometryOf (v .tables .geometry)) (volumeIn v (now (img .entry))) (now (img .entry)) (overwriteCall (now (path .entry)) offset (now (bytes .entry)) []) ⌝ }
+    ensures { λ r. ⌜ numberOf r
+        ≡ answerIn (geometryOf (v .tables .geometry)) (volumeIn v (now (img .entry))) (overwriteCall (now (path .entry)) offset (now (bytes .entry)) []) ⌝ }
+    ensures { λ _. ⌜ now (img .exit)
+        ≡ imageIn (geometryOf (v .tables .geometry)) (volumeIn v (now (img .entry))) (now (img .entry))
+        (overwriteCall (now (path .entry)) offset (now (bytes .entry)) []) ⌝ }
     ensures { λ _. ⌜ Wrote (now (work .entry)) (now (work .exit)) 0 (v .stream) ⌝ }
 {
     let f = find_in(path, img, work, v);
     let Find::Entry(e) = f else {
-        return refusal(f);
+        return Answer::Refused(refusal(f));
     };
-    if e.kind != 2 {
-        return Answer::NotAStream;
+    let t = e.entry_type;
+    if !t.is_stream() {
+        return Answer::Refused(Refusal::NotAStream);
     }
     if ends_beyond(e.size, offset, bytes.len()) {
-        return Answer::Beyond;
+        return Answer::Refused(Refusal::Beyond);
     }
     put_in_stream(img, work, v, e, offset as usize, bytes);
     Answer::Done

@@ -6,7 +6,6 @@ ghost use mathlib.Core.List.{[], _++_};
 ghost use Prim.Native.Nat.{_+_, _*_, _-_, _≤_, _<_, max};
 ghost use lib.Dec.{ltb};
 ghost use lib.ListN.{length, take};
-ghost use Rattle.format.specs.Layout.Chain.{chain, units, startOf};
 ghost use Rattle.format.specs.Layout.Space.{freeUnits};
 ghost use Rattle.format.specs.Calls.Call.{setLength as lengthCall};
 ghost use Rattle.format.specs.Calls.SetLength.{crosses, resized};
@@ -17,32 +16,36 @@ ghost use Rattle.kinds.specs.Numbers.{numberOf};
 ghost use Rattle.tables.specs.Work.{Wrote};
 ghost use Rattle.directory.specs.Listed.{placeOf};
 ghost use Rattle.volume.specs.Opened.{Readied};
-ghost use Rattle.spaces.specs.Spaces.{spaceOf, listedSpace};
-ghost use Rattle.writes.specs.Writable.{Writable};
+ghost use Rattle.spaces.specs.Spaces.{volumeIn, spaceAt, unitBytes, listedSpace};
+ghost use Rattle.spaces.specs.Units.{kindOf, chainFrom, unitsFrom};
+ghost use Rattle.writes.specs.Writable.{Writable, EntryRoom};
 ghost use Rattle.queries.specs.Inside.{Open};
-ghost use Rattle.edits.specs.Streams.{volumeIn, StreamAt};
+ghost use Rattle.queries.specs.Streams.{StreamAt};
 ghost use Rattle.edits.specs.Images.{imageIn};
-ghost use Rattle.edits.specs.Rewritten.{tailFilled, rewritten, EntryRoom};
+ghost use Rattle.edits.specs.Rewritten.{tailFilled, rewritten};
 use chains::units_for;
 use directory::place;
-use entries::start;
 use kinds::Answer;
+use kinds::Refusal;
+use le::greatest;
+use le::least;
 use queries::find::Find;
 use queries::find::Object;
 use queries::find::find_in;
 use queries::find::refusal;
-use queries::read::least;
 use spaces::Kind;
 use spaces::Unit;
 use spaces::kind_for;
+use spaces::start_unit;
 use spaces::unit_bytes;
 use spaces::unit_count;
 use unitlists::list_free;
 use unitlists::list_units;
 use volume::Volume;
-use writes::link;
+use writes::Cells;
+use writes::chain_start;
+use writes::put_cells;
 use writes::put_entry;
-use writes::release;
 use writes::zero_from;
 
 // ---- lengths
@@ -54,28 +57,19 @@ fn crossing(old: u64, new: u64) -> bool
     ((1 <= old) & (old < 4096) & (4096 <= new)) | ((4096 <= old) & ((1 <= new) & (new < 4096)))
 }
 
-// The greater of two lengths.
-fn greatest(a: u64, b: u64) -> u64
-    ensures { λ r. ⌜ r ≡ max a b ⌝ }
-{
-    if a < b {
-        return b;
-    }
-    a
-}
-
 // ---- units
 
 // Lists a chain's units, and behind them free ones where more are needed. Says whether there are as many as needed.
 fn gather(img: &[u8], work: &mut [u32], v: Volume, start: Unit, old: usize, need: u64) -> bool
     requires { ⌜ Readied v (now img) (now work) ⌝ }
-    requires { ⌜ chain (spaceOf (start .kind) (volumeIn v (now img)) .cell) (spaceOf (start .kind) (volumeIn v (now img)) .limit) old (start .number) ≡ true ⌝ }
-    ensures { λ r. ⌜ r ≡ not (ltb (old + length (freeUnits (spaceOf (start .kind) (volumeIn v (now (img .entry)))))) need) ⌝ }
-    ensures { λ _. ⌜ take old (now (work .exit)) ≡ units (spaceOf (start .kind) (volumeIn v (now (img .entry))) .cell) old (start .number) ⌝ }
-    ensures { λ r. ⌜ (r ≡ true → take need (now (work .exit)) ≡ take need (units (spaceOf (start .kind) (volumeIn v (now (img .entry))) .cell) old (start .number) ++ freeUnits (spaceOf (start .kind) (volumeIn v (now (img .entry)))))) ⌝ }
+    requires { ⌜ chainFrom v (now img) start old ≡ true ⌝ }
+    ensures { λ r. ⌜ r ≡ not (ltb (old + length (freeUnits (spaceAt v (now (img .entry)) (kindOf start)))) need) ⌝ }
+    ensures { λ _. ⌜ take old (now (work .exit)) ≡ unitsFrom v (now (img .entry)) start old ⌝ }
+    ensures { λ r. ⌜ (r ≡ true → take need (now (work .exit))
+        ≡ take need (unitsFrom v (now (img .entry)) start old ++ freeUnits (spaceAt v (now (img .entry)) (kindOf start)))) ⌝ }
     ensures { λ _. ⌜ Wrote (now (work .entry)) (now (work .exit)) 0 (v .stream) ⌝ }
 {
-    let kind = start.kind;
+    let kind = start.kind();
     list_units(img, work, v, start, old);
     if (unit_count(v, kind) as u64) < need {
         return false;
@@ -87,26 +81,12 @@ fn gather(img: &[u8], work: &mut [u32], v: Volume, start: Unit, old: usize, need
     list_free(img, work, v, kind, old, n) == n
 }
 
-// The start of a chain of the first n listed units.
-fn first_unit(work: &[u32], kind: Kind, n: usize) -> Unit
-    requires { ⌜ n ≤ length (now work) ⌝ }
-    ensures { λ r. ⌜ r .number ≡ startOf (take n (now (work .entry))) ⌝ }
-{
-    if n == 0 {
-        return Unit::end(kind);
-    }
-    Unit {
-        kind: kind,
-        number: work[0],
-    }
-}
-
 // ---- writing
 
 // Wipes what stands behind the old length, where the new one is greater.
 fn fill_tail(img: &mut [u8], work: &[u32], v: Volume, kind: Kind, n: usize, size: u64, new: u64)
     requires { ⌜ Writable v (now work) kind (length (now img)) n ⌝ }
-    requires { ⌜ (size < new → size ≤ n * listedSpace v (now work) kind .unit) ⌝ }
+    requires { ⌜ (size < new → size ≤ n * unitBytes v kind) ⌝ }
     ensures { λ _. ⌜ now (img .exit) ≡ tailFilled (listedSpace v (now (work .entry)) kind) (take n (now (work .entry))) size new (now (img .entry)) ⌝ }
 {
     if size < new {
@@ -115,7 +95,7 @@ fn fill_tail(img: &mut [u8], work: &[u32], v: Volume, kind: Kind, n: usize, size
 }
 
 // One less, but not below 0.
-fn before(n: usize) -> usize
+fn less_one(n: usize) -> usize
     ensures { λ r. ⌜ r ≡ n - 1 ⌝ }
 {
     if n == 0 {
@@ -137,14 +117,17 @@ fn rewrite(
 )
     requires { ⌜ Writable v (now work) kind (length (now img)) (max old n) ⌝ }
     requires { ⌜ EntryRoom (v .directory) (now work) (e .id .0) (length (now img)) ⌝ }
-    requires { ⌜ (e .size < new → e .size ≤ n * listedSpace v (now work) kind .unit) ⌝ }
-    ensures { λ _. ⌜ now (img .exit) ≡ rewritten (listedSpace v (now (work .entry)) kind) (placeOf (v .directory) (now (work .entry)) (e .id .0)) (take old (now (work .entry))) (take n (now (work .entry))) (e .size) new (now (img .entry)) ⌝ }
+    requires { ⌜ (e .size < new → e .size ≤ n * unitBytes v kind) ⌝ }
+    ensures { λ _. ⌜ now (img .exit)
+        ≡ rewritten (listedSpace v (now (work .entry)) kind) (placeOf (v .directory) (now (work .entry)) (e .id .0))
+        (take old (now (work .entry))) (take n (now (work .entry))) (e .size) new (now (img .entry)) ⌝ }
 {
     let kept = least(old, n);
-    release(img, work, v, kind, kept, old);
-    link(img, work, v, kind, before(kept), n);
+    put_cells(img, work, v, kind, Cells::Freed, kept, old);
+    put_cells(img, work, v, kind, Cells::Linked, less_one(kept), n);
     fill_tail(img, work, v, kind, n, e.size, new);
-    put_entry(img, work, v.directory, e.id, first_unit(work, kind, n), new);
+    let first = chain_start(work, kind, 0, n);
+    put_entry(img, work, v.directory, e.id, first, new);
 }
 
 // ---- the change
@@ -163,43 +146,42 @@ fn change_length(img: &mut [u8], work: &mut [u32], v: Volume, e: Object, new: u6
     let bytes = unit_bytes(v, kind) as u64;
     let old = units_for(e.size, bytes) as usize;
     let need = units_for(new, bytes);
-    let first = start(img, place(work, v.directory, e.id));
-    if !gather(
-        img,
-        work,
-        v,
-        Unit {
-            kind: kind,
-            number: first,
-        },
-        old,
-        need,
-    ) {
-        return Answer::TooFewFree;
+    let first = start_unit(img, place(work, v.directory, e.id), kind);
+    if !gather(img, work, v, first, old, need) {
+        return Answer::Refused(Refusal::TooFewFree);
     }
     rewrite(img, work, v, kind, e, old, need as usize, new);
     Answer::Done
 }
 
 // Gives the stream that a path leads to another length.
-pub fn set_length_in(path: &[u16], img: &mut [u8], work: &mut [u32], v: Volume, new: u64) -> Answer
+pub fn set_length_in(
+    path: &[u16],
+    img: &mut [u8],
+    work: &mut [u32],
+    v: Volume,
+    new_len: u64,
+) -> Answer
     requires { ⌜ Open v (now img) (now work) ⌝ }
-    ensures { λ r. ⌜ numberOf r ≡ answerIn (geometryOf (v .tables .geometry)) (volumeIn v (now (img .entry))) (lengthCall (now (path .entry)) new []) ⌝ }
-    ensures { λ _. ⌜ now (img .exit) ≡ imageIn (geometryOf (v .tables .geometry)) (volumeIn v (now (img .entry))) (now (img .entry)) (lengthCall (now (path .entry)) new []) ⌝ }
+    ensures { λ r. ⌜ numberOf r
+        ≡ answerIn (geometryOf (v .tables .geometry)) (volumeIn v (now (img .entry))) (lengthCall (now (path .entry)) «new_len» []) ⌝ }
+    ensures { λ _. ⌜ now (img .exit)
+        ≡ imageIn (geometryOf (v .tables .geometry)) (volumeIn v (now (img .entry))) (now (img .entry)) (lengthCall (now (path .entry)) «new_len» []) ⌝ }
     ensures { λ _. ⌜ Wrote (now (work .entry)) (now (work .exit)) 0 (v .stream) ⌝ }
 {
     let f = find_in(path, img, work, v);
     let Find::Entry(e) = f else {
-        return refusal(f);
+        return Answer::Refused(refusal(f));
     };
-    if e.kind != 2 {
-        return Answer::NotAStream;
+    let t = e.entry_type;
+    if !t.is_stream() {
+        return Answer::Refused(Refusal::NotAStream);
     }
-    if e.size == new {
+    if e.size == new_len {
         return Answer::Done;
     }
-    if crossing(e.size, new) {
-        return Answer::Crosses;
+    if crossing(e.size, new_len) {
+        return Answer::Refused(Refusal::Crosses);
     }
-    change_length(img, work, v, e, new)
+    change_length(img, work, v, e, new_len)
 }

@@ -1,13 +1,10 @@
--- The fields of an entry are the image's bytes at its place, and group 14 of entry 0 and of the others.
-use Prim.Native.Nat.{ℕ, zero, suc, _+_, _≤_}
-use mathlib.Core.Path.{_≡_, refl, ap, _∙_}
-use mathlib.Core.Bool.{_&&_, _||_}
+-- The fields of an entry are the image's bytes at its place.
+use Prim.Native.Nat.{ℕ, _+_, _≤_}
+use mathlib.Core.Path.{_≡_, ap, _∙_}
 use native.Mathlib.Omega.{arith}
 use lib.ListN.{getD, take, drop}
 use lib.Seq.{drop-drop, getD-take, getD-drop}
 use Rattle.format.specs.Basics.Bytes.{Bytes, byteAt, part, number, u16at, u32at, u64at, allZero}
-use Rattle.format.specs.Layout.Entry.{isRoot, isBlank, isStorage, isStream}
-use Rattle.format.specs.Rules.Entries.{entryFields, rootFields, commonFields, blankFields, storageFields, streamFields}
 use Rattle.theory.proofs.Sets.{sub-take}
 use Rattle.entries.specs.Entry.{entryAt}
 
@@ -34,15 +31,3 @@ module _ (img : Bytes) (p o : ℕ) where
 
   pub zeros-in : (n : ℕ) → o + n ≤ 128 → allZero (part (entryAt img p) o n) ≡ allZero (part img (p + o) n)
   zeros-in n h = ap allZero (part-part img p 128 o n h)
-
--- ---- entry 0, and the others
-
-pub fields-first : (i : ℕ) (e : Bytes) → i ≡ 0 → entryFields i e ≡ (isRoot e && rootFields e && commonFields e)
-unfolding entryFields
-fields-first zero e h = refl
-fields-first (suc i) e h = absurd (omega arith)
-
-pub fields-other : (i : ℕ) (e : Bytes) → (i ≡ 0 → ⊥) → entryFields i e ≡ (((isBlank e && blankFields e) || (isStorage e && storageFields e) || (isStream e && streamFields e)) && commonFields e)
-unfolding entryFields
-fields-other zero e h = absurd (h refl)
-fields-other (suc i) e h = refl

@@ -1,25 +1,13 @@
--- The name of an entry unit by unit, the rule of its fields, and what group 14 says of its length.
-use Prim.Native.Nat.{ℕ, _-_, _*_, _/_, _%_, _≤_, _<_}
+-- The name of an entry unit by unit.
+use Prim.Native.Nat.{ℕ, _-_, _*_, _/_, _<_}
 use mathlib.Core.Path.{_≡_, ap, sym, _∙_}
-use mathlib.Core.Bool.{true, false, _&&_, and-true, and-false}
 use native.Mathlib.Omega.{arith}
-use native.Mathlib.Decide.{decLt}
-use borrow.Author.Tests.{lt-leb, le-leb, ne-eqb}
-use lib.Dec.{eqb}
 use lib.ListN.{length, getD}
-use Rattle.format.specs.Basics.Lists.{allBelow}
-use Rattle.format.specs.Basics.Bytes.{Bytes, part, number, u16at}
-use Rattle.format.specs.Layout.Name.{fold, legalUnit, legalName}
+use Rattle.format.specs.Basics.Bytes.{Bytes}
+use Rattle.format.specs.Layout.Name.{fold}
 use Rattle.format.specs.Layout.Entry.{nameBytes, nameUnit, name}
-use Rattle.format.specs.Rules.Entries.{nameFields, entryFields, blankFields, storageFields, streamFields}
-use Rattle.theory.proofs.Tests.{clash}
 use Rattle.theory.proofs.Below.{length-below, getD-below}
-use Rattle.theory.proofs.Loops.{all-below}
-use Rattle.theory.proofs.ByteTests.{zero-number, zero-split}
-use Rattle.entries.specs.Entry.{entryAt, Field, Named, NamedAt, unitLegal}
-use Rattle.entries.proofs.EntryLaws.{fields-other}
-
--- ---- the name
+use Rattle.entries.specs.Entry.{entryAt, Field, NamedAt}
 
 module _ (e : Bytes) where
   pub name-length : length (name e) ≡ nameBytes e / 2 - 1
@@ -34,50 +22,6 @@ module _ (e : Bytes) where
   pub unit-folded : (i u x : ℕ) → i < length (name e) → u ≡ nameUnit e i → x ≡ fold u → x ≡ fold (getD (name e) i 0)
   unit-folded i u x h p q = q ∙ ap fold (p ∙ sym (name-unit i (omega (arith, name-length))))
 
-  legal-is : 4 ≤ nameBytes e → nameBytes e ≤ 64 → legalName (name e) ≡ allBelow (nameBytes e / 2 - 1) (unitLegal e)
-  unfolding legalName name
-  legal-is l h =
-      rw (length-below (nameBytes e / 2 - 1) (nameUnit e), le-leb 1 (nameBytes e / 2 - 1) (omega arith), le-leb (nameBytes e / 2 - 1) 31 (omega arith))
-      (all-below legalUnit (nameBytes e / 2 - 1) (nameUnit e))
-
-  -- ---- the rule of its fields
-
-  pub name-short : nameBytes e < 4 → false ≡ nameFields e
-  unfolding nameFields
-  name-short h = sym (rw (lt-leb 4 (nameBytes e) h, and-false))
-
-  pub name-long : 64 < nameBytes e → false ≡ nameFields e
-  unfolding nameFields
-  name-long h = sym (rw (lt-leb (nameBytes e) 64 h, and-false))
-
-  pub name-right : 4 ≤ nameBytes e → nameBytes e ≤ 64
-      → (eqb (nameBytes e % 2) 0 && eqb (u16at e (nameBytes e - 2)) 0 && allBelow (nameBytes e / 2 - 1) (unitLegal e)) ≡ nameFields e
-  unfolding nameFields
-  name-right l h = rw (legal-is l h, le-leb 4 (nameBytes e) l, le-leb (nameBytes e) 64 h) (simp and-true)
-
 -- a unit of a name that lies in its place
 pub unit-inside : {img : Bytes} {p : ℕ} → NamedAt img p → (i : ℕ) → i < length (name (entryAt img p)) → Field img p (2 * i) 2
 unit-inside {img} {p} n i h = record { whole = n .whole; inside = omega (arith, n .named .most, name-length (entryAt img p)) }
-
--- ---- by group 14 the name of every entry but the root lies in its place
-
-module _ (e : Bytes) (h : 64 < nameBytes e) where
-  long-blank : blankFields e ≡ false
-  unfolding blankFields nameBytes u16at
-  long-blank =
-      rw (zero-split e 0 64 4, zero-split e 64 2 2, zero-number (part e 64 2), ne-eqb (number (part e 64 2)) 0 (λ z. omega arith), and-false)
-
-  long-storage : storageFields e ≡ false
-  unfolding storageFields
-  long-storage = rw (← name-long e h)
-
-  long-stream : streamFields e ≡ false
-  unfolding streamFields
-  long-stream = rw (← name-long e h)
-
-pub name-fits : (i : ℕ) (e : Bytes) → (i ≡ 0 → ⊥) → entryFields i e ≡ true → Named e
-name-fits i e n t =
-    elim (decLt 64 (nameBytes e)) [
-      | yes h ↦ absurd (clash t (fields-other i e n ∙ simp (long-blank e h, long-storage e h, long-stream e h, and-false)))
-      | no h ↦ record { most = omega arith }
-    ]

@@ -42,5 +42,5 @@ module _ (a b : Name) where
         | inr (inr t) ↦ subst Told (is-more t) (less-is b a ∙ t, less-is a b ∙ false-of (lessBy fold a b) (λ s. by-once fold a b s t))
       ]
 
-  pub told : (o : Order) → o ≡ ordering a b → Told o
-  told o e = subst Told (sym e) told-right
+  pub told : {r o : Order} → r ≡ ordering a b → r ≡ o → Told o
+  told e h = subst Told (sym e ∙ h) told-right

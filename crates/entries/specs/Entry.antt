@@ -1,13 +1,15 @@
 -- An entry of 128 bytes that stands at a byte place of an image.
 use Prim.Native.Nat.{ℕ, _+_, _≤_}
-use mathlib.Core.Bool.{Bool}
 use lib.ListN.{length}
 use Rattle.format.specs.Basics.Bytes.{Bytes, part}
-use Rattle.format.specs.Layout.Name.{legalUnit}
-use Rattle.format.specs.Layout.Entry.{nameBytes, nameUnit}
+use Rattle.format.specs.Layout.Name.{Name}
+use Rattle.format.specs.Layout.Entry.{nameBytes, name}
 
 abbrev pub entryAt : Bytes → ℕ → Bytes
 entryAt img p = part img p 128
+
+abbrev pub nameAt : Bytes → ℕ → Name
+nameAt img p = name (entryAt img p)
 
 -- n bytes at offset o of the entry at p
 pub record Field (img : Bytes) (p o n : ℕ) : Type 0 where
@@ -22,7 +24,3 @@ pub record Named (e : Bytes) : Type 0 where
 pub record NamedAt (img : Bytes) (p : ℕ) : Type 0 where
   pub whole : p + 128 ≤ length img
   pub named : Named (entryAt img p)
-
--- the test of one unit of the name
-abbrev pub unitLegal : Bytes → ℕ → Bool
-unitLegal e i = legalUnit (nameUnit e i)

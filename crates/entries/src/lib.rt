@@ -3,16 +3,19 @@ ghost use mathlib.Core.Path.{_≡_};
 ghost use Prim.Native.Nat.{_+_, _≤_};
 ghost use lib.ListN.{length};
 ghost use Rattle.format.specs.Basics.Bytes.{byteAt, u16at, u32at, part, allZero};
-ghost use Rattle.format.specs.Layout.Entry.{nameBytes, kind as kindOf, colour as colourOf, left as leftOf, right as rightOf, child as childOf, start as startOf, size as sizeOf};
+ghost use Rattle.format.specs.Layout.Entry.{nameBytes, kind as kindOf, colour as colourOf, start as startOf, size as sizeOf};
+ghost use Rattle.format.specs.Layout.Entry.{left as leftOf, right as rightOf, child as childOf};
 ghost use Rattle.entries.specs.Entry.{entryAt, Field};
 use kinds::EntryId;
+use kinds::EntryType;
+use kinds::MiniSector;
+use kinds::Sector;
 use le::all_zero;
 use le::u16_at;
 use le::u32_at;
 use le::u64_at;
 
 pub mod names;
-pub mod rules;
 
 // ---- bytes at offset o
 
@@ -23,21 +26,21 @@ fn byte(img: &[u8], p: usize, o: usize) -> u8
     img[p + o]
 }
 
-fn half(img: &[u8], p: usize, o: usize) -> u16
+pub fn half(img: &[u8], p: usize, o: usize) -> u16
     requires { ⌜ Field (now img) p o 2 ⌝ }
     ensures { λ r. ⌜ r ≡ u16at (entryAt (now (img .entry)) p) o ⌝ }
 {
     u16_at(img, p + o)
 }
 
-fn word(img: &[u8], p: usize, o: usize) -> u32
+pub fn word(img: &[u8], p: usize, o: usize) -> u32
     requires { ⌜ Field (now img) p o 4 ⌝ }
     ensures { λ r. ⌜ r ≡ u32at (entryAt (now (img .entry)) p) o ⌝ }
 {
     u32_at(img, p + o)
 }
 
-fn zeros(img: &[u8], p: usize, o: usize, n: usize) -> bool
+pub fn zeros(img: &[u8], p: usize, o: usize, n: usize) -> bool
     requires { ⌜ Field (now img) p o n ⌝ }
     ensures { λ r. ⌜ r ≡ allZero (part (entryAt (now (img .entry)) p) o n) ⌝ }
 {
@@ -46,11 +49,11 @@ fn zeros(img: &[u8], p: usize, o: usize, n: usize) -> bool
 
 // ---- fields
 
-pub fn kind(img: &[u8], p: usize) -> u8
+pub fn entry_type(img: &[u8], p: usize) -> EntryType
     requires { ⌜ p + 128 ≤ length (now img) ⌝ }
-    ensures { λ r. ⌜ r ≡ kindOf (entryAt (now (img .entry)) p) ⌝ }
+    ensures { λ r. ⌜ r .0 ≡ kindOf (entryAt (now (img .entry)) p) ⌝ }
 {
-    byte(img, p, 66)
+    EntryType(byte(img, p, 66))
 }
 
 pub fn colour(img: &[u8], p: usize) -> u8
@@ -81,12 +84,19 @@ pub fn child(img: &[u8], p: usize) -> EntryId
     EntryId(word(img, p, 76))
 }
 
-// A sector or a mini sector: the size says which.
-pub fn start(img: &[u8], p: usize) -> u32
+// The start of a stream that lies in sectors, and of one that lies in mini sectors: the size says which.
+pub fn start_sector(img: &[u8], p: usize) -> Sector
     requires { ⌜ p + 128 ≤ length (now img) ⌝ }
-    ensures { λ r. ⌜ r ≡ startOf (entryAt (now (img .entry)) p) ⌝ }
+    ensures { λ r. ⌜ r .0 ≡ startOf (entryAt (now (img .entry)) p) ⌝ }
 {
-    word(img, p, 116)
+    Sector(word(img, p, 116))
+}
+
+pub fn start_mini(img: &[u8], p: usize) -> MiniSector
+    requires { ⌜ p + 128 ≤ length (now img) ⌝ }
+    ensures { λ r. ⌜ r .0 ≡ startOf (entryAt (now (img .entry)) p) ⌝ }
+{
+    MiniSector(word(img, p, 116))
 }
 
 pub fn size(img: &[u8], p: usize) -> u64

@@ -1,21 +1,21 @@
-// The names of entries: their units, and their order.
+// The names of entries: their 16-bit units, and their order.
 ghost use mathlib.Core.Path.{_≡_};
 ghost use Prim.Native.Nat.{_+_, _*_, _≤_};
 ghost use lib.ListN.{length};
 ghost use Rattle.format.specs.Layout.Name.{fold as folded, legalUnit};
-ghost use Rattle.format.specs.Layout.Entry.{nameUnit, name};
+ghost use Rattle.format.specs.Layout.Entry.{nameUnit};
 ghost use Rattle.kinds.specs.Ordering.{ordering};
-ghost use Rattle.entries.specs.Entry.{entryAt, Field, NamedAt};
+ghost use Rattle.entries.specs.Entry.{entryAt, nameAt, Field, NamedAt};
 use super::half;
 use super::name_bytes;
 use kinds::Order;
 
 // ---- units
 
-// How many units the name has, without the zero unit that ends it.
-pub fn units(img: &[u8], p: usize) -> usize
+// How many 16-bit units the name has, without the zero unit that ends it.
+pub fn name_units(img: &[u8], p: usize) -> usize
     requires { ⌜ p + 128 ≤ length (now img) ⌝ }
-    ensures { λ r. ⌜ r ≡ length (name (entryAt (now (img .entry)) p)) ⌝ }
+    ensures { λ r. ⌜ r ≡ length (nameAt (now (img .entry)) p) ⌝ }
 {
     let n = name_bytes(img, p);
     if n < 2 {
@@ -24,7 +24,7 @@ pub fn units(img: &[u8], p: usize) -> usize
     n / 2 - 1
 }
 
-pub fn unit(img: &[u8], p: usize, i: usize) -> u16
+pub fn name_unit(img: &[u8], p: usize, i: usize) -> u16
     requires { ⌜ Field (now img) p (2 * i) 2 ⌝ }
     ensures { λ r. ⌜ r ≡ nameUnit (entryAt (now (img .entry)) p) i ⌝ }
 {
@@ -56,10 +56,10 @@ pub fn legal_unit(u: u16) -> bool
 pub fn compare(img: &[u8], p: usize, q: usize) -> Order
     requires { ⌜ NamedAt (now img) p ⌝ }
     requires { ⌜ NamedAt (now img) q ⌝ }
-    ensures { λ r. ⌜ r ≡ ordering (name (entryAt (now (img .entry)) p)) (name (entryAt (now (img .entry)) q)) ⌝ }
+    ensures { λ r. ⌜ r ≡ ordering (nameAt (now (img .entry)) p) (nameAt (now (img .entry)) q) ⌝ }
 {
-    let n = units(img, p);
-    let m = units(img, q);
+    let n = name_units(img, p);
+    let m = name_units(img, q);
     if n < m {
         return Order::Less;
     }
@@ -68,8 +68,8 @@ pub fn compare(img: &[u8], p: usize, q: usize) -> Order
     }
     let mut i: usize = 0;
     while i < n {
-        let x = fold(unit(img, p, i));
-        let y = fold(unit(img, q, i));
+        let x = fold(name_unit(img, p, i));
+        let y = fold(name_unit(img, q, i));
         if x < y {
             return Order::Less;
         }
@@ -84,10 +84,10 @@ pub fn compare(img: &[u8], p: usize, q: usize) -> Order
 // A name by itself to that of the entry at q.
 pub fn compare_name(want: &[u16], img: &[u8], q: usize) -> Order
     requires { ⌜ NamedAt (now img) q ⌝ }
-    ensures { λ r. ⌜ r ≡ ordering (now (want .entry)) (name (entryAt (now (img .entry)) q)) ⌝ }
+    ensures { λ r. ⌜ r ≡ ordering (now (want .entry)) (nameAt (now (img .entry)) q) ⌝ }
 {
     let n = want.len();
-    let k = units(img, q);
+    let k = name_units(img, q);
     if n < k {
         return Order::Less;
     }
@@ -97,7 +97,7 @@ pub fn compare_name(want: &[u16], img: &[u8], q: usize) -> Order
     let mut i: usize = 0;
     while i < n {
         let x = fold(want[i]);
-        let y = fold(unit(img, q, i));
+        let y = fold(name_unit(img, q, i));
         if x < y {
             return Order::Less;
         }

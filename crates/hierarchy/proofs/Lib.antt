@@ -1,4 +1,3 @@
 -- Laws for the functions on the trees of the directory.
-pub mod Entries
-pub mod Walks
+pub mod Standing
 pub mod Verdicts

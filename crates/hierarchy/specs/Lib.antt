@@ -1,2 +1,2 @@
--- What the functions on the trees of the directory require.
-pub mod Lent
+-- The tests of one entry's place in its tree.
+pub mod Places

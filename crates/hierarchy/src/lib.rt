@@ -3,23 +3,23 @@ ghost use mathlib.Core.Path.{_≡_};
 ghost use lib.ListN.{take};
 ghost use Rattle.format.specs.Rules.Trees.{treeRules};
 ghost use Rattle.directory.specs.Listed.{entriesOf, Ruled};
-ghost use Rattle.hierarchy.specs.Lent.{Lent};
+ghost use Rattle.tree_walk.specs.Lent.{Lent};
 use directory::Directory;
 use directory::child_of;
 use kinds::EntryId;
 use places::black;
 use places::places;
-use walk::covered;
-use walk::follow;
+use tree_walk::covered;
+use tree_walk::follow;
 
 mod places;
-mod walk;
 
 // Whether the trees are sound, reach each object once, are sorted and rightly coloured. Writes marks and a stack from `base` on.
 pub fn tree_rules(img: &[u8], work: &mut [u32], d: Directory, base: usize) -> bool
     requires { ⌜ Lent d (now img) (now work) base ⌝ }
     requires { ⌜ Ruled (entriesOf d (now img)) ⌝ }
-    ensures { λ r. ⌜ (r ≡ treeRules (entriesOf d (now (img .entry)))) × (take base (now (work .exit)) ≡ take base (now (work .entry))) ⌝ }
+    ensures answer { λ r. ⌜ r ≡ treeRules (entriesOf d (now (img .entry))) ⌝ }
+    ensures kept { λ _. ⌜ take base (now (work .exit)) ≡ take base (now (work .entry)) ⌝ }
 {
     if !follow(img, work, d, base) {
         return false;

@@ -1,10 +1,11 @@
 // The place of each entry in its tree: its order to both sides, and its colour.
 ghost use mathlib.Core.Path.{_≡_};
 ghost use mathlib.Core.Bool.{true};
-ghost use Rattle.format.specs.Rules.Trees.{topBlack, coloured};
-ghost use Rattle.theory.specs.TreeViews.{at, leftOf, rightOf, soundAt, shapeOk, testAt, Standing};
-ghost use Rattle.theory.specs.TreeOrder.{lastLess, firstMore, placeOk, placesOk, LastIs, FirstIs};
-ghost use Rattle.directory.specs.Listed.{entriesOf, Listed, Ruled};
+ghost use Rattle.format.specs.Rules.Trees.{topBlack};
+ghost use Rattle.theory.specs.TreeViews.{at, soundAt, shapeOk, Standing};
+ghost use Rattle.theory.specs.TreeOrder.{placeOk, placesOk, LastIs, FirstIs};
+ghost use Rattle.directory.specs.Listed.{entriesOf, DirectoryListed, Ruled};
+ghost use Rattle.hierarchy.specs.Places.{leftOrdered, rightOrdered, colouredAt};
 use directory::Directory;
 use directory::child_of;
 use directory::colour_of;
@@ -18,7 +19,7 @@ use kinds::EntryId;
 
 // The last of the tree at x: the end of its right spine.
 fn last(img: &[u8], work: &[u32], d: Directory, x: EntryId) -> EntryId
-    requires { ⌜ Listed d (now img) (now work) ⌝ }
+    requires { ⌜ DirectoryListed d (now img) (now work) ⌝ }
     requires { ⌜ Standing (entriesOf d (now img)) (x .0) ⌝ }
     ensures { λ r. ⌜ LastIs (entriesOf d (now (img .entry))) (x .0) (r .0) ⌝ }
 {
@@ -34,7 +35,7 @@ fn last(img: &[u8], work: &[u32], d: Directory, x: EntryId) -> EntryId
 
 // The first of the tree at x: the end of its left spine.
 fn first(img: &[u8], work: &[u32], d: Directory, x: EntryId) -> EntryId
-    requires { ⌜ Listed d (now img) (now work) ⌝ }
+    requires { ⌜ DirectoryListed d (now img) (now work) ⌝ }
     requires { ⌜ Standing (entriesOf d (now img)) (x .0) ⌝ }
     ensures { λ r. ⌜ FirstIs (entriesOf d (now (img .entry))) (x .0) (r .0) ⌝ }
 {
@@ -50,10 +51,10 @@ fn first(img: &[u8], work: &[u32], d: Directory, x: EntryId) -> EntryId
 
 // Whether the last of x's left side comes before x.
 fn left_ordered(img: &[u8], work: &[u32], d: Directory, x: EntryId) -> bool
-    requires { ⌜ Listed d (now img) (now work) ⌝ }
+    requires { ⌜ DirectoryListed d (now img) (now work) ⌝ }
     requires { ⌜ Ruled (entriesOf d (now img)) ⌝ }
     requires { ⌜ Standing (entriesOf d (now img)) (x .0) ⌝ }
-    ensures { λ r. ⌜ r ≡ lastLess (entriesOf d (now (img .entry))) (at (entriesOf d (now (img .entry))) (leftOf (entriesOf d (now (img .entry))) (x .0))) (x .0) ⌝ }
+    ensures { λ r. ⌜ r ≡ leftOrdered (entriesOf d (now (img .entry))) (x .0) ⌝ }
 {
     let left = left_of(img, work, d, x);
     if left.is_none() {
@@ -65,10 +66,10 @@ fn left_ordered(img: &[u8], work: &[u32], d: Directory, x: EntryId) -> bool
 
 // Whether x comes before the first of its right side.
 fn right_ordered(img: &[u8], work: &[u32], d: Directory, x: EntryId) -> bool
-    requires { ⌜ Listed d (now img) (now work) ⌝ }
+    requires { ⌜ DirectoryListed d (now img) (now work) ⌝ }
     requires { ⌜ Ruled (entriesOf d (now img)) ⌝ }
     requires { ⌜ Standing (entriesOf d (now img)) (x .0) ⌝ }
-    ensures { λ r. ⌜ r ≡ firstMore (entriesOf d (now (img .entry))) (x .0) (at (entriesOf d (now (img .entry))) (rightOf (entriesOf d (now (img .entry))) (x .0))) ⌝ }
+    ensures { λ r. ⌜ r ≡ rightOrdered (entriesOf d (now (img .entry))) (x .0) ⌝ }
 {
     let right = right_of(img, work, d, x);
     if right.is_none() {
@@ -82,7 +83,7 @@ fn right_ordered(img: &[u8], work: &[u32], d: Directory, x: EntryId) -> bool
 
 // Whether the tree that x names, if it names one, has a black top.
 pub fn black(img: &[u8], work: &[u32], d: Directory, x: EntryId) -> bool
-    requires { ⌜ Listed d (now img) (now work) ⌝ }
+    requires { ⌜ DirectoryListed d (now img) (now work) ⌝ }
     requires { ⌜ soundAt (entriesOf d (now img)) (x .0) ≡ true ⌝ }
     ensures { λ r. ⌜ r ≡ topBlack (entriesOf d (now (img .entry))) (at (entriesOf d (now (img .entry))) (x .0)) ⌝ }
 {
@@ -94,9 +95,9 @@ pub fn black(img: &[u8], work: &[u32], d: Directory, x: EntryId) -> bool
 
 // Whether a red x has no red one right below it in its tree, and the tree of its children has a black top.
 fn colours(img: &[u8], work: &[u32], d: Directory, x: EntryId) -> bool
-    requires { ⌜ Listed d (now img) (now work) ⌝ }
+    requires { ⌜ DirectoryListed d (now img) (now work) ⌝ }
     requires { ⌜ Standing (entriesOf d (now img)) (x .0) ⌝ }
-    ensures { λ r. ⌜ r ≡ testAt (entriesOf d (now (img .entry))) (coloured (entriesOf d (now (img .entry)))) (x .0) ⌝ }
+    ensures { λ r. ⌜ r ≡ colouredAt (entriesOf d (now (img .entry))) (x .0) ⌝ }
 {
     let red = colour_of(img, work, d, x) == 0;
     let left = black(img, work, d, left_of(img, work, d, x));
@@ -108,7 +109,7 @@ fn colours(img: &[u8], work: &[u32], d: Directory, x: EntryId) -> bool
 // ---- all entries
 
 fn place_ok(img: &[u8], work: &[u32], d: Directory, x: EntryId) -> bool
-    requires { ⌜ Listed d (now img) (now work) ⌝ }
+    requires { ⌜ DirectoryListed d (now img) (now work) ⌝ }
     requires { ⌜ Ruled (entriesOf d (now img)) ⌝ }
     requires { ⌜ Standing (entriesOf d (now img)) (x .0) ⌝ }
     ensures { λ r. ⌜ r ≡ placeOk (entriesOf d (now (img .entry))) (x .0) ⌝ }
@@ -118,21 +119,20 @@ fn place_ok(img: &[u8], work: &[u32], d: Directory, x: EntryId) -> bool
 
 // Whether each object has its right place, where each is reached once.
 pub fn places(img: &[u8], work: &[u32], d: Directory) -> bool
-    requires { ⌜ Listed d (now img) (now work) ⌝ }
+    requires { ⌜ DirectoryListed d (now img) (now work) ⌝ }
     requires { ⌜ Ruled (entriesOf d (now img)) ⌝ }
     requires { ⌜ shapeOk (entriesOf d (now img)) ≡ true ⌝ }
     ensures { λ r. ⌜ r ≡ placesOk (entriesOf d (now (img .entry))) ⌝ }
 {
     let n = d.count();
-    let mut i = 0;
-    while i < n {
-        let x = EntryId(i as u32);
+    let mut x = EntryId::ROOT;
+    while x.index() < n {
         if object(img, work, d, x) {
             if !place_ok(img, work, d, x) {
                 return false;
             }
         }
-        i += 1;
+        x = x.next();
     }
     true
 }

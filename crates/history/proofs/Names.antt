@@ -6,9 +6,9 @@ use mathlib.Core.Bool.{Bool, true, false, not, _&&_, _||_}
 use mathlib.Core.List.{List, [], _∷_, map}
 use native.Mathlib.Omega.{arith}
 use native.Mathlib.Decide.{decLt}
-use lib.Dec.{eqb, leb}
+use lib.Dec.{eqb, leb, ltb}
 use lib.ListN.{length, length-map}
-use borrow.Author.Tests.{eqb-false, ne-eqb, le-leb, lt-leb, not-true}
+use borrow.Author.Tests.{eqb-false, ne-eqb, le-leb, lt-leb, ltb-true, lt-ltb, not-true}
 use Rattle.format.specs.Basics.Lists.{all}
 use Rattle.format.specs.Layout.Name.{Name, slash, illegal, legalUnit, legalName, fold, nameLess, nameEqual}
 use Rattle.theory.proofs.Tests.{both, and-true-of, clash, neither}
@@ -78,11 +78,23 @@ fold-keeps-other u w k e h p z =
     not-capital (inr (inl p)) a b e = omega arith
     not-capital (inr (inr p)) a b e = omega (arith, p .0, p .1)
 
+fold-low : (u w : ℕ) → fold u ≡ fold w → w < 0x1_0000 → u < 0x1_0000
+fold-low u w e h =
+    elim (fold-cases u) [
+      | inl a ↦ omega (arith, a .1)
+      | inr a ↦
+          elim (fold-cases w) [
+            | inl b ↦ omega (arith, a .1, b .1, b .2, e)
+            | inr b ↦ omega (arith, a .1, b .1, e, h)
+          ]
+    ]
+
 legal-unit : (u w : ℕ) → fold u ≡ fold w → legalUnit w ≡ true → legalUnit u ≡ true
 unfolding legalUnit illegal
 legal-unit u w e h =
-    let a = not-true (eqb w 0) (both (not (eqb w 0)) (not (eqb w slash || eqb w 0x5C || eqb w 0x3A)) h .0) in
-    let b = not-true (eqb w slash || eqb w 0x5C || eqb w 0x3A) (both (not (eqb w 0)) (not (eqb w slash || eqb w 0x5C || eqb w 0x3A)) h .1) in
+    let r = both (ltb w 0x1_0000) (not (eqb w 0) && not (eqb w slash || eqb w 0x5C || eqb w 0x3A)) h in
+    let a = not-true (eqb w 0) (both (not (eqb w 0)) (not (eqb w slash || eqb w 0x5C || eqb w 0x3A)) (r .1) .0) in
+    let b = not-true (eqb w slash || eqb w 0x5C || eqb w 0x3A) (both (not (eqb w 0)) (not (eqb w slash || eqb w 0x5C || eqb w 0x3A)) (r .1) .1) in
     let b1 = neither (eqb w slash) (eqb w 0x5C) (neither (eqb w slash || eqb w 0x5C) (eqb w 0x3A) b .0) .0 in
     let b2 = neither (eqb w slash) (eqb w 0x5C) (neither (eqb w slash || eqb w 0x5C) (eqb w 0x3A) b .0) .1 in
     let b3 = neither (eqb w slash || eqb w 0x5C) (eqb w 0x3A) b .1 in
@@ -90,7 +102,7 @@ legal-unit u w e h =
     let c1 = ne-eqb u slash (fold-keeps-other u w slash e (eqb-false w slash b1) (inl (omega arith))) in
     let c2 = ne-eqb u 0x5C (fold-keeps-other u w 0x5C e (eqb-false w 0x5C b2) (inr (inr (omega arith, omega arith)))) in
     let c3 = ne-eqb u 0x3A (fold-keeps-other u w 0x3A e (eqb-false w 0x3A b3) (inl (omega arith))) in
-    rw (c0, c1, c2, c3)
+    rw (lt-ltb u 0x1_0000 (fold-low u w e (ltb-true w 0x1_0000 (r .0))), c0, c1, c2, c3)
 
 legal-units : (a b : List ℕ) → map fold a ≡ map fold b → all legalUnit b ≡ true → all legalUnit a ≡ true
 unfolding all

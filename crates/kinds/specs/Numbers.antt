@@ -1,26 +1,31 @@
--- 01's number of each answer.
+-- 01's number of each refusal, and of each answer.
 use Prim.Native.Nat.{ℕ}
+use Rattle.kinds.specs.declared.Refusal.{Refusal}
+use Rattle.kinds.specs.declared.Refusal.the-variants.{BadLength, ShortWork, Header, Tables, Cells, Directory, Entries, Trees, Mini, Streams, Owners, BadPath, NotFound, StreamOnTheWay, NotAStream, Beyond, Crosses, TooFewFree, OutTooShort}
 use Rattle.kinds.specs.declared.Answer.{Answer}
-use Rattle.kinds.specs.declared.Answer.the-variants.{Done, BadLength, ShortWork, Header, Tables, Cells, Directory, Entries, Trees, Mini, Streams, Owners, BadPath, NotFound, StreamOnTheWay, NotAStream, Beyond, Crosses, TooFewFree, OutTooShort}
+use Rattle.kinds.specs.declared.Answer.the-variants.{Done, Refused}
+
+abbrev pub refusalNumber : Refusal → ℕ
+refusalNumber BadLength = 1
+refusalNumber ShortWork = 2
+refusalNumber Header = 10
+refusalNumber Tables = 11
+refusalNumber Cells = 12
+refusalNumber Directory = 13
+refusalNumber Entries = 14
+refusalNumber Trees = 15
+refusalNumber Mini = 16
+refusalNumber Streams = 17
+refusalNumber Owners = 18
+refusalNumber BadPath = 20
+refusalNumber NotFound = 21
+refusalNumber StreamOnTheWay = 22
+refusalNumber NotAStream = 23
+refusalNumber Beyond = 24
+refusalNumber Crosses = 25
+refusalNumber TooFewFree = 26
+refusalNumber OutTooShort = 27
 
 abbrev pub numberOf : Answer → ℕ
 numberOf Done = 0
-numberOf BadLength = 1
-numberOf ShortWork = 2
-numberOf Header = 10
-numberOf Tables = 11
-numberOf Cells = 12
-numberOf Directory = 13
-numberOf Entries = 14
-numberOf Trees = 15
-numberOf Mini = 16
-numberOf Streams = 17
-numberOf Owners = 18
-numberOf BadPath = 20
-numberOf NotFound = 21
-numberOf StreamOnTheWay = 22
-numberOf NotAStream = 23
-numberOf Beyond = 24
-numberOf Crosses = 25
-numberOf TooFewFree = 26
-numberOf OutTooShort = 27
+numberOf (Refused a) = refusalNumber a

@@ -6,7 +6,7 @@ ghost use Rattle.format.specs.Layout.Chain.{FREE, END, FATSECT, DIFSECT};
 ghost use Rattle.format.specs.Layout.Entry.{NOSTREAM};
 ghost use Rattle.format.specs.Layout.Geometry.{sectorPlace, cellsIn, difatIn, entriesIn};
 ghost use Rattle.kinds.specs.Sizes.{geometryOf};
-ghost use Rattle.kinds.specs.Numbers.{numberOf};
+ghost use Rattle.kinds.specs.Numbers.{refusalNumber, numberOf};
 
 // ---- geometry
 
@@ -47,6 +47,9 @@ impl Geometry {
     }
 }
 
+// Streams of fewer bytes lie in mini sectors, others in sectors.
+pub const CUTOFF: u64 = 4096;
+
 // ---- sectors
 
 pub struct Sector(pub u32);
@@ -59,6 +62,8 @@ impl Sector {
     pub const FATSECT: Sector = Sector(0xFFFF_FFFD);
 
     pub const DIFSECT: Sector = Sector(0xFFFF_FFFC);
+
+    pub const FIRST: Sector = Sector(0);
 
     pub fn is_free(self) -> bool
         ensures { λ r. ⌜ r ≡ eqb (self .0) FREE ⌝ }
@@ -84,6 +89,14 @@ impl Sector {
         self.0 == Sector::DIFSECT.0
     }
 
+    // The sector of an index.
+    pub fn at(i: usize) -> Sector
+        requires { ⌜ i < 0x1_0000_0000 ⌝ }
+        ensures { λ r. ⌜ r .0 ≡ i ⌝ }
+    {
+        Sector(i as u32)
+    }
+
     // The number as an index.
     pub fn index(self) -> usize
         ensures { λ r. ⌜ r ≡ self .0 ⌝ }
@@ -98,12 +111,27 @@ impl Sector {
         (self.0 as usize) < n
     }
 
+    // The one after it.
+    pub fn next(self) -> Sector
+        requires { ⌜ self .0 < 0xFFFF_FFFF ⌝ }
+        ensures { λ r. ⌜ r .0 ≡ self .0 + 1 ⌝ }
+    {
+        Sector(self.0 + 1)
+    }
+
     // The byte where it starts.
     pub fn place(self, g: Geometry) -> usize
         requires { ⌜ g .bytes ≤ 4096 ⌝ }
         ensures { λ r. ⌜ r ≡ sectorPlace (geometryOf g) (self .0) ⌝ }
     {
         (self.0 as usize + 1) * g.bytes
+    }
+
+    // The byte of its cell in the FAT, whose sectors are laid end to end.
+    pub fn cell(self) -> usize
+        ensures { λ r. ⌜ r ≡ 4 * self .0 ⌝ }
+    {
+        4 * (self.0 as usize)
     }
 }
 
@@ -115,6 +143,11 @@ impl MiniSector {
     pub const FREE: MiniSector = MiniSector(0xFFFF_FFFF);
 
     pub const END: MiniSector = MiniSector(0xFFFF_FFFE);
+
+    // The bytes of a mini sector, in every version.
+    pub const BYTES: usize = 64;
+
+    pub const FIRST: MiniSector = MiniSector(0);
 
     pub fn is_free(self) -> bool
         ensures { λ r. ⌜ r ≡ eqb (self .0) FREE ⌝ }
@@ -128,6 +161,13 @@ impl MiniSector {
         self.0 == MiniSector::END.0
     }
 
+    pub fn at(i: usize) -> MiniSector
+        requires { ⌜ i < 0x1_0000_0000 ⌝ }
+        ensures { λ r. ⌜ r .0 ≡ i ⌝ }
+    {
+        MiniSector(i as u32)
+    }
+
     pub fn index(self) -> usize
         ensures { λ r. ⌜ r ≡ self .0 ⌝ }
     {
@@ -138,6 +178,28 @@ impl MiniSector {
         ensures { λ r. ⌜ r ≡ ltb (self .0) n ⌝ }
     {
         (self.0 as usize) < n
+    }
+
+    // The one after it.
+    pub fn next(self) -> MiniSector
+        requires { ⌜ self .0 < 0xFFFF_FFFF ⌝ }
+        ensures { λ r. ⌜ r .0 ≡ self .0 + 1 ⌝ }
+    {
+        MiniSector(self.0 + 1)
+    }
+
+    // The byte of the mini stream where it starts.
+    pub fn place(self) -> usize
+        ensures { λ r. ⌜ r ≡ 64 * self .0 ⌝ }
+    {
+        MiniSector::BYTES * (self.0 as usize)
+    }
+
+    // The byte of its cell in the mini FAT.
+    pub fn cell(self) -> usize
+        ensures { λ r. ⌜ r ≡ 4 * self .0 ⌝ }
+    {
+        4 * (self.0 as usize)
     }
 }
 
@@ -157,6 +219,12 @@ impl EntryId {
         self.0 == EntryId::NOSTREAM.0
     }
 
+    pub fn is_root(self) -> bool
+        ensures { λ r. ⌜ r ≡ eqb (self .0) 0 ⌝ }
+    {
+        self.0 == EntryId::ROOT.0
+    }
+
     pub fn index(self) -> usize
         ensures { λ r. ⌜ r ≡ self .0 ⌝ }
     {
@@ -167,6 +235,51 @@ impl EntryId {
         ensures { λ r. ⌜ r ≡ ltb (self .0) n ⌝ }
     {
         (self.0 as usize) < n
+    }
+
+    // The one after it.
+    pub fn next(self) -> EntryId
+        requires { ⌜ self .0 < 0xFFFF_FFFF ⌝ }
+        ensures { λ r. ⌜ r .0 ≡ self .0 + 1 ⌝ }
+    {
+        EntryId(self.0 + 1)
+    }
+}
+
+// The type of an entry.
+pub struct EntryType(pub u8);
+
+impl EntryType {
+    pub const BLANK: EntryType = EntryType(0);
+
+    pub const STORAGE: EntryType = EntryType(1);
+
+    pub const STREAM: EntryType = EntryType(2);
+
+    pub const ROOT: EntryType = EntryType(5);
+
+    pub fn is_blank(self) -> bool
+        ensures { λ r. ⌜ r ≡ eqb (self .0) 0 ⌝ }
+    {
+        self.0 == EntryType::BLANK.0
+    }
+
+    pub fn is_storage(self) -> bool
+        ensures { λ r. ⌜ r ≡ eqb (self .0) 1 ⌝ }
+    {
+        self.0 == EntryType::STORAGE.0
+    }
+
+    pub fn is_stream(self) -> bool
+        ensures { λ r. ⌜ r ≡ eqb (self .0) 2 ⌝ }
+    {
+        self.0 == EntryType::STREAM.0
+    }
+
+    pub fn is_root(self) -> bool
+        ensures { λ r. ⌜ r ≡ eqb (self .0) 5 ⌝ }
+    {
+        self.0 == EntryType::ROOT.0
     }
 }
 
@@ -181,8 +294,8 @@ pub enum Order {
 
 // ---- answers
 
-pub enum Answer {
-    Done,
+// Why a call is refused.
+pub enum Refusal {
     BadLength,
     ShortWork,
     Header,
@@ -204,30 +317,45 @@ pub enum Answer {
     OutTooShort,
 }
 
-// 01's number of an answer.
-pub fn number(a: Answer) -> u32
-    ensures { λ r. ⌜ r ≡ numberOf a ⌝ }
+// What a call answers that gives no values.
+pub enum Answer {
+    Done,
+    Refused(Refusal),
+}
+
+// 01's number of a refusal.
+pub fn refusal_number(a: Refusal) -> u32
+    ensures { λ r. ⌜ r ≡ refusalNumber a ⌝ }
 {
     match a {
+        Refusal::BadLength => 1,
+        Refusal::ShortWork => 2,
+        Refusal::Header => 10,
+        Refusal::Tables => 11,
+        Refusal::Cells => 12,
+        Refusal::Directory => 13,
+        Refusal::Entries => 14,
+        Refusal::Trees => 15,
+        Refusal::Mini => 16,
+        Refusal::Streams => 17,
+        Refusal::Owners => 18,
+        Refusal::BadPath => 20,
+        Refusal::NotFound => 21,
+        Refusal::StreamOnTheWay => 22,
+        Refusal::NotAStream => 23,
+        Refusal::Beyond => 24,
+        Refusal::Crosses => 25,
+        Refusal::TooFewFree => 26,
+        Refusal::OutTooShort => 27,
+    }
+}
+
+// And of an answer.
+pub fn number(answer: Answer) -> u32
+    ensures { λ r. ⌜ r ≡ numberOf answer ⌝ }
+{
+    match answer {
         Answer::Done => 0,
-        Answer::BadLength => 1,
-        Answer::ShortWork => 2,
-        Answer::Header => 10,
-        Answer::Tables => 11,
-        Answer::Cells => 12,
-        Answer::Directory => 13,
-        Answer::Entries => 14,
-        Answer::Trees => 15,
-        Answer::Mini => 16,
-        Answer::Streams => 17,
-        Answer::Owners => 18,
-        Answer::BadPath => 20,
-        Answer::NotFound => 21,
-        Answer::StreamOnTheWay => 22,
-        Answer::NotAStream => 23,
-        Answer::Beyond => 24,
-        Answer::Crosses => 25,
-        Answer::TooFewFree => 26,
-        Answer::OutTooShort => 27,
+        Answer::Refused(a) => refusal_number(a),
     }
 }

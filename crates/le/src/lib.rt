@@ -1,14 +1,36 @@
-// Little-endian numbers at a place of a slice of bytes; filling and copying.
+// Little-endian numbers at a place of a slice of bytes; filling and copying; the lesser and the greater of two numbers.
 ghost use mathlib.Core.Path.{_≡_};
-ghost use Prim.Native.Nat.{_+_, _≤_, _<_};
+ghost use Prim.Native.Nat.{_+_, _≤_, _<_, min, max};
 ghost use lib.ListN.{length, replicate};
-ghost use Rattle.format.specs.Basics.Bytes.{part, u16at, u32at, u64at, allZero, put16, put32, put64};
+ghost use Rattle.format.specs.Basics.Bytes.{part, u16at, u32at, u64at, allZero, putBytes, put32, put64};
 ghost use Rattle.format.specs.Calls.Buffers.{workCleared};
 
 fn wide(x: u8) -> u32
     ensures { λ r. ⌜ (r ≡ x) × (r < 256) ⌝ }
 {
     x as u32
+}
+
+// ---- two numbers
+
+// The lesser of two counts.
+pub fn least(a: usize, b: usize) -> usize
+    ensures { λ r. ⌜ r ≡ min a b ⌝ }
+{
+    if a < b {
+        return a;
+    }
+    b
+}
+
+// The greater of two lengths.
+pub fn greatest(a: u64, b: u64) -> u64
+    ensures { λ r. ⌜ r ≡ max a b ⌝ }
+{
+    if a < b {
+        return b;
+    }
+    a
 }
 
 // ---- reads
@@ -55,14 +77,6 @@ pub fn all_zero(b: &[u8], at: usize, n: usize) -> bool
 
 // ---- writes
 
-pub fn put_u16(b: &mut [u8], at: usize, v: u16)
-    requires { ⌜ at + 2 ≤ length (now b) ⌝ }
-    ensures { λ _. ⌜ now (b .exit) ≡ put16 (now (b .entry)) at v ⌝ }
-{
-    b[at] = (v % 256) as u8;
-    b[at + 1] = (v / 256 % 256) as u8;
-}
-
 pub fn put_u32(b: &mut [u8], at: usize, v: u32)
     requires { ⌜ at + 4 ≤ length (now b) ⌝ }
     ensures { λ _. ⌜ now (b .exit) ≡ put32 (now (b .entry)) at v ⌝ }
@@ -84,12 +98,12 @@ pub fn put_u64(b: &mut [u8], at: usize, v: u64)
 // ---- runs
 
 // Zero bytes.
-pub fn fill_zero(part: &mut [u8])
-    ensures { λ _. ⌜ now (part .exit) ≡ replicate (length (now (part .entry))) 0 ⌝ }
+pub fn fill_zero(bytes: &mut [u8])
+    ensures { λ _. ⌜ now (bytes .exit) ≡ replicate (length (now (bytes .entry))) 0 ⌝ }
 {
     let mut i = 0;
-    while i < part.len() {
-        part[i] = 0;
+    while i < bytes.len() {
+        bytes[i] = 0;
         i += 1;
     }
 }
@@ -104,6 +118,15 @@ pub fn copy(to: &mut [u8], from: &[u8])
         to[i] = from[i];
         i += 1;
     }
+}
+
+// The n bytes from byte p of another slice on, put at a place.
+pub fn copy_part(to: &mut [u8], at: usize, from: &[u8], p: usize, n: usize)
+    requires { ⌜ at + n ≤ length (now to) ⌝ }
+    requires { ⌜ p + n ≤ length (now from) ⌝ }
+    ensures { λ _. ⌜ now (to .exit) ≡ putBytes (now (to .entry)) at (part (now (from .entry)) p n) ⌝ }
+{
+    copy(&mut to[at..at + n], &from[p..p + n]);
 }
 
 // The first w numbers of a work buffer zero.

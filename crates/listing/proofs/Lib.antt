@@ -1,6 +1,4 @@
 -- Laws for the listing.
-pub mod LineLengths
-pub mod LineWrites
 pub mod Prints
 pub mod Stack
 pub mod Turns

@@ -3,7 +3,7 @@ use Prim.Native.Nat.{ℕ, _+_, _-_, _*_, _≤_, _<_}
 use mathlib.Core.Path.{_≡_, refl, ap, sym, _∙_}
 use mathlib.Core.List.{List, [], _∷_}
 use native.Mathlib.Omega.{arith}
-use lib.ListN.{length, getD, length-append}
+use lib.ListN.{length, length-append}
 use borrow.Author.Tests.{le-leb, lt-leb}
 use Rattle.format.specs.Basics.Bytes.{Bytes}
 use Rattle.format.specs.Layout.Directory.{Directory}
@@ -15,10 +15,10 @@ use Rattle.tables.specs.Work.{Wrote}
 use Rattle.entries.specs.Entry.{entryAt}
 use Rattle.directory.specs.Listed.{countOf, entriesOf, placeOf}
 use Rattle.directory.specs.declared.Directory.{Directory as Where}
-use Rattle.listing.specs.Lines.{lineLength}
-use Rattle.listing.specs.declared.walk.Measured.{Measured}
-use Rattle.listing.specs.declared.walk.Measured.the-variants.{TooLong, Fits}
-use Rattle.listing.specs.Walks.{pairs, turned, measured}
+use Rattle.lines.specs.Lines.{lineLength}
+use Rattle.listing.specs.declared.Measured.{Measured}
+use Rattle.listing.specs.declared.Measured.the-variants.{TooLong, Fits}
+use Rattle.listing.specs.Walks.{pairs, entryOn, parentOn, turnedAt, measured, measureOf}
 use Rattle.listing.proofs.Walks.{Walks, walks-end, walks-room, walks-line, walks-more}
 
 -- ---- the answer
@@ -59,7 +59,7 @@ module _ {d : Where} {img : Bytes} {most : ℕ} {w₀ w : List ℕ} {n objects b
 
   -- the end: the first line is still to be added
   pub measuring-end : n ≤ 0 → (r : Measured) → r ≡ measured most objects (length (firstLine objects) + bytes)
-      → r ≡ measured most (length (entries (forest e))) (length (listing e))
+      → r ≡ measureOf most e
   unfolding forest
   measuring-end h r q =
       let z = walks-end (m .walks) h in
@@ -67,8 +67,8 @@ module _ {d : Where} {img : Bytes} {most : ℕ} {w₀ w : List ℕ} {n objects b
       q ∙ rw (b, z .1, listing-length e)
 
   -- a turn adds the line of the entry at byte i
-  module _ (h : 0 < n) (i : ℕ) (q : i ≡ placeOf d w (getD w (2 * (n - 1)) 0)) {k : ℕ} (l : k ≡ lineLength (entryAt img i) (getD w (2 * (n - 1) + 1) 0)) where
-    pub measuring-long : most - bytes < k → TooLong ≡ measured most (length (entries (forest e))) (length (listing e))
+  module _ (h : 0 < n) (i : ℕ) (q : i ≡ placeOf d w (entryOn w (n - 1))) {k : ℕ} (l : k ≡ lineLength (entryAt img i) (parentOn w (n - 1))) where
+    pub measuring-long : most - bytes < k → TooLong ≡ measureOf most e
     measuring-long b =
         measured-long most (length (entries (forest e))) (length (listing e))
         (omega (arith, m .sum, m .within, l, walks-line (m .walks) h i q, walks-room (m .walks) h, listing-length e))
@@ -77,7 +77,7 @@ module _ {d : Where} {img : Bytes} {most : ℕ} {w₀ w : List ℕ} {n objects b
       pub measuring-fits : bytes + k ≤ most
       measuring-fits = omega (arith, m .within)
 
-      pub measuring-more : {w′ : List ℕ} (n′ : ℕ) → pairs w′ n′ ≡ turned e (getD w (2 * (n - 1)) 0) (getD w (2 * (n - 1) + 1) 0) (pairs w (n - 1))
+      pub measuring-more : {w′ : List ℕ} (n′ : ℕ) → pairs w′ n′ ≡ turnedAt e w (n - 1)
           → Wrote w w′ 0 (2 * countOf d) → Measuring d img most w₀ w′ n′ (objects + 1) (bytes + k)
       measuring-more n′ s r =
           let v = walks-more (m .walks) h n′ s r in

@@ -19,7 +19,7 @@ use Rattle.format.specs.Calls.Text.{printUnit, printName}
 use Rattle.theory.proofs.Tests.{both, below-at}
 use Rattle.frame.proofs.EntryFacts.{name-fields-legal, stream-fields-of, stream-fields-say, storage-fields-of, storage-fields-say}
 use Rattle.text.proofs.Units.{plain, length-plain, length-coded, name-most}
-use Rattle.listing.specs.Lines.{before, beforeLength}
+use Rattle.lines.specs.Lines.{before, beforeLength}
 
 -- ---- an object's name
 

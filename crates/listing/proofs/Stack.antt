@@ -17,10 +17,10 @@ use Rattle.theory.proofs.Trees.Grow.{grow-none}
 use Rattle.theory.proofs.Trees.Stand.{stand, standing}
 use Rattle.tables.specs.Work.{Wrote}
 use Rattle.tables.proofs.WorkLaws.{wrote-none, wrote-set, wrote-two}
-use Rattle.directory.specs.Listed.{countOf, entriesOf, Listed}
+use Rattle.directory.specs.Listed.{countOf, entriesOf, DirectoryListed}
 use Rattle.directory.specs.declared.Directory.{Directory as Where}
 use Rattle.directory.proofs.Places.{directory-kept}
-use Rattle.listing.specs.Walks.{pairs, spine}
+use Rattle.listing.specs.Walks.{pairs, entryOn, parentOn, spine}
 
 -- ---- pairs
 
@@ -38,7 +38,7 @@ pairs-kept w v (suc n) h =
     let r = pairs-kept w v n (λ i l. h i (omega arith)) in
     rw (a, b, r)
 
-pub pairs-top : (w : List ℕ) (n : ℕ) → pairs w (n + 1) ≡ (getD w (2 * n) 0, getD w (2 * n + 1) 0) ∷ pairs w n
+pub pairs-top : (w : List ℕ) (n : ℕ) → pairs w (n + 1) ≡ (entryOn w n, parentOn w n) ∷ pairs w n
 unfolding pairs
 pairs-top w n = rw (add-one n)
 
@@ -54,7 +54,7 @@ pairs-push w n x p h =
 
 -- the descent from x is at y
 pub record Pushing (d : Where) (img : Bytes) (x p : ℕ) (w₀ : List ℕ) (n₀ y : ℕ) (w : List ℕ) (n : ℕ) : Type 0 where
-  pub listed : Listed d img w
+  pub listed : DirectoryListed d img w
   pub apart : 2 * countOf d ≤ d .list
   pub tree-sound : soundAt (entriesOf d img) y ≡ true
   pub same : spine p (at (entriesOf d img) y) ++ pairs w n ≡ spine p (at (entriesOf d img) x) ++ pairs w₀ n₀

@@ -15,10 +15,11 @@ use Rattle.theory.specs.TreeViews.{rightOf, childOf, at, soundAt}
 use Rattle.theory.proofs.Trees.Stand.{standing}
 use Rattle.tables.specs.Work.{Wrote}
 use Rattle.entries.specs.Entry.{entryAt, NamedAt}
-use Rattle.directory.specs.Listed.{countOf, entriesOf, placeOf, Listed}
+use Rattle.directory.specs.Listed.{countOf, entriesOf, placeOf, DirectoryListed}
 use Rattle.directory.specs.declared.Directory.{Directory as Where}
-use Rattle.directory.proofs.Places.{directory-kept, entry-is, named-at, ruled}
-use Rattle.listing.specs.Lines.{beforeLength}
+use Rattle.directory.proofs.Places.{directory-kept, entry-is, named-at}
+use Rattle.entry_rules.proofs.Ruled.{ruled}
+use Rattle.lines.specs.Lines.{beforeLength}
 use Rattle.listing.specs.Walks.{pairs, spine, pathLength, turned, Turning}
 use Rattle.listing.proofs.Stack.{pairs-long}
 
@@ -29,7 +30,7 @@ spine-few n broken = omega arith
 spine-few n (node l x b r) =
     omega (arith, spine-few n l, length-append (spine n l) ((x, n) ∷ []), length-append (entries l) (x ∷ (entries b ++ entries r)))
 
-module _ {d : Where} {img : Bytes} {w : List ℕ} {k x n : ℕ} (l : Listed d img w) (t : Turning (entriesOf d img) (countOf d) k x n) where
+module _ {d : Where} {img : Bytes} {w : List ℕ} {k x n : ℕ} (l : DirectoryListed d img w) (t : Turning (entriesOf d img) (countOf d) k x n) where
   abbrev e : Directory
   e = entriesOf d img
 
@@ -49,7 +50,7 @@ module _ {d : Where} {img : Bytes} {w : List ℕ} {k x n : ℕ} (l : Listed d im
       right-room = rw ey (omega (arith, t .room))
 
       module _ {w₁ : List ℕ} (n₁ : ℕ) (s₁ : pairs w₁ n₁ ≡ spine n (at e y) ++ pairs w k) (r₁ : Wrote w w₁ 0 (2 * countOf d)) where
-        pub right-listed : Listed d img w₁
+        pub right-listed : DirectoryListed d img w₁
         right-listed = directory-kept l r₁ (omega (arith, a))
 
         height : n₁ ≤ k + length (entries (at e (rightOf e x)))

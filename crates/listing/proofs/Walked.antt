@@ -18,9 +18,9 @@ use Rattle.format.specs.Calls.Listing.{line, lines}
 use Rattle.theory.specs.TreeViews.{rows, leftOf, rightOf, childOf, at, whole, shapeOk, Standing, NodeTest}
 use Rattle.theory.proofs.Trees.Nodes.{everyNode-apart, shape-sound, objects-nodes, entries-few}
 use Rattle.theory.proofs.Trees.Stand.{standing, tree-ind}
-use Rattle.listing.specs.Lines.{before}
+use Rattle.lines.specs.Lines.{before}
 use Rattle.listing.specs.Walks.{spine, pathLength, turned, Turning}
-use Rattle.listing.proofs.LineLengths.{before-length, before-most}
+use Rattle.lines.proofs.LineLengths.{before-length, before-most}
 use Rattle.listing.proofs.Prints.{print-some, print-most, before-least, before-whole, before-front, before-kept}
 
 -- a tree of objects

@@ -4,7 +4,7 @@ use mathlib.Core.Path.{_≡_, ap, sym, _∙_, subst}
 use mathlib.Core.Bool.{true}
 use mathlib.Core.List.{List, [], _∷_, _++_}
 use native.Mathlib.Omega.{arith}
-use lib.ListN.{length, getD}
+use lib.ListN.{length}
 use Rattle.format.specs.Basics.Bytes.{Bytes}
 use Rattle.format.specs.Layout.Directory.{Directory}
 use Rattle.format.specs.Layout.Tree.{entries}
@@ -17,19 +17,19 @@ use Rattle.theory.proofs.Trees.Nodes.{shape-sound, entries-few}
 use Rattle.tables.specs.Work.{Wrote}
 use Rattle.tables.proofs.WorkLaws.{wrote-none, wrote-two}
 use Rattle.entries.specs.Entry.{entryAt, NamedAt}
-use Rattle.directory.specs.Listed.{countOf, entriesOf, placeOf, Listed}
+use Rattle.directory.specs.Listed.{countOf, entriesOf, placeOf, DirectoryListed}
 use Rattle.directory.specs.declared.Directory.{Directory as Where}
 use Rattle.directory.proofs.Places.{directory-kept, count-is, entry-is}
-use Rattle.listing.specs.Lines.{lineLength}
-use Rattle.listing.specs.Walks.{pairs, spine, turned, Turning}
-use Rattle.listing.proofs.LineLengths.{line-length}
+use Rattle.lines.specs.Lines.{lineLength}
+use Rattle.listing.specs.Walks.{pairs, entryOn, parentOn, spine, turnedAt, Turning}
+use Rattle.lines.proofs.LineLengths.{line-length}
 use Rattle.listing.proofs.Stack.{pairs-long, pairs-top}
 use Rattle.listing.proofs.Turns.{turn-named, turn-inside}
 use Rattle.listing.proofs.Walked.{Walked, pathOf, countCome, walk-start, walk-end, walk-more, top-turning, top-parent, line-room}
 
 -- what both walks are lent
-pub record Lent (d : Where) (img : Bytes) (w : List ℕ) : Type 0 where
-  pub listed : Listed d img w
+pub record ListingLent (d : Where) (img : Bytes) (w : List ℕ) : Type 0 where
+  pub listed : DirectoryListed d img w
   pub rules : entryRules (entriesOf d img) ≡ true
   pub trees : treeRules (entriesOf d img) ≡ true
   pub apart : 2 * countOf d ≤ d .list
@@ -37,18 +37,18 @@ pub record Lent (d : Where) (img : Bytes) (w : List ℕ) : Type 0 where
 
 -- k lines are done, the last one with the path t, and n pairs are on the stack
 pub record Walks (d : Where) (img : Bytes) (w₀ w : List ℕ) (n k : ℕ) (t done : Bytes) : Type 0 where
-  pub lent : Lent d img w
+  pub lent : ListingLent d img w
   pub wrote : Wrote w₀ w 0 (2 * countOf d)
   pub walk : Walked (entriesOf d img) t done k (pairs w n)
 
-module _ {d : Where} {img : Bytes} {w : List ℕ} (l : Lent d img w) where
+module _ {d : Where} {img : Bytes} {w : List ℕ} (l : ListingLent d img w) where
   abbrev e : Directory
   e = entriesOf d img
 
   pub shape : shapeOk e ≡ true
   shape = rules-apart e (l .trees) .shape
 
-  pub lent-kept : {w′ : List ℕ} → Wrote w w′ 0 (2 * countOf d) → Lent d img w′
+  pub lent-kept : {w′ : List ℕ} → Wrote w w′ 0 (2 * countOf d) → ListingLent d img w′
   lent-kept r = record { listed = directory-kept (l .listed) r (omega (arith, l .apart)); rules = l .rules; trees = l .trees; apart = l .apart; few = l .few }
 
   pub objects-few : length (entries (whole e)) ≤ countOf d
@@ -83,10 +83,10 @@ module _ {d : Where} {img : Bytes} {w₀ w : List ℕ} {n k : ℕ} {t done : Byt
   -- a turn takes the last pair off
   module _ (h : 0 < n) where
     abbrev x : ℕ
-    x = getD w (2 * (n - 1)) 0
+    x = entryOn w (n - 1)
 
     abbrev p : ℕ
-    p = getD w (2 * (n - 1) + 1) 0
+    p = parentOn w (n - 1)
 
     popped : Walked (e (s .lent)) t done k ((x, p) ∷ pairs w (n - 1))
     popped =
@@ -125,7 +125,7 @@ module _ {d : Where} {img : Bytes} {w₀ w : List ℕ} {n k : ℕ} {t done : Byt
     unfolding countCome
     walks-count = omega (arith, popped .count, objects-few (s .lent))
 
-    module _ {w′ : List ℕ} (n′ : ℕ) (q : pairs w′ n′ ≡ turned (e (s .lent)) x p (pairs w (n - 1))) (r : Wrote w w′ 0 (2 * countOf d)) where
+    module _ {w′ : List ℕ} (n′ : ℕ) (q : pairs w′ n′ ≡ turnedAt (e (s .lent)) w (n - 1)) (r : Wrote w w′ 0 (2 * countOf d)) where
       pub walks-more : Walks d img w₀ w′ n′ (k + 1) path (done ++ line (e (s .lent) .entry x) path)
       walks-more = record {
         lent = lent-kept (s .lent) r;

@@ -3,42 +3,29 @@ use Prim.Native.Nat.{ℕ, _+_, _-_, _*_, _≤_, _<_}
 use mathlib.Core.Path.{_≡_, refl, ap, sym, _∙_}
 use mathlib.Core.List.{List, [], _∷_, _++_, append-assoc, append-nil}
 use native.Mathlib.Omega.{arith}
-use lib.ListN.{length, getD, set, take, drop, length-append}
+use lib.ListN.{length, take, drop, length-append}
 use lib.Seq.{take-length, drop-drop, take-append-seam, drop-append-seam}
 use Rattle.format.specs.Basics.Bytes.{Bytes}
 use Rattle.format.specs.Layout.Entry.{name}
 use Rattle.format.specs.Layout.Directory.{Directory}
 use Rattle.format.specs.Layout.Tree.{forest, entries}
 use Rattle.format.specs.Calls.Read.{over}
-use Rattle.format.specs.Calls.Text.{newline, decimal, printName}
+use Rattle.format.specs.Calls.Text.{newline, printName}
 use Rattle.format.specs.Calls.Listing.{line, lines, firstLine, listing}
 use Rattle.theory.specs.TreeViews.{whole}
-use Rattle.text.proofs.Over.{over-length, over-sets}
+use Rattle.text.proofs.Over.{over-length}
 use Rattle.tables.specs.Work.{Wrote}
 use Rattle.entries.specs.Entry.{entryAt}
 use Rattle.directory.specs.Listed.{countOf, entriesOf, placeOf}
 use Rattle.directory.specs.declared.Directory.{Directory as Where}
-use Rattle.listing.specs.Lines.{head, before, lineLength, firstWord}
-use Rattle.listing.specs.Walks.{pairs, turned}
-use Rattle.listing.proofs.LineLengths.{line-parts, length-line}
-use Rattle.listing.proofs.LineWrites.{Placed, placed-behind, placed-length}
+use Rattle.lines.specs.Lines.{head, before, lineLength, linePut}
+use Rattle.listing.specs.Walks.{pairs, entryOn, parentOn, turnedAt}
+use Rattle.lines.proofs.LineLengths.{line-parts, length-line}
+use Rattle.text.proofs.Filled.{Filled, filled-behind, filled-length}
 use Rattle.listing.proofs.Prints.{before-front}
 use Rattle.listing.proofs.Walked.{pathOf}
 use Rattle.listing.proofs.Measures.{listing-length}
 use Rattle.listing.proofs.Walks.{Walks, walks-end, walks-room, walks-line, walks-entry, walks-parent, walks-more, path}
-
--- ---- the first line
-
-pub word-written : (out : Bytes) → 8 ≤ length out
-    → set (set (set (set (set (set (set (set out 0 0x6F) 1 0x62) 2 0x6A) 3 0x65) 4 0x63) 5 0x74) 6 0x73) 7 0x20 ≡ over firstWord out
-word-written out h = over-sets firstWord out h
-
-pub first-placed : (out : Bytes) {now : Bytes} → 8 ≤ length out → now ≡ over firstWord out → Placed out firstWord now 8
-first-placed out h q = record { bytes = q; count = refl; room = h }
-
-pub first-parts : (n : ℕ) → (firstWord ++ decimal n) ++ (newline ∷ []) ≡ firstLine n
-unfolding firstLine
-first-parts n = refl
 
 -- ---- the loop
 
@@ -48,7 +35,7 @@ pub record Writing (d : Where) (img : Bytes) (objects : ℕ) (out₀ : Bytes) (w
   pub text : Bytes
   pub done : Bytes
   pub walks : Walks d img w₀ w n count text done
-  pub placed : Placed out₀ (firstLine objects ++ done) out at
+  pub placed : Filled out₀ (firstLine objects ++ done) out at
   pub here : take (length text) (drop from out) ≡ text
   pub behind : from + length text ≤ at
 
@@ -111,12 +98,12 @@ module _ {d : Where} {img : Bytes} {objects : ℕ} {out₀ : Bytes} {w₀ w : Li
   writing-end h out₁ q = m .placed .bytes ∙ rw (walks-end (m .walks) h .0, whole-is, q) (over-twice (firstLine objects) (lines e [] (whole e)) out₁)
 
   -- a turn writes the line of the entry at byte i
-  module _ (h : 0 < n) (i : ℕ) (q : i ≡ placeOf d w (getD w (2 * (n - 1)) 0)) where
+  module _ (h : 0 < n) (i : ℕ) (q : i ≡ placeOf d w (entryOn w (n - 1))) where
     abbrev x : ℕ
-    x = getD w (2 * (n - 1)) 0
+    x = entryOn w (n - 1)
 
     abbrev p : ℕ
-    p = getD w (2 * (n - 1) + 1) 0
+    p = parentOn w (n - 1)
 
     pub line-behind : from + p ≤ at
     line-behind = omega (arith, m .behind, walks-parent (m .walks) h)
@@ -126,7 +113,7 @@ module _ {d : Where} {img : Bytes} {objects : ℕ} {out₀ : Bytes} {w₀ w : Li
         omega (arith, room, ap length whole-is, length-append (firstLine objects) (lines e [] (whole e)), length-append (firstLine objects) (m .done), m .placed .count, walks-room (m .walks) h)
 
     pub line-fits : at + lineLength (entryAt img i) p ≤ length out
-    line-fits = omega (arith, all-room, walks-line (m .walks) h i q, placed-length (m .placed))
+    line-fits = omega (arith, all-room, walks-line (m .walks) h i q, filled-length (m .placed))
 
     -- the parent's path is read from the last line's
     text-here : before p (drop from out) ++ printName (name (entryAt img i)) ≡ path (m .walks) h
@@ -135,7 +122,7 @@ module _ {d : Where} {img : Bytes} {objects : ℕ} {out₀ : Bytes} {w₀ w : Li
         rw (walks-entry (m .walks) h i q, before-front p (length (m .text)) (drop from out) (m .text) (walks-parent (m .walks) h) (m .here ∙ sym (take-length (m .text))))
 
     module _ {out′ : Bytes} {from′ : ℕ} (ef : from′ ≡ at + length (head (entryAt img i)))
-        (eo : out′ ≡ take at out ++ (line (entryAt img i) (before p (drop from out) ++ printName (name (entryAt img i))) ++ drop (at + lineLength (entryAt img i) p) out))
+        (eo : out′ ≡ linePut (entryAt img i) at from p out)
         {k : ℕ} (ek : k ≡ lineLength (entryAt img i) p) where
       abbrev l : Bytes
       l = line (e .entry x) (path (m .walks) h)
@@ -143,12 +130,12 @@ module _ {d : Where} {img : Bytes} {objects : ℕ} {out₀ : Bytes} {w₀ w : Li
       kl : k ≡ length l
       kl = ek ∙ walks-line (m .walks) h i q
 
-      line-placed : Placed out₀ ((firstLine objects ++ m .done) ++ l) out′ (at + k)
+      line-placed : Filled out₀ ((firstLine objects ++ m .done) ++ l) out′ (at + k)
       line-placed =
-          placed-behind (m .placed) l all-room kl
+          filled-behind (m .placed) l all-room kl
           (eo ∙ rw (text-here, ← ek, walks-entry (m .walks) h i q))
 
-      pub writing-more : {w′ : List ℕ} (n′ : ℕ) → pairs w′ n′ ≡ turned e x p (pairs w (n - 1)) → Wrote w w′ 0 (2 * countOf d)
+      pub writing-more : {w′ : List ℕ} (n′ : ℕ) → pairs w′ n′ ≡ turnedAt e w (n - 1) → Wrote w w′ 0 (2 * countOf d)
           → Writing d img objects out₀ w₀ w′ n′ out′ (at + k) from′
       unfolding over
       writing-more n′ s r =

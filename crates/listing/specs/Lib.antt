@@ -1,3 +1,2 @@
 -- What the functions on the listing leave, beside `format`.
-pub mod Lines
 pub mod Walks

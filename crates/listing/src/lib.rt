@@ -1,120 +1,193 @@
-// Lines of the listing: how long one is, and writing one into the out buffer behind those that stand there already.
+// The whole listing: one walk that adds up its length, one that writes it. The stack, at the start of the work buffer, holds entries whose
+// left side is done, each with the length of its parent's path.
 ghost use mathlib.Core.Path.{_≡_};
+ghost use mathlib.Core.Bool.{true};
 ghost use mathlib.Core.List.{_++_};
-ghost use Prim.Native.Nat.{_+_, _≤_, _<_};
-ghost use lib.ListN.{length, take, drop};
-ghost use Rattle.format.specs.Basics.Bytes.{part};
-ghost use Rattle.format.specs.Layout.Entry.{name};
+ghost use Prim.Native.Nat.{_+_, _*_, _≤_, _<_};
+ghost use lib.ListN.{length};
+ghost use Rattle.format.specs.Layout.Tree.{forest, entries};
+ghost use Rattle.format.specs.Rules.Entries.{entryRules};
+ghost use Rattle.format.specs.Rules.Trees.{treeRules};
 ghost use Rattle.format.specs.Calls.Read.{over};
 ghost use Rattle.format.specs.Calls.Text.{printName};
-ghost use Rattle.format.specs.Calls.Listing.{line};
-ghost use Rattle.entries.specs.Entry.{entryAt, NamedAt};
-ghost use Rattle.listing.specs.Lines.{head, before, beforeLength, lineLength};
-use entries::kind;
-use entries::size;
+ghost use Rattle.format.specs.Calls.Listing.{firstLine, listing};
+ghost use Rattle.theory.specs.TreeViews.{at, soundAt};
+ghost use Rattle.tables.specs.Work.{Wrote};
+ghost use Rattle.entries.specs.Entry.{nameAt, NamedAt};
+ghost use Rattle.directory.specs.Listed.{countOf, entriesOf, DirectoryListed};
+ghost use Rattle.lines.specs.Lines.{beforeLength};
+ghost use Rattle.listing.specs.Walks.{pairs, entryOn, parentOn, spine, turnedAt, Turning, measured, measureOf};
+use directory::Directory;
+use directory::child_of;
+use directory::left_of;
+use directory::place;
+use directory::right_of;
+use kinds::EntryId;
+use lines::line_length;
+use lines::put_line;
 use text::decimal_length;
 use text::name_length;
-use text::put_decimal;
-use text::put_name;
+use text::put_number_line;
 
-pub mod walk;
+// ---- the stack
 
-// ---- lengths
-
-// How many bytes a line of the entry at p has before its path: `F SIZE ` or `D 0 `.
-fn head_length(img: &[u8], p: usize) -> usize
-    requires { ⌜ p + 128 ≤ length (now img) ⌝ }
-    ensures { λ r. ⌜ r ≡ length (head (entryAt (now (img .entry)) p)) ⌝ }
-{
-    if kind(img, p) == 2 {
-        return decimal_length(size(img, p)) + 3;
-    }
-    4
+// An entry on the stack, and the length of its parent's path.
+struct Pair {
+    entry: EntryId,
+    parent: u32,
 }
 
-// How many bytes the line of the entry at p has, if its parent's path has so many; 0 is the root's.
-pub fn line_length(img: &[u8], p: usize, parent: usize) -> usize
-    requires { ⌜ NamedAt (now img) p ⌝ }
-    requires { ⌜ parent < 0x1_0000_0000 ⌝ }
-    ensures { λ r. ⌜ r ≡ lineLength (entryAt (now (img .entry)) p) parent ⌝ }
+// Pair k of the stack.
+fn pair_at(work: &[u32], k: usize) -> Pair
+    requires { ⌜ 2 * k + 1 < length (now work) ⌝ }
+    ensures { λ r. ⌜ (r .entry .0 ≡ entryOn (now (work .entry)) k) × (r .parent ≡ parentOn (now (work .entry)) k) ⌝ }
 {
-    let n = head_length(img, p) + name_length(img, p) + 1;
+    Pair {
+        entry: EntryId(work[2 * k]),
+        parent: work[2 * k + 1],
+    }
+}
+
+// Puts the left spine of the tree that x names on the stack of n pairs, and returns the stack's new height.
+fn push(img: &[u8], work: &mut [u32], d: Directory, n: usize, x: EntryId, parent: u32) -> usize
+    requires { ⌜ DirectoryListed d (now img) (now work) ⌝ }
+    requires { ⌜ 2 * countOf d ≤ d .list ⌝ }
+    requires { ⌜ soundAt (entriesOf d (now img)) (x .0) ≡ true ⌝ }
+    requires { ⌜ n + length (entries (at (entriesOf d (now img)) (x .0))) ≤ countOf d ⌝ }
+    ensures stack { λ r. ⌜ pairs (now (work .exit)) r ≡ spine parent (at (entriesOf d (now (img .entry))) (x .0)) ++ pairs (now (work .entry)) n ⌝ }
+    ensures wrote { λ _. ⌜ Wrote (now (work .entry)) (now (work .exit)) 0 (2 * countOf d) ⌝ }
+{
+    let mut k = n;
+    let mut y = x;
+    while !y.is_none() {
+        work[2 * k] = y.0;
+        work[2 * k + 1] = parent;
+        k += 1;
+        y = left_of(img, work, d, y);
+    }
+    k
+}
+
+// How many bytes the path of the entry at p has, if its parent's has so many; 0 is the root's.
+fn path_length(img: &[u8], p: usize, parent: u32) -> u32
+    requires { ⌜ NamedAt (now img) p ⌝ }
+    requires { ⌜ parent + 157 ≤ 0x1_0000_0000 ⌝ }
+    ensures { λ r. ⌜ r ≡ beforeLength parent + length (printName (nameAt (now (img .entry)) p)) ⌝ }
+{
+    let n = name_length(img, p) as u32;
     if parent == 0 {
         return n;
     }
-    n + parent + 1
+    parent + 1 + n
 }
 
-// ---- writing
-
-// Writes what stands in a line before the path, and returns how many bytes it takes.
-fn put_head(out: &mut [u8], img: &[u8], p: usize) -> usize
-    requires { ⌜ p + 128 ≤ length (now img) ⌝ }
-    requires { ⌜ length (head (entryAt (now img) p)) ≤ length (now out) ⌝ }
-    ensures { λ r. ⌜ r ≡ length (head (entryAt (now (img .entry)) p)) ⌝ }
-    ensures { λ _. ⌜ now (out .exit) ≡ over (head (entryAt (now (img .entry)) p)) (now (out .entry)) ⌝ }
+// Takes the entry of pair k off, puts its right side on the stack and then the tree below it, and returns the stack's new height.
+fn turn(img: &[u8], work: &mut [u32], d: Directory, k: usize) -> usize
+    requires { ⌜ DirectoryListed d (now img) (now work) ⌝ }
+    requires { ⌜ 2 * countOf d ≤ d .list ⌝ }
+    requires { ⌜ entryRules (entriesOf d (now img)) ≡ true ⌝ }
+    requires { ⌜ Turning (entriesOf d (now img)) (countOf d) k (entryOn (now work) k) (parentOn (now work) k) ⌝ }
+    ensures stack { λ r. ⌜ pairs (now (work .exit)) r ≡ turnedAt (entriesOf d (now (img .entry))) (now (work .entry)) k ⌝ }
+    ensures wrote { λ _. ⌜ Wrote (now (work .entry)) (now (work .exit)) 0 (2 * countOf d) ⌝ }
 {
-    if kind(img, p) == 2 {
-        out[0] = 0x46;
-        out[1] = 0x20;
-        let n = put_decimal(&mut out[2..], size(img, p));
-        out[2 + n] = 0x20;
-        return n + 3;
+    let q = pair_at(work, k);
+    let right = right_of(img, work, d, q.entry);
+    let child = child_of(img, work, d, q.entry);
+    let path = path_length(img, place(work, d, q.entry), q.parent);
+    let n = push(img, work, d, k, right, q.parent);
+    push(img, work, d, n, child, path)
+}
+
+// ---- the measure
+
+// How many objects and how many bytes the listing has.
+pub struct Size {
+    pub objects: usize,
+    pub bytes: usize,
+}
+
+pub enum Measured {
+    TooLong,
+    Fits(Size),
+}
+
+// The whole listing's answer, where its lines have so many bytes, no more than `most`: with the first line it may be too long.
+fn with_first(objects: usize, bytes: usize, most: usize) -> Measured
+    requires { ⌜ bytes ≤ most ⌝ }
+    ensures { λ r. ⌜ r ≡ measured most objects (length (firstLine objects) + bytes) ⌝ }
+{
+    let n = decimal_length(objects as u64) + 9;
+    if most - bytes < n {
+        return Measured::TooLong;
     }
-    out[0] = 0x44;
-    out[1] = 0x20;
-    out[2] = 0x30;
-    out[3] = 0x20;
-    4
+    Measured::Fits(Size {
+        objects: objects,
+        bytes: n + bytes,
+    })
 }
 
-// Copies n bytes from a place of a buffer to a later one.
-fn copy_within(out: &mut [u8], from: usize, to: usize, n: usize)
-    requires { ⌜ from + n ≤ to ⌝ }
-    requires { ⌜ to + n ≤ length (now out) ⌝ }
-    ensures { λ _. ⌜ now (out .exit) ≡ take to (now (out .entry)) ++ (part (now (out .entry)) from n ++ drop (to + n) (now (out .entry))) ⌝ }
+// Adds up the listing's length, as long as it is no more than `most`.
+pub fn measure(img: &[u8], work: &mut [u32], d: Directory, most: usize) -> Measured
+    requires { ⌜ DirectoryListed d (now img) (now work) ⌝ }
+    requires { ⌜ entryRules (entriesOf d (now img)) ≡ true ⌝ }
+    requires { ⌜ treeRules (entriesOf d (now img)) ≡ true ⌝ }
+    requires { ⌜ 2 * countOf d ≤ d .list ⌝ }
+    requires { ⌜ countOf d ≤ 0x100_0000 ⌝ }
+    ensures answer { λ r. ⌜ r ≡ measureOf most (entriesOf d (now (img .entry))) ⌝ }
+    ensures wrote { λ _. ⌜ Wrote (now (work .entry)) (now (work .exit)) 0 (2 * countOf d) ⌝ }
 {
-    let mut i = 0;
-    while i < n {
-        out[to + i] = out[from + i];
-        i += 1;
+    let top = child_of(img, work, d, EntryId::ROOT);
+    let mut n = push(img, work, d, 0, top, 0);
+    let mut objects = 0;
+    let mut bytes = 0;
+    while n > 0 {
+        n -= 1;
+        let q = pair_at(work, n);
+        let k = line_length(img, place(work, d, q.entry), q.parent as usize);
+        if most - bytes < k {
+            return Measured::TooLong;
+        }
+        bytes += k;
+        objects += 1;
+        n = turn(img, work, d, n);
     }
+    with_first(objects, bytes, most)
 }
 
-// Copies a parent's path of so many bytes to a later place, and writes a slash behind it; of the root's, 0, nothing. Returns how many bytes that takes.
-fn put_before(out: &mut [u8], at: usize, from: usize, parent: usize) -> usize
-    requires { ⌜ from + parent ≤ at ⌝ }
-    requires { ⌜ at + beforeLength parent ≤ length (now out) ⌝ }
-    ensures { λ r. ⌜ r ≡ beforeLength parent ⌝ }
-    ensures { λ _. ⌜ now (out .exit) ≡ take at (now (out .entry)) ++ (before parent (drop from (now (out .entry))) ++ drop (at + beforeLength parent) (now (out .entry))) ⌝ }
+// ---- the text
+
+// Writes the first line, and returns how many bytes it takes.
+fn put_first(out: &mut [u8], objects: usize) -> usize
+    requires { ⌜ length (firstLine objects) ≤ length (now out) ⌝ }
+    ensures count { λ r. ⌜ r ≡ length (firstLine objects) ⌝ }
+    ensures written { λ _. ⌜ now (out .exit) ≡ over (firstLine objects) (now (out .entry)) ⌝ }
 {
-    if parent == 0 {
-        return 0;
+    put_number_line(out, b"objects ", objects as u64)
+}
+
+// Writes the listing, which the out buffer has room for. A line's parent path is copied from the line before, whose path begins with it.
+pub fn write(img: &[u8], work: &mut [u32], d: Directory, objects: usize, out: &mut [u8])
+    requires { ⌜ DirectoryListed d (now img) (now work) ⌝ }
+    requires { ⌜ entryRules (entriesOf d (now img)) ≡ true ⌝ }
+    requires { ⌜ treeRules (entriesOf d (now img)) ≡ true ⌝ }
+    requires { ⌜ 2 * countOf d ≤ d .list ⌝ }
+    requires { ⌜ countOf d ≤ 0x100_0000 ⌝ }
+    requires { ⌜ objects ≡ length (entries (forest (entriesOf d (now img)))) ⌝ }
+    requires { ⌜ length (listing (entriesOf d (now img))) ≤ length (now out) ⌝ }
+    ensures written { λ _. ⌜ now (out .exit) ≡ over (listing (entriesOf d (now (img .entry)))) (now (out .entry)) ⌝ }
+    ensures wrote { λ _. ⌜ Wrote (now (work .entry)) (now (work .exit)) 0 (2 * countOf d) ⌝ }
+{
+    let mut at = put_first(out, objects);
+    let mut from = 0;
+    let top = child_of(img, work, d, EntryId::ROOT);
+    let mut n = push(img, work, d, 0, top, 0);
+    while n > 0 {
+        n -= 1;
+        let q = pair_at(work, n);
+        let p = place(work, d, q.entry);
+        let parent = q.parent as usize;
+        from = put_line(out, at, img, p, from, parent);
+        at += line_length(img, p, parent);
+        n = turn(img, work, d, n);
     }
-    copy_within(out, from, at, parent);
-    out[at + parent] = 0x2F;
-    parent + 1
-}
-
-// Writes the line of the entry at p from `at` on. Its parent's path stands in the buffer already, from `from` on: so many bytes; 0 is the root's.
-// Returns where the line's own path starts.
-pub fn put_line(
-    out: &mut [u8],
-    at: usize,
-    img: &[u8],
-    p: usize,
-    from: usize,
-    parent: usize,
-) -> usize
-    requires { ⌜ NamedAt (now img) p ⌝ }
-    requires { ⌜ from + parent ≤ at ⌝ }
-    requires { ⌜ at + lineLength (entryAt (now img) p) parent ≤ length (now out) ⌝ }
-    ensures { λ r. ⌜ r ≡ at + length (head (entryAt (now (img .entry)) p)) ⌝ }
-    ensures { λ _. ⌜ now (out .exit) ≡ take at (now (out .entry)) ++ (line (entryAt (now (img .entry)) p) (before parent (drop from (now (out .entry))) ++ printName (name (entryAt (now (img .entry)) p))) ++ drop (at + lineLength (entryAt (now (img .entry)) p) parent) (now (out .entry))) ⌝ }
-{
-    let start = at + put_head(&mut out[at..], img, p);
-    let end = start + put_before(out, start, from, parent);
-    let n = put_name(&mut out[end..], img, p);
-    out[end + n] = 0x0A;
-    start
 }

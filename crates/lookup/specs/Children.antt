@@ -1,10 +1,16 @@
--- What an answer about the child of a name says.
+-- The child of a name among siblings, and what an answer about it says.
+use Prim.Native.Nat.{ℕ}
+use Rattle.format.specs.Layout.Name.{Name}
 use Rattle.format.specs.Layout.Directory.{Directory}
-use Rattle.format.specs.Calls.Find.{Child, missing, present}
+use Rattle.format.specs.Calls.Find.{Child, missing, present, childNamed}
 use Rattle.theory.specs.TreeViews.{childOf, at}
 use Rattle.lookup.specs.declared.Child.{Child as Answer}
 use Rattle.lookup.specs.declared.Child.the-variants.{Missing, Present}
 
-abbrev pub childOf-answer : Directory → Answer → Child
-childOf-answer e Missing = missing
-childOf-answer e (Present x) = present (x .0) (at e (childOf e (x .0)))
+-- the child of a name in the tree that `top` names
+abbrev pub childAmong : Directory → Name → ℕ → Child
+childAmong e want top = childNamed e want (at e top)
+
+abbrev pub answerOf : Directory → Answer → Child
+answerOf e Missing = missing
+answerOf e (Present x) = present (x .0) (at e (childOf e (x .0)))

@@ -1,10 +1,8 @@
 // One name in the trees of a validated directory: the child of a storage.
 ghost use mathlib.Core.Path.{_≡_};
-ghost use Rattle.format.specs.Calls.Find.{childNamed};
-ghost use Rattle.theory.specs.TreeViews.{at};
 ghost use Rattle.theory.specs.TreeFind.{Searchable};
-ghost use Rattle.directory.specs.Listed.{entriesOf, Listed, Ruled};
-ghost use Rattle.lookup.specs.Children.{childOf-answer};
+ghost use Rattle.directory.specs.Listed.{entriesOf, DirectoryListed, Ruled};
+ghost use Rattle.lookup.specs.Children.{childAmong, answerOf};
 use directory::Directory;
 use directory::left_of;
 use directory::order_to;
@@ -19,10 +17,10 @@ pub enum Child {
 
 // The child of a name among the siblings whose tree `top` names: at each entry the name's order says which side may have it.
 pub fn find_child(want: &[u16], img: &[u8], work: &[u32], d: Directory, top: EntryId) -> Child
-    requires { ⌜ Listed d (now img) (now work) ⌝ }
+    requires { ⌜ DirectoryListed d (now img) (now work) ⌝ }
     requires { ⌜ Ruled (entriesOf d (now img)) ⌝ }
     requires { ⌜ Searchable (entriesOf d (now img)) (top .0) ⌝ }
-    ensures { λ r. ⌜ childOf-answer (entriesOf d (now (img .entry))) r ≡ childNamed (entriesOf d (now (img .entry))) (now (want .entry)) (at (entriesOf d (now (img .entry))) (top .0)) ⌝ }
+    ensures { λ r. ⌜ answerOf (entriesOf d (now (img .entry))) r ≡ childAmong (entriesOf d (now (img .entry))) (now (want .entry)) (top .0) ⌝ }
 {
     let mut x = top;
     loop {

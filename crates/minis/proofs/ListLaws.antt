@@ -13,17 +13,17 @@ use Rattle.format.specs.Layout.Tables.{cellIn, cellPlaceIn}
 use Rattle.format.specs.Layout.Volume.{miniCells, miniSpace}
 use Rattle.kinds.specs.Sizes.{geometryOf}
 use Rattle.theory.proofs.Scale.{scale-div, scale-mod, scale-below}
-use Rattle.tables.specs.Sized.{wordIn}
+use Rattle.tables.specs.Words.{wordIn}
 use Rattle.tables.specs.Work.{Wrote}
 use Rattle.tables.proofs.Places.{cells-some, cells-bytes, cells-short as short}
 use Rattle.tables.proofs.WorkLaws.{wrote-none, wrote-set}
-use Rattle.minis.specs.Listed.{Listed}
+use Rattle.minis.specs.Listed.{MiniListed, minisOf}
 use Rattle.minis.specs.declared.Minis.{Minis}
 
 -- ---- the list stays
 
-module _ {t : Minis} {img : Bytes} {w w′ : List ℕ} {at m : ℕ} (l : Listed t img w) (r : Wrote w w′ at m) where
-  still : (at + m ≤ t .list) ⊎ (t .list + t .sectors ≤ at) → Listed t img w′
+module _ {t : Minis} {img : Bytes} {w w′ : List ℕ} {at m : ℕ} (l : MiniListed t img w) (r : Wrote w w′ at m) where
+  still : (at + m ≤ t .list) ⊎ (t .list + t .sectors ≤ at) → MiniListed t img w′
   still d =
       record {
         sized = l .sized;
@@ -41,14 +41,14 @@ module _ {t : Minis} {img : Bytes} {w w′ : List ℕ} {at m : ℕ} (l : Listed 
       apart k h (inr q) = inl (omega arith)
 
   -- where only what stands before it changes
-  pub listed-kept : at + m ≤ t .list → Listed t img w′
+  pub listed-kept : at + m ≤ t .list → MiniListed t img w′
   listed-kept h = still (inl h)
 
-module _ {t : Minis} {img : Bytes} {w : List ℕ} (l : Listed t img w) where
+module _ {t : Minis} {img : Bytes} {w : List ℕ} (l : MiniListed t img w) where
   abbrev g : Geometry
   g = geometryOf (t .geometry)
 
-  pub listed-set : (u v : ℕ) → u < t .units → Listed t img (set w u v)
+  pub listed-set : (u v : ℕ) → u < t .units → MiniListed t img (set w u v)
   listed-set u v h =
       let k : Wrote w (set w u v) 0 (t .units) = wrote-set u v (wrote-none w 0 _) (omega arith) (omega arith) in
       listed-kept l k (omega (arith, l .apart))
@@ -56,10 +56,10 @@ module _ {t : Minis} {img : Bytes} {w : List ℕ} (l : Listed t img w) where
   -- ---- bounds
 
   -- no mini sector has one of the special values for its number
-  pub units-few : miniSpace g img .limit ≤ 0x400_0000
+  pub units-few : minisOf t img .limit ≤ 0x400_0000
   units-few = omega (arith, l .counts .count, l .counts .few, l .sized .short)
 
-  pub units-in-work : miniSpace g img .limit ≤ length w
+  pub units-in-work : minisOf t img .limit ≤ length w
   units-in-work = omega (arith, l .counts .count, l .apart, l .room)
 
   -- every mini sector has a cell
@@ -76,7 +76,7 @@ module _ {t : Minis} {img : Bytes} {w : List ℕ} (l : Listed t img w) where
     pub cell-sector : m / cellsIn g < t .sectors
     cell-sector = let c = cells-some (l .sized) in scale-below (cellsIn g) (t .sectors) m (omega arith) h
 
-    pub cell-is : miniSpace g img .cell m ≡ wordIn g img (getD w (t .list + m / cellsIn g) 0) (m % cellsIn g)
+    pub cell-is : minisOf t img .cell m ≡ wordIn g img (getD w (t .list + m / cellsIn g) 0) (m % cellsIn g)
     unfolding miniSpace miniCells cellIn cellPlaceIn placeIn wordIn
     cell-is =
         let s : m < cellsIn g * miniFatCount img = rw (← l .sectors) h in

@@ -5,7 +5,7 @@ use mathlib.Core.Bool.{true}
 use mathlib.Core.List.{List}
 use native.Mathlib.Omega.{arith}
 use lib.ListN.{getD}
-use Rattle.format.specs.Basics.Bytes.{Bytes, u32at}
+use Rattle.format.specs.Basics.Bytes.{Bytes}
 use Rattle.format.specs.Layout.Geometry.{Geometry, sectorCount}
 use Rattle.format.specs.Layout.Chain.{chain, units}
 use Rattle.format.specs.Layout.Header.{miniFatStart, miniFatCount}
@@ -15,18 +15,10 @@ use Rattle.kinds.specs.Sizes.{geometryOf}
 use Rattle.theory.proofs.Counts.{count-at}
 use Rattle.theory.proofs.Chains.{length-units, chain-linked, linked-below, chain-short}
 use Rattle.tables.specs.Work.{Wrote, Holds}
-use Rattle.tables.specs.Listed.{Listed as FatListed}
+use Rattle.tables.specs.Listed.{FatListed}
 use Rattle.tables.specs.declared.Tables.{Tables}
 use Rattle.chains.specs.Answers.{unitAt}
-use Rattle.minis.specs.Listed.{MiniCounts, minisAt, Listed}
-
-pub count-is : (img : Bytes) → miniFatCount img ≡ u32at img 64
-unfolding miniFatCount
-count-is img = refl
-
-start-is : (img : Bytes) → miniFatStart img ≡ u32at img 60
-unfolding miniFatStart
-start-is img = refl
+use Rattle.minis.specs.Listed.{MiniCounts, minisAt, MiniListed}
 
 sectors-are : (g : Geometry) (img : Bytes) → miniFatSectors g img ≡ units (fatCell g img) (miniFatCount img) (miniFatStart img)
 unfolding miniFatSectors
@@ -38,35 +30,29 @@ unit-below f limit n s h k l =
     linked-below f limit (units f n s) (chain-linked f limit n s h .0) _ (count-at (units f n s) k 0 (omega (arith, length-units f n s)))
 
 -- what the walk is called with, and what it leaves
-module _ {img : Bytes} {w : List ℕ} (t : Tables) {K : ℕ} (at n s : ℕ) (l : FatListed (geometryOf (t .geometry)) img w (t .sectors) (t .list))
-    (m : MiniCounts (geometryOf (t .geometry)) img K) (e : n ≡ u32at img 64) (d : s ≡ u32at img 60) where
+module _ {img : Bytes} {w : List ℕ} (t : Tables) {K : ℕ} (at n s : ℕ) (l : FatListed t img w)
+    (m : MiniCounts (geometryOf (t .geometry)) img K) (e : n ≡ miniFatCount img) (d : s ≡ miniFatStart img) where
   abbrev g : Geometry
   g = geometryOf (t .geometry)
 
-  is-count : n ≡ miniFatCount img
-  is-count = rw count-is e
-
-  is-start : s ≡ miniFatStart img
-  is-start = rw start-is d
-
   pub listing-chain : chain (fatCell g img) (sectorCount g img) n s ≡ true
-  listing-chain = rw (is-count, is-start) (m .chained)
+  listing-chain = rw (e, d) (m .chained)
 
   pub listing-room : at + miniFatCount img ≤ t .list → at + n ≤ t .list
-  listing-room r = rw is-count r
+  listing-room r = rw e r
 
   units-are : units (fatCell g img) n s ≡ miniFatSectors g img
-  units-are = rw (is-count, is-start, sectors-are)
+  units-are = rw (e, d, sectors-are)
 
   pub listing-at : minisAt t img K at ≡ record { geometry = t .geometry; units = K; sectors = n; list = at }
-  listing-at = rw is-count
+  listing-at = rw e
 
-  pub listing-left : {w′ : List ℕ} → K ≤ at → Holds w′ at n (unitAt (units (fatCell g img) n s)) → Listed (record { geometry = t .geometry; units = K; sectors = n; list = at }) img w′
+  pub listing-left : {w′ : List ℕ} → K ≤ at → Holds w′ at n (unitAt (units (fatCell g img) n s)) → MiniListed (record { geometry = t .geometry; units = K; sectors = n; list = at }) img w′
   listing-left a h =
       record {
         sized = l .sized;
         counts = m;
-        sectors = is-count;
+        sectors = e;
         small = chain-short (fatCell g img) (sectorCount g img) (omega (arith, l .sized .few)) n s listing-chain;
         apart = a;
         room = h .room;
@@ -75,4 +61,4 @@ module _ {img : Bytes} {w : List ℕ} (t : Tables) {K : ℕ} (at n s : ℕ) (l :
       }
 
   pub listing-wrote : {w′ : List ℕ} → Wrote w w′ at n → Wrote w w′ at (miniFatCount img)
-  listing-wrote r = rw (← is-count) r
+  listing-wrote r = rw (← e) r

@@ -1,18 +1,25 @@
 -- The mini FAT's sectors stand listed in the work buffer, so that every cell can be looked up at once.
 use Prim.Native.Nat.{ℕ, _+_, _*_, _/_, _≤_, _<_}
 use mathlib.Core.Path.{_≡_}
-use mathlib.Core.Bool.{true}
+use mathlib.Core.Bool.{Bool, true, _&&_}
 use mathlib.Core.List.{List}
 use lib.ListN.{length, getD}
 use Rattle.format.specs.Basics.Bytes.{Bytes}
+use Rattle.format.specs.Basics.Lists.{allBelow}
 use Rattle.format.specs.Layout.Geometry.{Geometry, sectorCount, cellsIn}
 use Rattle.format.specs.Layout.Chain.{chain}
+use Rattle.format.specs.Layout.Space.{Space}
 use Rattle.format.specs.Layout.Header.{miniFatCount, miniFatStart}
 use Rattle.format.specs.Layout.Tables.{fatCell}
 use Rattle.format.specs.Layout.Volume.{miniFatSectors, miniSpace}
+use Rattle.format.specs.Rules.Cells.{restFree}
+use Rattle.format.specs.Rules.Mini.{miniCellRight}
+use Rattle.theory.specs.Marks.{marks, Closed}
 use Rattle.kinds.specs.Sizes.{geometryOf}
-use Rattle.tables.specs.Sized.{ImageSized}
+use Rattle.header.specs.Sized.{ImageSized}
 use Rattle.tables.specs.declared.Tables.{Tables}
+use Rattle.chains.specs.Answers.{ChainWalked}
+use Rattle.chains.specs.declared.Marked.{Marked}
 use Rattle.minis.specs.declared.Minis.{Minis}
 
 -- K mini sectors, no more than an image has place for or the mini FAT has cells for; the mini FAT is a chain
@@ -26,8 +33,12 @@ pub record MiniCounts (g : Geometry) (img : Bytes) (units : ℕ) : Type 0 where
 abbrev pub minisAt : Tables → Bytes → ℕ → ℕ → Minis
 minisAt t img units at = record { geometry = t .geometry; units = units; sectors = miniFatCount img; list = at }
 
+-- the space of mini sectors
+abbrev pub minisOf : Minis → Bytes → Space
+minisOf t img = miniSpace (geometryOf (t .geometry)) img
+
 -- the list stands behind the marks of the mini sectors
-pub record Listed (t : Minis) (img : Bytes) (work : List ℕ) : Type 0 where
+pub record MiniListed (t : Minis) (img : Bytes) (work : List ℕ) : Type 0 where
   pub sized : ImageSized (geometryOf (t .geometry)) img
   pub counts : MiniCounts (geometryOf (t .geometry)) img (t .units)
   pub sectors : t .sectors ≡ miniFatCount img
@@ -36,3 +47,23 @@ pub record Listed (t : Minis) (img : Bytes) (work : List ℕ) : Type 0 where
   pub room : t .list + t .sectors ≤ length work
   pub here : (k : ℕ) → k < t .sectors → getD work (t .list + k) 0 ≡ getD (miniFatSectors (geometryOf (t .geometry)) img) k 0
   pub below : (k : ℕ) → k < t .sectors → getD (miniFatSectors (geometryOf (t .geometry)) img) k 0 < sectorCount (geometryOf (t .geometry)) img
+
+-- ---- marks
+
+-- the marks of mini sectors agree with the mini FAT
+abbrev pub MinisClosed : Minis → Bytes → List ℕ → Type 0
+MinisClosed t img work = Closed (minisOf t img .cell) (minisOf t img .limit) (marks work)
+
+-- and its sectors stand listed: chains may be marked
+pub record MiniMarks (t : Minis) (img : Bytes) (work : List ℕ) : Type 0 where
+  pub listed : MiniListed t img work
+  pub closed : MinisClosed t img work
+
+abbrev pub MinisWalked : Minis → Bytes → ℕ → ℕ → List ℕ → List ℕ → Marked → Type 0
+MinisWalked t img n s before after a = ChainWalked (minisOf t img .cell) (minisOf t img .limit) n s before after a
+
+-- ---- rules
+
+-- the rules of group 16 on the values of cells
+abbrev pub cellsRight : Space → Bool
+cellsRight sp = allBelow (sp .limit) (miniCellRight sp) && restFree sp

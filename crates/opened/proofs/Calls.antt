@@ -22,7 +22,7 @@ use Rattle.history.specs.Step.{CallStep}
 use Rattle.history.proofs.Answers.{verdict-accepted}
 use Rattle.history.proofs.Demand.{call-step}
 use Rattle.kinds.specs.Sizes.{geometryOf}
-use Rattle.kinds.specs.declared.Answer.{Answer}
+use Rattle.kinds.specs.declared.Refusal.{Refusal}
 use Rattle.tables.specs.Work.{Wrote}
 use Rattle.volume.specs.Opened.{OpenedRight}
 use Rattle.volume.specs.declared.Volume.{Volume}
@@ -118,5 +118,5 @@ module _ (g : Geometry) (img : Bytes) (w w₁ : List ℕ) (r : Opened) (o : Open
   pub opening-ready : {v : Volume} → r ≡ Ready v → OpeningRight g img w w₁ (Ready v)
   opening-ready e = subst (λ y. OpeningRight g img w w₁ y) e o
 
-  pub opening-refused : {a : Answer} → r ≡ Refused a → OpenedRight g img w w₁ (Refused a)
+  pub opening-refused : {a : Refusal} → r ≡ Refused a → OpenedRight g img w w₁ (Refused a)
   opening-refused e = subst (λ y. OpeningRight g img w w₁ y) e o

@@ -20,11 +20,11 @@ use Rattle.theory.proofs.Tests.{both}
 use Rattle.frame.specs.Edits.{Preserved}
 use Rattle.frame.specs.Groups.{ImageGroups}
 use Rattle.kinds.specs.Sizes.{geometryOf}
-use Rattle.tables.specs.Sized.{ImageSized, F, D}
-use Rattle.tables.specs.Listed.{Listed}
-use Rattle.directory.specs.Listed.{Listed as DirectoryListed}
+use Rattle.header.specs.Sized.{ImageSized, F, D}
+use Rattle.tables.specs.Listed.{FatListedAt}
+use Rattle.directory.specs.Listed.{DirectoryListed}
 use Rattle.directory.specs.declared.Directory.{Directory}
-use Rattle.minis.specs.Listed.{Listed as MiniListed}
+use Rattle.minis.specs.Listed.{MiniListed}
 use Rattle.minis.specs.declared.Minis.{Minis}
 use Rattle.volume.specs.Passed.{MiniRoom}
 use Rattle.volume.specs.Opened.{Readied}
@@ -69,7 +69,7 @@ module _ {g : Geometry} {a b : Bytes} (k : Preserved g a b) where
   unfolding fatSectors fatCount
   entry-same i h = sym (getD-below (F b) (difatEntry g b) i 0 (omega (arith, fats-same))) ∙ ap (λ l. getD l i 0) fat-same ∙ getD-below (F a) (difatEntry g a) i 0 h
 
-  pub fat-listed : {w : List ℕ} {n list : ℕ} → Listed g a w n list → Listed g b w n list
+  pub fat-listed : {w : List ℕ} {n list : ℕ} → FatListedAt g a w n list → FatListedAt g b w n list
   fat-listed l =
       record {
         sized = sized-same (l .sized);

@@ -1,6 +1,5 @@
 -- What opening gives and leaves: the answer of a validation, and where that is 0 an opened volume.
 use mathlib.Core.Path.{_≡_}
-use mathlib.Core.Logic.{_≢_}
 use mathlib.Core.List.{List}
 use Prim.Native.Nat.{ℕ}
 use lib.ListN.{length}
@@ -8,7 +7,7 @@ use Rattle.format.specs.Basics.Bytes.{Bytes}
 use Rattle.format.specs.Layout.Geometry.{Geometry}
 use Rattle.format.specs.Rules.Length.{workNeed}
 use Rattle.format.specs.Rules.Verdict.{verdict}
-use Rattle.kinds.specs.Numbers.{numberOf}
+use Rattle.kinds.specs.Numbers.{refusalNumber}
 use Rattle.tables.specs.Work.{Wrote}
 use Rattle.volume.specs.Opened.{workLeft}
 use Rattle.volume.specs.declared.Opened.{Opened}
@@ -17,5 +16,5 @@ use Rattle.opened.specs.OpenVolume.{OpenVolume}
 
 abbrev pub OpeningRight : Geometry → Bytes → List ℕ → List ℕ → Opened → Type 0
 OpeningRight g img before after (Refused a) =
-    (numberOf a ≡ verdict g img (length before)) × ((verdict g img (length before) ≢ 0) × (after ≡ workLeft (verdict g img (length before)) img before))
+    (refusalNumber a ≡ verdict g img (length before)) × (after ≡ workLeft (verdict g img (length before)) img before)
 OpeningRight g img before after (Ready v) = (verdict g img (length before) ≡ 0) × (OpenVolume g v img after × Wrote before after 0 (workNeed (length img)))

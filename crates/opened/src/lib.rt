@@ -13,6 +13,7 @@ ghost use Rattle.opened.specs.OpenVolume.{OpenVolume};
 ghost use Rattle.opened.specs.Opening.{OpeningRight};
 use edits::overwrite::overwrite_in;
 use edits::resize::set_length_in;
+use header::work_need;
 use kinds::Answer;
 use le::zero_first;
 use queries::find::Find;
@@ -21,7 +22,6 @@ use queries::list::List;
 use queries::list::list_in;
 use queries::read::Read;
 use queries::read::read_in;
-use tables::work_need;
 use volume::Opened;
 use volume::Volume;
 use volume::open_volume;
@@ -89,15 +89,15 @@ pub fn set_length_opened(
     work: &mut [u32],
     v: Volume,
     path: &[u16],
-    new: u64,
+    new_len: u64,
 ) -> Answer
     requires { ⌜ OpenVolume version3 v (now image) (now work) ⌝ }
-    ensures { λ r. ⌜ plain (numberOf r) ≡ reply version3 (now (image .entry)) (lengthCall (now (path .entry)) new (now (work .entry))) ⌝ }
-    ensures { λ _. ⌜ now (image .exit) ≡ imageAfter version3 (now (image .entry)) (lengthCall (now (path .entry)) new (now (work .entry))) ⌝ }
+    ensures { λ r. ⌜ plain (numberOf r) ≡ reply version3 (now (image .entry)) (lengthCall (now (path .entry)) «new_len» (now (work .entry))) ⌝ }
+    ensures { λ _. ⌜ now (image .exit) ≡ imageAfter version3 (now (image .entry)) (lengthCall (now (path .entry)) «new_len» (now (work .entry))) ⌝ }
     ensures { λ _. ⌜ OpenVolume version3 v (now (image .exit)) (now (work .exit)) ⌝ }
     ensures { λ _. ⌜ Wrote (now (work .entry)) (now (work .exit)) 0 (workNeed (length (now (image .entry)))) ⌝ }
 {
-    set_length_in(path, image, work, v, new)
+    set_length_in(path, image, work, v, new_len)
 }
 
 // A line for each object, in an out buffer that has room for all of them.

@@ -8,7 +8,7 @@ use Rattle.format.specs.Calls.Paths.{Path}
 use Rattle.format.specs.Calls.Call.{Call, validate, find, read, overwrite, setLength, list}
 use Rattle.format.specs.Calls.Reply.{plain, reply}
 use Rattle.format.specs.Calls.Buffers.{workAfter}
-use Rattle.kinds.specs.Numbers.{numberOf}
+use Rattle.kinds.specs.Numbers.{numberOf, refusalNumber}
 use Rattle.queries.specs.Replies.{findReply, readReply, listReply}
 use Rattle.opened.specs.Sequence.{Given, plainGiven, plainImage, plainWork}
 use Rattle.opened_run.specs.declared.Steps.{Steps}
@@ -44,7 +44,7 @@ accepted = record { reply = plain 0; out = [] }
 -- refused: what a validation that refuses gives and leaves. Made: what a validation and then the calls give and leave
 abbrev pub RowRight : List Call → Buffers → Buffers → Outcome → Type 0
 RowRight calls before after (Refused a) =
-    (plain (numberOf a) ≡ reply version3 (before .image) (validate (before .work)))
+    (plain (refusalNumber a) ≡ reply version3 (before .image) (validate (before .work)))
     × ((after .image ≡ before .image)
     × ((after .work ≡ workAfter version3 (before .image) (validate (before .work)))
     × ((after .out ≡ before .out) × (after .text ≡ before .text))))

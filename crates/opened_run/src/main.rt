@@ -5,7 +5,9 @@ ghost use Rattle.opened.specs.OpenVolume.{OpenVolume};
 ghost use Rattle.opened.specs.Sequence.{OpenedCalls};
 ghost use Rattle.opened_run.specs.Row.{rowCalls, rowGiven, RowRight};
 use kinds::Answer;
+use kinds::Refusal;
 use kinds::number;
+use kinds::refusal_number;
 use opened::close;
 use opened::find_opened;
 use opened::list_opened;
@@ -31,7 +33,7 @@ struct Steps {
 }
 
 enum Outcome {
-    Refused(Answer),
+    Refused(Refusal),
     Made(Steps),
 }
 
@@ -136,24 +138,25 @@ fn print_find(f: Find) {
             let x = e.id;
             io::write_all(1, b"find 0");
             print_next(x.0 as u64);
-            print_next(e.kind as u64);
+            let t = e.entry_type;
+            print_next(t.0 as u64);
             print_line(b"", e.size);
         }
-        Find::Refused(a) => print_line(b"find", number(a) as u64),
+        Find::Refused(a) => print_line(b"find", refusal_number(a) as u64),
     }
 }
 
 fn print_read(r: Read) {
     match r {
         Read::Done(n) => print_line(b"read 0", n as u64),
-        Read::Refused(a) => print_line(b"read", number(a) as u64),
+        Read::Refused(a) => print_line(b"read", refusal_number(a) as u64),
     }
 }
 
 fn print_list(r: List) {
     match r {
         List::Done(n) => print_line(b"list 0", n as u64),
-        List::Refused(a) => print_line(b"list", number(a) as u64),
+        List::Refused(a) => print_line(b"list", refusal_number(a) as u64),
     }
 }
 
@@ -172,7 +175,7 @@ fn print_steps(s: Steps) {
 
 fn print_outcome(r: Outcome) {
     match r {
-        Outcome::Refused(a) => print_line(b"refused", number(a) as u64),
+        Outcome::Refused(a) => print_line(b"refused", refusal_number(a) as u64),
         Outcome::Made(s) => print_steps(s),
     }
 }

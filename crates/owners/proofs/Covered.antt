@@ -13,7 +13,7 @@ use Rattle.format.specs.Layout.Tables.{fatCell, fatSectors, difatSectors}
 use Rattle.format.specs.Rules.Tables.{tableRules}
 use Rattle.theory.specs.Marks.{marks, covered}
 use Rattle.theory.proofs.OwnerMarks.{member-append}
-use Rattle.tables.specs.Sized.{ImageSized}
+use Rattle.header.specs.Sized.{ImageSized}
 use Rattle.directory.proofs.Room.{marks-at}
 
 -- a unit with no others beside it

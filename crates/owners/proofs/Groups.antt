@@ -24,9 +24,10 @@ use Rattle.theory.specs.Marks.{Owning, covered}
 use Rattle.theory.proofs.Counts.{count-append}
 use Rattle.theory.proofs.OwnerMarks.{owners-by-marks}
 use Rattle.theory.proofs.Tests.{leb-not, below-ext, below-both}
-use Rattle.tables.specs.Sized.{ImageSized}
+use Rattle.header.specs.Sized.{ImageSized}
 use Rattle.directory.proofs.Room.{table-once, unmarked}
-use Rattle.owners.specs.Streams.{largeRight, smallRight, systemChains}
+use Rattle.system_chains.specs.System.{systemChains}
+use Rattle.owners.specs.Streams.{largeRight, smallRight}
 
 -- ---- group 17: the chains of the large streams and those of the small ones
 

@@ -1,9 +1,10 @@
 -- One entry: what the code reads of it, and the walk along its stream.
-use Prim.Native.Nat.{ℕ, _<_, _≤_}
+use Prim.Native.Nat.{ℕ, _≤_}
 use mathlib.Core.Path.{_≡_, refl, sym, _∙_, ap}
 use mathlib.Core.Bool.{Bool, true, false, not, cond, _&&_, _||_}
 use mathlib.Core.List.{List, []}
-use lib.Dec.{ltb, leb, eqb}
+use lib.Dec.{ltb, leb}
+use native.Mathlib.Omega.{arith}
 use borrow.Author.Tests.{not-true}
 use Rattle.format.specs.Basics.Bytes.{Bytes}
 use Rattle.format.specs.Layout.Chain.{END}
@@ -11,29 +12,34 @@ use Rattle.format.specs.Layout.Need.{cutoff, roundUp}
 use Rattle.format.specs.Layout.Geometry.{Geometry, miniBytes, sectorCount}
 use Rattle.format.specs.Layout.Tables.{fatCell, sectorSpace}
 use Rattle.format.specs.Layout.Space.{Space, chainFor, unitsFor}
-use Rattle.format.specs.Layout.Entry.{isStream, kind, size, start}
+use Rattle.format.specs.Layout.Entry.{isStream, size, start}
 use Rattle.format.specs.Layout.Volume.{Volume, volume, directory, miniSpace}
 use Rattle.format.specs.Layout.Stream.{spaceFor, streamSize, streamUnits}
 use Rattle.format.specs.Rules.Owners.{ownSectors, ownMinis}
 use Rattle.theory.specs.Marks.{marks, Closed}
 use Rattle.theory.proofs.Tests.{both, leb-not}
-use Rattle.kinds.specs.declared.Geometry.{Geometry as Sizes}
-use Rattle.kinds.specs.Sizes.{geometryOf}
-use Rattle.chains.specs.Answers.{markAnswer, Remarked, ChainsMarked}
+use Rattle.tables.specs.Work.{Wrote}
+use Rattle.chains.specs.Answers.{ChainWalked, ChainsMarked}
 use Rattle.chains.specs.declared.Marked.{Marked}
 use Rattle.chains.specs.declared.Marked.the-variants.{Fresh}
 use Rattle.chains.proofs.Owners.{marked-chain, marked-none}
-use Rattle.entries.specs.Entry.{entryAt}
-use Rattle.directory.specs.Listed.{entriesOf, placeOf, Listed}
-use Rattle.directory.specs.declared.Directory.{Directory as Where}
-use Rattle.directory.proofs.Places.{entry-is}
-use Rattle.owners.specs.Streams.{isLarge, isSmall, largeRight, smallRight}
+use Rattle.directory.specs.declared.Directory.{Directory}
+use Rattle.directory.proofs.Places.{directory-kept}
+use Rattle.minis.specs.Listed.{minisOf}
+use Rattle.minis.specs.declared.Minis.{Minis}
+use Rattle.minis.proofs.ListLaws.{listed-kept}
+use Rattle.owners.specs.Streams.{MiniLists, isLarge, isSmall, largeRight, smallRight}
 
--- the entry that stands at its place
-pub entry-read : {d : Where} {img : Bytes} {work : List ℕ} (g : Sizes) (x p : ℕ) → Listed d img work → d .geometry ≡ g → x < entriesOf d img .count → p ≡ placeOf d work x
-    → entryAt img p ≡ volume (geometryOf g) img .directory .entry x
-unfolding volume
-entry-read {img = img} g x p l e h q = ap (entryAt img) q ∙ sym (entry-is l x h) ∙ ap (λ k. directory (geometryOf k) img .entry x) e
+-- the lists stay where only marks of mini sectors change
+pub mini-lists-kept : {t : Minis} {d : Directory} {img : Bytes} {w w′ : List ℕ} → MiniLists t d img w → Wrote w w′ 0 (minisOf t img .limit) → MiniLists t d img w′
+mini-lists-kept l r =
+    let k = l .minis .counts .count in
+    record {
+      minis = listed-kept (l .minis) r (omega (arith, k, l .minis .apart));
+      directory = directory-kept (l .directory) r (omega (arith, k, l .behind));
+      same = l .same;
+      behind = l .behind;
+    }
 
 -- ---- the units of an entry are those of its chain, in the space that its size says
 
@@ -62,35 +68,35 @@ module _ (v : Volume) (i : ℕ) where
 
 -- ---- the walk along the chain of n bytes from s, where a test asks for one
 
-walked : (sp : Space) (n s : ℕ) {w w′ : List ℕ} {a : Marked} (b : Bool) → b ≡ true → sp .limit ≤ END → a ≡ markAnswer (sp .cell) (sp .limit) (roundUp n (sp .unit)) s (marks w)
-    → Remarked (sp .cell) (sp .limit) (roundUp n (sp .unit)) s w w′ → ChainsMarked sp (not b || chainFor sp n s) (cond b (unitsFor sp n s) []) w w′ a
+walked : (sp : Space) (n s : ℕ) {w w′ : List ℕ} {a : Marked} (b : Bool) → b ≡ true → sp .limit ≤ END → ChainWalked (sp .cell) (sp .limit) (roundUp n (sp .unit)) s w w′ a
+    → ChainsMarked sp (not b || chainFor sp n s) (cond b (unitsFor sp n s) []) w w′ a
 unfolding chainFor unitsFor
-walked sp n s b h l e r = rw h (marked-chain sp (roundUp n (sp .unit)) s l e r)
+walked sp n s b h l r = rw h (marked-chain sp (roundUp n (sp .unit)) s l r)
 
 not-walked : (sp : Space) (n s : ℕ) {w : List ℕ} (b : Bool) → b ≡ false → Closed (sp .cell) (sp .limit) (marks w) → ChainsMarked sp (not b || chainFor sp n s) (cond b (unitsFor sp n s) []) w w Fresh
 not-walked sp n s b h c = rw h (marked-none sp _ c)
 
--- ---- one entry e of an image, of the kind k and the size n as they were read
+-- ---- one entry e of an image: whether it is a stream, and its size, as they were read
 
-module _ (g : Geometry) (img : Bytes) (x : ℕ) {e : Bytes} (k n : ℕ) (h : e ≡ volume g img .directory .entry x) (hk : k ≡ kind e) (hn : n ≡ size e) where
-  pub large-walked : (s : ℕ) {w w′ : List ℕ} {a : Marked} → s ≡ start e → (eqb k 2 && leb 4096 n) ≡ true → sectorCount g img ≤ END
-      → a ≡ markAnswer (fatCell g img) (sectorCount g img) (roundUp n (g .sectorBytes)) s (marks w) → Remarked (fatCell g img) (sectorCount g img) (roundUp n (g .sectorBytes)) s w w′
+module _ (g : Geometry) (img : Bytes) (x : ℕ) {e : Bytes} (b : Bool) (n : ℕ) (h : e ≡ volume g img .directory .entry x) (hb : b ≡ isStream e) (hn : n ≡ size e) where
+  pub large-walked : (s : ℕ) {w w′ : List ℕ} {a : Marked} → s ≡ start e → (b && leb 4096 n) ≡ true → sectorCount g img ≤ END
+      → ChainWalked (fatCell g img) (sectorCount g img) (roundUp n (g .sectorBytes)) s w w′ a
       → ChainsMarked (sectorSpace g img) (largeRight (volume g img) x) (ownSectors (volume g img) x) w w′ a
   unfolding largeRight streamSize cutoff volume sectorSpace
-  large-walked s hs t l q r = rw (large-own (volume g img) x) (rw (hk, hn, hs, h) at (walked (sectorSpace g img) n s (eqb k 2 && leb 4096 n) t l q r))
+  large-walked s hs t l r = rw (large-own (volume g img) x) (rw (hb, hn, hs, h) at (walked (sectorSpace g img) n s (b && leb 4096 n) t l r))
 
-  pub large-not-walked : {w : List ℕ} → (eqb k 2 && leb 4096 n) ≡ false → Closed (fatCell g img) (sectorCount g img) (marks w)
+  pub large-not-walked : {w : List ℕ} → (b && leb 4096 n) ≡ false → Closed (fatCell g img) (sectorCount g img) (marks w)
       → ChainsMarked (sectorSpace g img) (largeRight (volume g img) x) (ownSectors (volume g img) x) w w Fresh
   unfolding largeRight streamSize cutoff volume sectorSpace
-  large-not-walked t c = rw (large-own (volume g img) x) (rw (hk, hn, h) at (not-walked (sectorSpace g img) n (start (volume g img .directory .entry x)) (eqb k 2 && leb 4096 n) t c))
+  large-not-walked t c = rw (large-own (volume g img) x) (rw (hb, hn, h) at (not-walked (sectorSpace g img) n (start (volume g img .directory .entry x)) (b && leb 4096 n) t c))
 
-  pub small-walked : (s : ℕ) {w w′ : List ℕ} {a : Marked} → s ≡ start e → (eqb k 2 && ltb n 4096) ≡ true → miniSpace g img .limit ≤ END
-      → a ≡ markAnswer (miniSpace g img .cell) (miniSpace g img .limit) (roundUp n miniBytes) s (marks w) → Remarked (miniSpace g img .cell) (miniSpace g img .limit) (roundUp n miniBytes) s w w′
+  pub small-walked : (s : ℕ) {w w′ : List ℕ} {a : Marked} → s ≡ start e → (b && ltb n 4096) ≡ true → miniSpace g img .limit ≤ END
+      → ChainWalked (miniSpace g img .cell) (miniSpace g img .limit) (roundUp n miniBytes) s w w′ a
       → ChainsMarked (miniSpace g img) (smallRight (volume g img) x) (ownMinis (volume g img) x) w w′ a
   unfolding smallRight streamSize cutoff volume miniSpace
-  small-walked s hs t l q r = rw (small-own (volume g img) x) (rw (hk, hn, hs, h) at (walked (miniSpace g img) n s (eqb k 2 && ltb n 4096) t l q r))
+  small-walked s hs t l r = rw (small-own (volume g img) x) (rw (hb, hn, hs, h) at (walked (miniSpace g img) n s (b && ltb n 4096) t l r))
 
-  pub small-not-walked : {w : List ℕ} → (eqb k 2 && ltb n 4096) ≡ false → Closed (miniSpace g img .cell) (miniSpace g img .limit) (marks w)
+  pub small-not-walked : {w : List ℕ} → (b && ltb n 4096) ≡ false → Closed (miniSpace g img .cell) (miniSpace g img .limit) (marks w)
       → ChainsMarked (miniSpace g img) (smallRight (volume g img) x) (ownMinis (volume g img) x) w w Fresh
   unfolding smallRight streamSize cutoff volume
-  small-not-walked t c = rw (small-own (volume g img) x) (rw (hk, hn, h) at (not-walked (miniSpace g img) n (start (volume g img .directory .entry x)) (eqb k 2 && ltb n 4096) t c))
+  small-not-walked t c = rw (small-own (volume g img) x) (rw (hb, hn, h) at (not-walked (miniSpace g img) n (start (volume g img .directory .entry x)) (b && ltb n 4096) t c))

@@ -1,20 +1,12 @@
 // Groups 17 and 18 in each space: the chains of its streams, and the owners of its units.
 ghost use mathlib.Core.Path.{_≡_};
 ghost use mathlib.Core.Bool.{true};
-ghost use Prim.Native.Nat.{_≤_};
-ghost use Rattle.format.specs.Basics.Lists.{allBelow};
-ghost use Rattle.format.specs.Layout.Geometry.{sectorCount};
-ghost use Rattle.format.specs.Layout.Tables.{fatCell, sectorSpace};
-ghost use Rattle.format.specs.Layout.Volume.{volume, miniSpace};
 ghost use Rattle.format.specs.Rules.Tables.{tableRules};
-ghost use Rattle.format.specs.Rules.Owners.{ownersIn, ownedSectors, ownedMinis};
-ghost use Rattle.theory.specs.Marks.{marks, Owning};
 ghost use Rattle.kinds.specs.Sizes.{geometryOf};
 ghost use Rattle.tables.specs.Work.{Wrote};
-ghost use Rattle.tables.specs.Listed.{Listed as FatListed};
-ghost use Rattle.directory.specs.Listed.{Listed as DirectoryListed};
-ghost use Rattle.minis.specs.Listed.{Listed as MiniListed};
-ghost use Rattle.owners.specs.Streams.{largeRight, smallRight, systemChains, ownersAnswer, isBroken, isRight};
+ghost use Rattle.tables.specs.Views.{sectorCountOf};
+ghost use Rattle.system_chains.specs.System.{SectorLists, SystemOwned};
+ghost use Rattle.owners.specs.Streams.{MiniLists, sectorOwners, miniOwners, isBroken, isRight};
 use super::mark_large_streams;
 use super::mark_small_streams;
 use super::minis_covered;
@@ -55,14 +47,11 @@ impl Owners {
 
 // The sectors. The marks of the system's chains stand already; `shared` says whether two of these share a sector.
 pub fn sectors_owned(img: &[u8], work: &mut [u32], t: Tables, d: Directory, shared: bool) -> Owners
-    requires { ⌜ FatListed (geometryOf (t .geometry)) (now img) (now work) (t .sectors) (t .list) ⌝ }
+    requires { ⌜ SectorLists t d (now img) (now work) ⌝ }
     requires { ⌜ tableRules (geometryOf (t .geometry)) (now img) ≡ true ⌝ }
-    requires { ⌜ DirectoryListed d (now img) (now work) ⌝ }
-    requires { ⌜ d .geometry ≡ t .geometry ⌝ }
-    requires { ⌜ sectorCount (geometryOf (t .geometry)) (now img) ≤ d .list ⌝ }
-    requires { ⌜ Owning (fatCell (geometryOf (t .geometry)) (now img)) (sectorCount (geometryOf (t .geometry)) (now img)) (systemChains (geometryOf (t .geometry)) (now img)) (marks (now work)) shared ⌝ }
-    ensures { λ r. ⌜ r ≡ ownersAnswer (allBelow (volume (geometryOf (t .geometry)) (now (img .entry)) .directory .count) (largeRight (volume (geometryOf (t .geometry)) (now (img .entry))))) (ownersIn (sectorSpace (geometryOf (t .geometry)) (now (img .entry))) (ownedSectors (volume (geometryOf (t .geometry)) (now (img .entry))))) ⌝ }
-    ensures { λ _. ⌜ Wrote (now (work .entry)) (now (work .exit)) 0 (sectorCount (geometryOf (t .geometry)) (now (img .entry))) ⌝ }
+    requires { ⌜ SystemOwned t (now img) (now work) shared ⌝ }
+    ensures answer { λ r. ⌜ r ≡ sectorOwners t (now (img .entry)) ⌝ }
+    ensures wrote { λ _. ⌜ Wrote (now (work .entry)) (now (work .exit)) 0 (sectorCountOf t (now (img .entry))) ⌝ }
 {
     let a = mark_large_streams(img, work, t, d);
     if a.is_broken() {
@@ -77,12 +66,9 @@ pub fn sectors_owned(img: &[u8], work: &mut [u32], t: Tables, d: Directory, shar
 
 // The mini sectors. Their marks are made clear first.
 pub fn minis_owned(img: &[u8], work: &mut [u32], t: Minis, d: Directory) -> Owners
-    requires { ⌜ MiniListed t (now img) (now work) ⌝ }
-    requires { ⌜ DirectoryListed d (now img) (now work) ⌝ }
-    requires { ⌜ d .geometry ≡ t .geometry ⌝ }
-    requires { ⌜ t .units ≤ d .list ⌝ }
-    ensures { λ r. ⌜ r ≡ ownersAnswer (allBelow (volume (geometryOf (t .geometry)) (now (img .entry)) .directory .count) (smallRight (volume (geometryOf (t .geometry)) (now (img .entry))))) (ownersIn (miniSpace (geometryOf (t .geometry)) (now (img .entry))) (ownedMinis (volume (geometryOf (t .geometry)) (now (img .entry))))) ⌝ }
-    ensures { λ _. ⌜ Wrote (now (work .entry)) (now (work .exit)) 0 (t .units) ⌝ }
+    requires { ⌜ MiniLists t d (now img) (now work) ⌝ }
+    ensures answer { λ r. ⌜ r ≡ miniOwners t (now (img .entry)) ⌝ }
+    ensures wrote { λ _. ⌜ Wrote (now (work .entry)) (now (work .exit)) 0 (t .units) ⌝ }
 {
     let n = t.units;
     zero_first(work, n);

@@ -25,7 +25,7 @@ use Rattle.theory.proofs.Trees.Stand.{tree-ind}
 use Rattle.theory.proofs.Trees.Rules.{rules-apart}
 use Rattle.theory.proofs.Trees.Find.{searchable-root, searchable-object}
 use Rattle.theory.proofs.Trees.Paths.{resolve-formed, descend-refused}
-use Rattle.entries.proofs.EntryLaws.{fields-other}
+use Rattle.entry_rules.proofs.Fields.{fields-other}
 use Rattle.paths.specs.Found.{firstName}
 use Rattle.paths.proofs.Splits.{names-none, namesFrom, from-start, from-name, from-end}
 

@@ -7,23 +7,22 @@ ghost use Rattle.format.specs.Layout.Name.{legalName};
 ghost use Rattle.format.specs.Rules.Entries.{entryRules};
 ghost use Rattle.format.specs.Rules.Trees.{treeRules};
 ghost use Rattle.format.specs.Calls.Paths.{wellFormed};
-ghost use Rattle.format.specs.Calls.Find.{enter as enterOf, resolve};
-ghost use Rattle.theory.specs.TreeFind.{reached};
-ghost use Rattle.directory.specs.Listed.{entriesOf, Listed};
-ghost use Rattle.paths.specs.Found.{firstName, foundOf, Inside};
+ghost use Rattle.format.specs.Calls.Find.{resolve};
+ghost use Rattle.directory.specs.Listed.{entriesOf, DirectoryListed};
+ghost use Rattle.paths.specs.Found.{firstName, entered, foundOf, Inside};
 use directory::Directory;
 use directory::child_of;
-use directory::kind_of;
+use directory::type_of;
 use entries::names::legal_unit;
-use kinds::Answer;
 use kinds::EntryId;
+use kinds::Refusal;
 use lookup::Child;
 use lookup::find_child;
 
 // ---- names
 
-// How many units the first name of a path has: those before the first slash.
-fn name_length(path: &[u16]) -> usize
+// How many 16-bit units the first name of a path has: those before the first slash.
+fn first_name_length(path: &[u16]) -> usize
     ensures { λ r. ⌜ r ≡ length (firstName (now (path .entry))) ⌝ }
 {
     let mut i = 0;
@@ -62,7 +61,7 @@ pub fn well_formed(path: &[u16]) -> bool
     }
     let mut i = 0;
     while i <= path.len() {
-        let n = name_length(&path[i..]);
+        let n = first_name_length(&path[i..]);
         if !legal_name(&path[i..i + n]) {
             return false;
         }
@@ -75,37 +74,37 @@ pub fn well_formed(path: &[u16]) -> bool
 
 pub enum Found {
     At(EntryId),
-    Refused(Answer),
+    Refused(Refusal),
 }
 
 // One name further from entry x: the first of the rest of a path.
 fn enter(rest: &[u16], img: &[u8], work: &[u32], d: Directory, x: EntryId) -> Found
-    requires { ⌜ Listed d (now img) (now work) ⌝ }
+    requires { ⌜ DirectoryListed d (now img) (now work) ⌝ }
     requires { ⌜ entryRules (entriesOf d (now img)) ≡ true ⌝ }
     requires { ⌜ treeRules (entriesOf d (now img)) ≡ true ⌝ }
     requires { ⌜ x .0 < entriesOf d (now img) .count ⌝ }
-    ensures { λ r. ⌜ foundOf (entriesOf d (now (img .entry))) r ≡ enterOf (entriesOf d (now (img .entry))) (reached (entriesOf d (now (img .entry))) (x .0)) (firstName (now (rest .entry))) ⌝ }
+    ensures { λ r. ⌜ foundOf (entriesOf d (now (img .entry))) r ≡ entered (entriesOf d (now (img .entry))) (x .0) (now (rest .entry)) ⌝ }
 {
-    if kind_of(img, work, d, x) == 2 {
-        return Found::Refused(Answer::StreamOnTheWay);
+    if type_of(img, work, d, x).is_stream() {
+        return Found::Refused(Refusal::StreamOnTheWay);
     }
-    let n = name_length(rest);
+    let n = first_name_length(rest);
     match find_child(&rest[..n], img, work, d, child_of(img, work, d, x)) {
-        Child::Missing => Found::Refused(Answer::NotFound),
+        Child::Missing => Found::Refused(Refusal::NotFound),
         Child::Present(y) => Found::At(y),
     }
 }
 
 // The entry that a path leads to, or the refusal: a name at a time, the rest of the path handed on from behind the slash.
 pub fn find_entry(path: &[u16], img: &[u8], work: &[u32], d: Directory) -> Found
-    requires { ⌜ Listed d (now img) (now work) ⌝ }
+    requires { ⌜ DirectoryListed d (now img) (now work) ⌝ }
     requires { ⌜ entryRules (entriesOf d (now img)) ≡ true ⌝ }
     requires { ⌜ treeRules (entriesOf d (now img)) ≡ true ⌝ }
-    ensures { λ r. ⌜ foundOf (entriesOf d (now (img .entry))) r ≡ resolve (entriesOf d (now (img .entry))) (now (path .entry)) ⌝ }
-    ensures { λ r. ⌜ Inside (entriesOf d (now (img .entry))) r ⌝ }
+    ensures answer { λ r. ⌜ foundOf (entriesOf d (now (img .entry))) r ≡ resolve (entriesOf d (now (img .entry))) (now (path .entry)) ⌝ }
+    ensures inside { λ r. ⌜ Inside (entriesOf d (now (img .entry))) r ⌝ }
 {
     if !well_formed(path) {
-        return Found::Refused(Answer::BadPath);
+        return Found::Refused(Refusal::BadPath);
     }
     let mut x = EntryId::ROOT;
     if path.len() == 0 {
@@ -122,7 +121,7 @@ pub fn find_entry(path: &[u16], img: &[u8], work: &[u32], d: Directory) -> Found
                 x = y;
             }
         }
-        i += name_length(rest) + 1;
+        i += first_name_length(rest) + 1;
     }
     Found::At(x)
 }

@@ -1,9 +1,8 @@
 -- Finds: what the entry at a path's end, or the refusal, says of the reply.
-use Prim.Native.Nat.{ℕ, _≤_, _<_}
+use Prim.Native.Nat.{ℕ, _<_}
 use mathlib.Core.Path.{_≡_, sym, _∙_, ap, ap₂, subst}
 use mathlib.Core.Bool.{true}
 use mathlib.Core.List.{List, []}
-use native.Mathlib.Omega.{arith}
 use Rattle.format.specs.Basics.Bytes.{Bytes}
 use Rattle.format.specs.Layout.Geometry.{Geometry}
 use Rattle.format.specs.Layout.Entry.{kind, size}
@@ -17,12 +16,11 @@ use Rattle.format.specs.Calls.Call.{find}
 use Rattle.format.specs.Calls.Answer.{answerIn}
 use Rattle.format.specs.Calls.Reply.{plain, onZero, foundReply, done}
 use Rattle.theory.specs.TreeFind.{reached}
-use Rattle.theory.proofs.Refusals.{RefusedLow, resolve-low}
 use Rattle.kinds.specs.Sizes.{geometryOf}
-use Rattle.kinds.specs.Numbers.{numberOf}
-use Rattle.kinds.specs.declared.Answer.{Answer}
+use Rattle.kinds.specs.Numbers.{refusalNumber}
 use Rattle.kinds.specs.declared.EntryId.{EntryId}
-use Rattle.directory.specs.Listed.{entriesOf, Listed}
+use Rattle.kinds.specs.declared.Refusal.{Refusal}
+use Rattle.directory.specs.Listed.{entriesOf, DirectoryListed}
 use Rattle.paths.specs.Found.{foundOf, Inside}
 use Rattle.paths.specs.declared.Found.{Found as Way}
 use Rattle.paths.specs.declared.Found.the-variants.{At, Refused as Stopped}
@@ -44,12 +42,9 @@ module _ (v : Volume) (path : Path) where
   unfolding replyIn onZero answerIn done answerOf entryOf
   found-reply g x e = rw (← e)
 
-  pub refused-late : (a : ℕ) → refused a ≡ resolve (v .directory) path → 20 ≤ a
-  refused-late a e = subst (λ f. RefusedLow f) (sym e) (resolve-low (v .directory) path) .0
-
-  refused-reply : (g : Geometry) (a : ℕ) → refused a ≡ resolve (v .directory) path → plain a ≡ replyIn g v (find path [])
+  refused-reply : (g : Geometry) (a : Refusal) → refused (refusalNumber a) ≡ resolve (v .directory) path → plain (refusalNumber a) ≡ replyIn g v (find path [])
   unfolding answerIn answerOf
-  refused-reply g a e = let l = refused-late a e in refused-in g v [] (find path []) a (rw (← e)) (omega arith) .0
+  refused-reply g a e = refused-in g v [] (find path []) a (rw (← e)) .0
 
 -- ---- the code's answers
 
@@ -58,7 +53,7 @@ module _ {v : Opened} {img : Bytes} {w : List ℕ} (o : Open v img w) where
   g = geometryOf (v .tables .geometry)
 
   -- what the way down a path asks
-  pub find-asks : Listed (v .directory) img w × ((entryRules (entriesOf (v .directory) img) ≡ true) × (treeRules (entriesOf (v .directory) img) ≡ true))
+  pub find-asks : DirectoryListed (v .directory) img w × ((entryRules (entriesOf (v .directory) img) ≡ true) × (treeRules (entriesOf (v .directory) img) ≡ true))
   unfolding volume
   find-asks =
       let e = sym (same-entries o) in
@@ -69,14 +64,15 @@ module _ {v : Opened} {img : Bytes} {w : List ℕ} (o : Open v img w) where
     says = subst (λ d. foundOf d r ≡ resolve d path) (same-entries o) e
 
     pub find-found : {x : EntryId} (y : Object) → r ≡ At x → x .0 < entriesOf (v .directory) img .count
-        → y ≡ record { id = x; kind = kind (entriesOf (v .directory) img .entry (x .0)); size = size (entriesOf (v .directory) img .entry (x .0)) }
+        → (y .id ≡ x) × ((y .«entry_type» .0 ≡ kind (entriesOf (v .directory) img .entry (x .0))) × (y .size ≡ size (entriesOf (v .directory) img .entry (x .0))))
         → FindRight (volume g img) path (Entry y)
     find-found {x} y k l z =
         let q = same-entries o in
-        subst (λ u. FindRight (volume g img) path (Entry u)) (sym z)
-        (subst (λ u. foundOf (volume g img .directory) u ≡ resolve (volume g img .directory) path) k says, (subst (λ d. x .0 < d .count) q l, (ap (λ d. kind (d .entry (x .0))) q, ap (λ d. size (d .entry (x .0))) q)))
+        let i : y .id .0 ≡ x .0 = ap (λ (u : EntryId). u .0) (z .0) in
+        rw i
+        (subst (λ u. foundOf (volume g img .directory) u ≡ resolve (volume g img .directory) path) k says, (subst (λ d. x .0 < d .count) q l, (z .1 .0 ∙ ap (λ d. kind (d .entry (x .0))) q, z .1 .1 ∙ ap (λ d. size (d .entry (x .0))) q)))
 
-    pub find-refused : {a : Answer} → r ≡ Stopped a → FindRight (volume g img) path (Refused a)
+    pub find-refused : {a : Refusal} → r ≡ Stopped a → FindRight (volume g img) path (Refused a)
     find-refused {a} k = subst (λ u. foundOf (volume g img .directory) u ≡ resolve (volume g img .directory) path) k says
 
 pub found-inside : (e : Directory) (r : Way) {x : EntryId} → Inside e r → r ≡ At x → x .0 < e .count
@@ -87,4 +83,4 @@ pub find-says : (g : Geometry) (v : Volume) (path : Path) (f : Find) → FindRig
 unfolding foundReply
 find-says g v path (Entry e) h =
     ap₂ (λ k s. record { number = 0; entry = e .id .0; type = k; size = s; count = 0 }) (h .1 .1 .0) (h .1 .1 .1) ∙ found-reply v path g (e .id .0) (h .0)
-find-says g v path (Refused a) h = refused-reply v path g (numberOf a) h
+find-says g v path (Refused a) h = refused-reply v path g a h

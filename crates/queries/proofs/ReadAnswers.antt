@@ -1,7 +1,6 @@
 -- Reads: the answer by what the find found, and the out buffer.
-use Prim.Native.Nat.{ℕ, zero, suc, _≤_, _<_}
-use mathlib.Core.Path.{_≡_, refl, _∙_, ap}
-use mathlib.Core.Logic.{_≢_}
+use Prim.Native.Nat.{ℕ, _≤_, _<_}
+use mathlib.Core.Path.{_≡_, _∙_, ap}
 use mathlib.Core.Bool.{true, false}
 use mathlib.Core.List.{[]}
 use lib.ListN.{length}
@@ -19,6 +18,9 @@ use Rattle.format.specs.Calls.Answer.{firstOf, target, targetAnswer, beyond, an
 use Rattle.format.specs.Calls.Reply.{plain, counted, done}
 use Rattle.format.specs.Calls.Buffers.{handedOut}
 use Rattle.theory.specs.TreeFind.{reached}
+use Rattle.kinds.specs.Numbers.{refusalNumber}
+use Rattle.kinds.specs.declared.Refusal.{Refusal}
+use Rattle.kinds.proofs.Refusals.{first-refused}
 use Rattle.queries.specs.Inside.{replyIn, outIn}
 use Rattle.queries.proofs.Answers.{refused-in, done-in}
 
@@ -44,10 +46,9 @@ module _ (v : Volume) (path : Path) where
     abbrev call : Call
     call = read path offset out []
 
-    pub answer-refused : (n : ℕ) → targetAnswer v path ≡ n → n ≢ 0 → answerIn g v call ≡ n
-    unfolding answerIn firstOf
-    answer-refused zero e h = absurd (h refl)
-    answer-refused (suc n) e h = rw e
+    pub answer-refused : (a : Refusal) → targetAnswer v path ≡ refusalNumber a → answerIn g v call ≡ refusalNumber a
+    unfolding answerIn
+    answer-refused a e = rw e (first-refused a _)
 
     module _ (e : targetAnswer v path ≡ 0) where
       pub answer-beyond : streamSize v (target v path) < offset → answerIn g v call ≡ 24
@@ -60,9 +61,9 @@ module _ (v : Volume) (path : Path) where
 
     -- ---- the reply and the out buffer
 
-    pub read-refused : (img : Bytes) (n : ℕ) → answerIn g v call ≡ n → n ≢ 0 → (plain n ≡ replyIn g v call) × (out ≡ outIn g v img call)
+    pub read-refused : (img : Bytes) (a : Refusal) → answerIn g v call ≡ refusalNumber a → (plain (refusalNumber a) ≡ replyIn g v call) × (out ≡ outIn g v img call)
     unfolding outOf
-    read-refused img n e h = refused-in g v img call n e h
+    read-refused img a e = refused-in g v img call a e
 
     pub read-done : (k : ℕ) → answerIn g v call ≡ 0 → k ≡ readCount (streamSize v (target v path)) offset (length out) → counted k ≡ replyIn g v call
     unfolding done

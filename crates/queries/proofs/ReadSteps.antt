@@ -2,11 +2,11 @@
 use Prim.Native.Nat.{ℕ, _-_, _≤_, _<_, min}
 use mathlib.Core.Path.{_≡_, sym, _∙_, ap, subst}
 use mathlib.Core.Logic.{_≢_}
-use mathlib.Core.Bool.{true, false}
+use mathlib.Core.Bool.{false}
 use mathlib.Core.List.{[], _++_}
 use native.Mathlib.Omega.{arith}
 use lib.ListN.{length, drop}
-use borrow.Author.Tests.{eq-eqb, ne-eqb}
+use borrow.Author.Tests.{ne-eqb}
 use Rattle.format.specs.Basics.Bytes.{Bytes, part}
 use Rattle.format.specs.Layout.Geometry.{Geometry}
 use Rattle.format.specs.Layout.Entry.{isStream, kind, size}
@@ -17,14 +17,14 @@ use Rattle.format.specs.Calls.Read.{readCount, readBytes, over}
 use Rattle.format.specs.Calls.Call.{Call, read}
 use Rattle.format.specs.Calls.Answer.{target, targetAnswer, answerIn}
 use Rattle.format.specs.Calls.Reply.{plain, counted}
-use Rattle.kinds.specs.Numbers.{numberOf}
-use Rattle.kinds.specs.declared.Answer.{Answer}
+use Rattle.kinds.specs.Numbers.{refusalNumber}
+use Rattle.kinds.specs.declared.Refusal.{Refusal}
+use Rattle.kinds.specs.declared.Refusal.the-variants.{NotAStream, Beyond}
 use Rattle.queries.specs.Inside.{FindRight, replyIn, outIn}
-use Rattle.queries.specs.Replies.{refusalOf}
 use Rattle.queries.specs.declared.find.Object.{Object}
 use Rattle.queries.specs.declared.find.Find.{Find}
 use Rattle.queries.specs.declared.find.Find.the-variants.{Entry, Refused}
-use Rattle.queries.proofs.Finds.{refused-late}
+use Rattle.queries.proofs.Streams.{find-stream}
 use Rattle.queries.proofs.ReadAnswers.{target-none, target-some, target-refused, answer-refused, answer-beyond, answer-done, read-refused, read-done, out-done}
 
 module _ (g : Geometry) (v : Volume) (img : Bytes) (path : Path) (offset : ℕ) (out : Bytes) where
@@ -32,33 +32,28 @@ module _ (g : Geometry) (v : Volume) (img : Bytes) (path : Path) (offset : ℕ) 
   call = read path offset out []
 
   -- no entry
-  pub read-stopped : (f : Find) {a n : Answer} → FindRight v path f → f ≡ Refused a → n ≡ refusalOf f → (plain (numberOf n) ≡ replyIn g v call) × (out ≡ outIn g v img call)
-  read-stopped f {a} {n} h e k =
+  pub read-stopped : (f : Find) {a : Refusal} → FindRight v path f → f ≡ Refused a → (plain (refusalNumber a) ≡ replyIn g v call) × (out ≡ outIn g v img call)
+  read-stopped f {a} h e =
       let r : FindRight v path (Refused a) = subst (λ u. FindRight v path u) e h in
-      let l = refused-late v path (numberOf a) r in
-      let z : n ≡ a = k ∙ ap refusalOf e in
-      rw z (read-refused v path g offset out img (numberOf a) (answer-refused v path g offset out (numberOf a) (target-refused v path (numberOf a) r) (omega arith)) (omega arith))
+      read-refused v path g offset out img a (answer-refused v path g offset out a (target-refused v path (refusalNumber a) r))
 
   module _ (e : Object) (h : FindRight v path (Entry e)) where
     -- a storage, or the root
-    pub read-not-stream : e .kind ≢ 2 → (plain 23 ≡ replyIn g v call) × (out ≡ outIn g v img call)
+    pub read-not-stream : e .«entry_type» .0 ≢ 2 → (plain 23 ≡ replyIn g v call) × (out ≡ outIn g v img call)
     read-not-stream k =
         let s : isStream (v .directory .entry (e .id .0)) ≡ false = ne-eqb (kind (v .directory .entry (e .id .0))) 2 (λ z. k (h .1 .1 .0 ∙ z)) in
-        read-refused v path g offset out img 23 (answer-refused v path g offset out 23 (target-none v path (e .id .0) (h .0) s) (omega arith)) (omega arith)
+        read-refused v path g offset out img NotAStream (answer-refused v path g offset out NotAStream (target-none v path (e .id .0) (h .0) s))
 
-    module _ (k : e .kind ≡ 2) where
-      pub is-stream : isStream (v .directory .entry (e .id .0)) ≡ true
-      is-stream = eq-eqb (kind (v .directory .entry (e .id .0))) 2 (sym (h .1 .1 .0) ∙ k)
-
+    module _ (k : e .«entry_type» .0 ≡ 2) where
       there : (targetAnswer v path ≡ 0) × (target v path ≡ e .id .0)
-      there = target-some v path (e .id .0) (h .0) is-stream
+      there = target-some v path (e .id .0) (h .0) (find-stream v path e h k .stream)
 
       size-is : streamSize v (target v path) ≡ e .size
       unfolding streamSize
       size-is = ap (λ x. size (v .directory .entry x)) (there .1) ∙ sym (h .1 .1 .1)
 
       pub read-beyond : e .size < offset → (plain 24 ≡ replyIn g v call) × (out ≡ outIn g v img call)
-      read-beyond l = read-refused v path g offset out img 24 (answer-beyond v path g offset out (there .0) (omega (arith, size-is))) (omega arith)
+      read-beyond l = read-refused v path g offset out img Beyond (answer-beyond v path g offset out (there .0) (omega (arith, size-is)))
 
       module _ (l : offset ≤ e .size) (n : ℕ) (m : n ≡ min (e .size - offset) (length out)) where
         done : answerIn g v call ≡ 0

@@ -2,17 +2,16 @@
 ghost use mathlib.Core.Path.{_≡_};
 ghost use Prim.Native.Nat.{_<_};
 ghost use Rattle.format.specs.Layout.Entry.{kind as kindOf, size as sizeOf};
-ghost use Rattle.format.specs.Layout.Volume.{volume as volumeOf};
-ghost use Rattle.kinds.specs.Sizes.{geometryOf};
-ghost use Rattle.directory.specs.Listed.{entriesOf, Listed};
-ghost use Rattle.queries.specs.Replies.{refusalOf};
+ghost use Rattle.directory.specs.Listed.{entriesOf, DirectoryListed};
+ghost use Rattle.spaces.specs.Spaces.{volumeIn};
 ghost use Rattle.queries.specs.Inside.{Open, FindRight};
 use directory::Directory;
 use directory::place;
-use entries::kind;
+use entries::entry_type;
 use entries::size;
-use kinds::Answer;
 use kinds::EntryId;
+use kinds::EntryType;
+use kinds::Refusal;
 use paths::Found;
 use paths::find_entry;
 use volume::Volume;
@@ -20,25 +19,27 @@ use volume::Volume;
 // An entry: its number, its type and its size.
 pub struct Object {
     pub id: EntryId,
-    pub kind: u8,
+    pub entry_type: EntryType,
     pub size: u64,
 }
 
 pub enum Find {
     Entry(Object),
-    Refused(Answer),
+    Refused(Refusal),
 }
 
 // The entry of a number.
 fn object_at(img: &[u8], work: &[u32], d: Directory, x: EntryId) -> Object
-    requires { ⌜ Listed d (now img) (now work) ⌝ }
+    requires { ⌜ DirectoryListed d (now img) (now work) ⌝ }
     requires { ⌜ x .0 < entriesOf d (now img) .count ⌝ }
-    ensures { λ r. ⌜ r ≡ record { id = x; kind = kindOf (entriesOf d (now (img .entry)) .entry (x .0)); size = sizeOf (entriesOf d (now (img .entry)) .entry (x .0)) } ⌝ }
+    ensures { λ r. ⌜ r .id ≡ x ⌝ }
+    ensures { λ r. ⌜ r .«entry_type» .0 ≡ kindOf (entriesOf d (now (img .entry)) .entry (x .0)) ⌝ }
+    ensures { λ r. ⌜ r .size ≡ sizeOf (entriesOf d (now (img .entry)) .entry (x .0)) ⌝ }
 {
     let p = place(work, d, x);
     Object {
         id: x,
-        kind: kind(img, p),
+        entry_type: entry_type(img, p),
         size: size(img, p),
     }
 }
@@ -46,7 +47,7 @@ fn object_at(img: &[u8], work: &[u32], d: Directory, x: EntryId) -> Object
 // The entry that a path leads to, or the refusal.
 pub fn find_in(path: &[u16], img: &[u8], work: &[u32], v: Volume) -> Find
     requires { ⌜ Open v (now img) (now work) ⌝ }
-    ensures { λ r. ⌜ FindRight (volumeOf (geometryOf (v .tables .geometry)) (now (img .entry))) (now (path .entry)) r ⌝ }
+    ensures { λ r. ⌜ FindRight (volumeIn v (now (img .entry))) (now (path .entry)) r ⌝ }
 {
     let d = v.directory;
     match find_entry(path, img, work, d) {
@@ -55,12 +56,13 @@ pub fn find_in(path: &[u16], img: &[u8], work: &[u32], v: Volume) -> Find
     }
 }
 
-// The answer of a find that found no entry.
-pub fn refusal(f: Find) -> Answer
-    ensures { λ r. ⌜ r ≡ refusalOf f ⌝ }
+// The refusal of a find that found no entry. Nobody comes here with an entry, so its arm may give any refusal.
+pub fn refusal(f: Find) -> Refusal
+    requires { ⌜ ((a : Refusal) × (f ≡ Find.Refused a)) ⌝ }
+    ensures { λ r. ⌜ f ≡ Find.Refused r ⌝ }
 {
     match f {
-        Find::Entry(_) => Answer::Done,
+        Find::Entry(_) => Refusal::NotFound,
         Find::Refused(a) => a,
     }
 }

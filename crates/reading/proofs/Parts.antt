@@ -1,5 +1,5 @@
--- Parts of bytes, parts put over others, and places inside a unit of U bytes.
-use Prim.Native.Nat.{ℕ, _+_, _-_, _*_, _/_, _%_, _≤_, _<_}
+-- Parts of bytes, and places inside a unit of U bytes.
+use Prim.Native.Nat.{ℕ, _+_, _*_, _/_, _%_, _≤_, _<_}
 use mathlib.Core.Path.{_≡_, refl, sym, _∙_, ap}
 use mathlib.Core.List.{[], _++_}
 use native.Mathlib.Nat.{div-add-mod', add-mul, div-eq-of-lt-le}
@@ -8,7 +8,6 @@ use lib.ListN.{length, getD, take, drop}
 use lib.Seq.{length-sets, getD-take, getD-drop, ext-getD, take-add, drop-drop}
 use Rattle.format.specs.Basics.Bytes.{Bytes, part, putBytes}
 use Rattle.theory.proofs.ByteTests.{length-part}
-use Rattle.theory.proofs.Sets.{lent-back}
 
 -- ---- parts
 
@@ -27,14 +26,6 @@ part-more b p i k = take-add i k (drop p b) ∙ ap (λ r. take i (drop p b) ++ t
 pub put-length : (b : Bytes) (i : ℕ) (x : Bytes) → length (putBytes b i x) ≡ length b
 unfolding putBytes
 put-length b i x = length-sets b i x
-
--- a part put over others, as a lent part comes back
-pub put-part : (d b : Bytes) (i p k : ℕ) → i + k ≤ length d → p + k ≤ length b → putBytes d i (part b p k) ≡ take i d ++ (part b p k ++ drop k (drop i d))
-unfolding putBytes
-put-part d b i p k h l =
-    let n = length-part b p k l in
-    let z : i + k - i ≡ k = omega arith in
-    sym (rw z at (lent-back d (part b p k) i (i + k) (omega arith) h))
 
 -- two parts with the same bytes
 pub part-equal : (a b : Bytes) (p q n : ℕ) → p + n ≤ length a → q + n ≤ length b → ((i : ℕ) → i < n → getD a (p + i) 0 ≡ getD b (q + i) 0) → part a p n ≡ part b q n

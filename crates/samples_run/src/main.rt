@@ -1,6 +1,6 @@
 // Reads files from standard input, each behind its length of four bytes, and prints for each what the lister prints.
 use cfb::list;
-use kinds::number;
+use kinds::refusal_number;
 use le::u32_at;
 use queries::list::List;
 
@@ -22,7 +22,7 @@ fn print_list(image: &[u8]) -> bool {
             }
             io::write_all(1, &out[..n])
         }
-        List::Refused(a) => print_refused(number(a)),
+        List::Refused(a) => print_refused(refusal_number(a)),
     }
 }
 

@@ -1,4 +1,5 @@
 -- Laws for units of either kind.
+pub mod Units
 pub mod Walks
 pub mod Lengths
 pub mod Places

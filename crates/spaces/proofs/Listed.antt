@@ -9,16 +9,16 @@ use Rattle.format.specs.Basics.Bytes.{Bytes}
 use Rattle.format.specs.Layout.Geometry.{Geometry, sectorCount, placeIn, cellsIn, miniBytes}
 use Rattle.format.specs.Layout.Header.{fatCount}
 use Rattle.format.specs.Layout.Tables.{difatEntry, cellPlaceIn, fatSectors, sectorSpace}
-use Rattle.format.specs.Layout.Volume.{Volume, volume, miniSpace, miniFatSectors}
+use Rattle.format.specs.Layout.Volume.{volume, miniSpace, miniFatSectors}
 use Rattle.theory.proofs.Below.{getD-below}
 use Rattle.frame.proofs.Places.{thing-fits, thing-index}
 use Rattle.frame.proofs.Blocks.{Units}
 use Rattle.kinds.specs.Sizes.{geometryOf}
-use Rattle.tables.specs.Sized.{ImageSized, F}
+use Rattle.header.specs.Sized.{ImageSized, F}
 use Rattle.tables.proofs.Places.{sector-inside, cells-bytes}
 use Rattle.volume.specs.Opened.{Readied}
 use Rattle.volume.specs.declared.Volume.{Volume as Opened}
-use Rattle.spaces.specs.Spaces.{spaceOf, listedPlace, listedSpace, CellListed, UnitListed}
+use Rattle.spaces.specs.Spaces.{spaceAt, unitBytes, unitCount, listedPlace, listedSpace, CellListed, UnitListed}
 use Rattle.spaces.specs.declared.Kind.{Kind}
 use Rattle.spaces.specs.declared.Kind.the-variants.{Sectors, Minis}
 use Rattle.spaces.proofs.Stands.{sectors-stand, minis-stand, minis-same, sector-cell, mini-cell, mini-listed, mini-place-is}
@@ -49,9 +49,6 @@ module _ {v : Opened} {img : Bytes} {work : List ℕ} (r : Readied v img work) w
   abbrev g : Geometry
   g = geometryOf (v .tables .geometry)
 
-  abbrev vol : Volume
-  vol = volume g img
-
   cells-are : g .sectorBytes ≡ cellsIn g * 4
   cells-are = sym (cells-bytes (r .lists .mini .fat .sized)) ∙ mul-comm 4 (cellsIn g)
 
@@ -74,29 +71,29 @@ module _ {v : Opened} {img : Bytes} {work : List ℕ} (r : Readied v img work) w
 
   -- ---- sizes
 
-  pub unit-same : (k : Kind) (w : List ℕ) → listedSpace v w k .unit ≡ spaceOf k vol .unit
+  pub unit-same : (k : Kind) → unitBytes v k ≡ spaceAt v img k .unit
   unfolding volume sectorSpace miniSpace
-  unit-same Sectors w = refl
-  unit-same Minis w = refl
+  unit-same Sectors = refl
+  unit-same Minis = refl
 
-  pub unit-many : (k : Kind) (w : List ℕ) → 1 < listedSpace v w k .unit
+  pub unit-many : (k : Kind) → 1 < unitBytes v k
   unfolding miniBytes
-  unit-many Sectors w = let z = r .lists .mini .fat .sized .wide in omega arith
-  unit-many Minis w = omega arith
+  unit-many Sectors = let z = r .lists .mini .fat .sized .wide in omega arith
+  unit-many Minis = omega arith
 
-  pub limit-same : (k : Kind) → listedSpace v work k .limit ≡ spaceOf k vol .limit
+  pub count-same : (k : Kind) → unitCount v k ≡ spaceAt v img k .limit
   unfolding volume sectorSpace
-  limit-same Sectors = r .lists .mini .fat .count
-  limit-same Minis = r .lists .minis .counts .count ∙ ap (λ sp. sp .limit) (minis-same r)
+  count-same Sectors = r .lists .mini .fat .count
+  count-same Minis = r .lists .minis .counts .count ∙ ap (λ sp. sp .limit) (minis-same r)
 
-  pub units-stand : (k : Kind) → Units (spaceOf k vol) (length img)
+  pub units-stand : (k : Kind) → Units (spaceAt v img k) (length img)
   unfolding volume
   units-stand Sectors = sectors-stand r
   units-stand Minis = minis-stand r
 
   -- ---- cells
 
-  pub cell-listed : (k : Kind) (u : ℕ) → u < spaceOf k vol .limit → CellListed v work k u
+  pub cell-listed : (k : Kind) (u : ℕ) → u < spaceAt v img k .limit → CellListed v work k u
   unfolding volume sectorSpace
   cell-listed Sectors u h =
       let z = r .lists .mini .fat .sized in
@@ -113,14 +110,14 @@ module _ {v : Opened} {img : Bytes} {work : List ℕ} (r : Readied v img work) w
         here = thing-listed z 4 (cellsIn g) cells-are (miniFatSectors g img) work (v .minis .list) (v .minis .sectors) mini-fat-here mini-fat-below u (mini-cell-in u h) (r .lists .minis .room);
       }
 
-  pub cell-place : (k : Kind) (u : ℕ) → u < spaceOf k vol .limit → listedSpace v work k .cellPlace u ≡ spaceOf k vol .cellPlace u
+  pub cell-place : (k : Kind) (u : ℕ) → u < spaceAt v img k .limit → listedSpace v work k .cellPlace u ≡ spaceAt v img k .cellPlace u
   unfolding volume sectorSpace miniSpace cellPlaceIn
   cell-place Sectors u h =
       thing-place (r .lists .mini .fat .sized) 4 (cellsIn g) cells-are (fatSectors g img) work (v .tables .list) (F img) fat-here fat-below u (sector-cell r u h)
   cell-place Minis u h =
       thing-place (r .lists .mini .fat .sized) 4 (cellsIn g) cells-are (miniFatSectors g img) work (v .minis .list) (v .minis .sectors) mini-fat-here mini-fat-below u (mini-cell-in u h)
 
-  pub cell-inside : (k : Kind) (u : ℕ) → u < spaceOf k vol .limit → spaceOf k vol .cellPlace u + 4 ≤ length img
+  pub cell-inside : (k : Kind) (u : ℕ) → u < spaceAt v img k .limit → spaceAt v img k .cellPlace u + 4 ≤ length img
   unfolding volume sectorSpace miniSpace cellPlaceIn
   cell-inside Sectors u h =
       thing-inside (r .lists .mini .fat .sized) 4 (cellsIn g) cells-are (fatSectors g img) work (v .tables .list) (F img) fat-here fat-below u (sector-cell r u h)
@@ -129,12 +126,12 @@ module _ {v : Opened} {img : Bytes} {work : List ℕ} (r : Readied v img work) w
 
   -- ---- units
 
-  pub unit-listed : (k : Kind) (u : ℕ) → u < spaceOf k vol .limit → UnitListed v work k u
+  pub unit-listed : (k : Kind) (u : ℕ) → u < spaceAt v img k .limit → UnitListed v work k u
   unfolding volume
   unit-listed Sectors u h = let z = r .lists .mini .fat .sized in record { wide = z .wide; narrow = z .narrow; here = tt }
   unit-listed Minis u h = let z = r .lists .mini .fat .sized in record { wide = z .wide; narrow = z .narrow; here = mini-listed r u h }
 
-  pub unit-place : (k : Kind) (u : ℕ) → u < spaceOf k vol .limit → listedSpace v work k .unitPlace u ≡ spaceOf k vol .unitPlace u
+  pub unit-place : (k : Kind) (u : ℕ) → u < spaceAt v img k .limit → listedSpace v work k .unitPlace u ≡ spaceAt v img k .unitPlace u
   unfolding volume sectorSpace listedPlace
   unit-place Sectors u h = refl
   unit-place Minis u h = sym (mini-place-is r u h)

@@ -1,5 +1,5 @@
 -- The two spaces of an opened volume: their units lie in the image, and do not meet.
-use Prim.Native.Nat.{ℕ, _+_, _*_, _/_, _%_, _≤_, _<_}
+use Prim.Native.Nat.{ℕ, _+_, _*_, _/_, _%_, _<_}
 use mathlib.Core.Path.{_≡_, _∙_, ap}
 use mathlib.Core.Bool.{true}
 use mathlib.Core.List.{List}
@@ -15,7 +15,6 @@ use Rattle.format.specs.Layout.Volume.{volume, directory, miniSpace, miniStream
 use Rattle.format.specs.Rules.Mini.{miniStreamChain}
 use Rattle.theory.specs.Links.{Linked}
 use Rattle.theory.proofs.Chains.{chain-linked, linked-once, linked-below, length-units}
-use Rattle.theory.proofs.Counts.{count-at}
 use Rattle.theory.proofs.RoundUp.{round-enough}
 use Rattle.frame.specs.Kept.{Table}
 use Rattle.frame.proofs.Kept.{place-eq}
@@ -23,7 +22,7 @@ use Rattle.frame.proofs.Places.{thing-index}
 use Rattle.frame.proofs.Things.{thing-far, thing-room}
 use Rattle.frame.proofs.Blocks.{Units}
 use Rattle.kinds.specs.Sizes.{geometryOf}
-use Rattle.tables.specs.Sized.{ImageSized, F}
+use Rattle.header.specs.Sized.{ImageSized, F}
 use Rattle.tables.proofs.Places.{sector-inside}
 use Rattle.minis.proofs.ListLaws.{cells-cover}
 use Rattle.volume.specs.Opened.{Readied}
@@ -71,9 +70,6 @@ module _ {g : Geometry} {img : Bytes} (z : ImageSized g img) where
     pub mini-sector : (m : ℕ) → m < miniSpace g img .limit → 64 * m / g .sectorBytes < length (miniStreamSectors g img)
     mini-sector m l = thing-index (g .sectorBytes) 64 (g .sectorBytes / 64) minis-in-sector bytes-some _ m (mini-index m l)
 
-    pub mini-inside : (m : ℕ) → m < miniSpace g img .limit → sectorPlace g (getD (miniStreamSectors g img) (64 * m / g .sectorBytes) 0) + g .sectorBytes ≤ length img
-    mini-inside m l = stream-table .room _ (count-at (miniStreamSectors g img) (64 * m / g .sectorBytes) 0 (mini-sector m l))
-
     pub mini-units : Units (miniSpace g img) (length img)
     unfolding miniSpace miniBytes
     mini-units =
@@ -106,10 +102,6 @@ module _ {v : Volume} {img : Bytes} {work : List ℕ} (r : Readied v img work) w
   -- the list has the sector of a mini sector
   pub mini-listed : (m : ℕ) → m < miniSpace g img .limit → v .stream + 64 * m / g .sectorBytes < length work
   mini-listed m h = omega (arith, mini-sector (r .lists .mini .fat .sized) (r .lists .mini .stream) m h, r .stream .room)
-
-  pub listed-inside : (m : ℕ) → m < miniSpace g img .limit → sectorPlace g (getD work (v .stream + 64 * m / g .sectorBytes) 0) + g .sectorBytes ≤ length img
-  listed-inside m h =
-      rw (r .stream .here _ (mini-sector (r .lists .mini .fat .sized) (r .lists .mini .stream) m h)) (mini-inside (r .lists .mini .fat .sized) (r .lists .mini .stream) m h)
 
   pub mini-place-is : (m : ℕ) → m < miniSpace g img .limit → miniSpace g img .unitPlace m ≡ sectorPlace g (getD work (v .stream + 64 * m / g .sectorBytes) 0) + 64 * m % g .sectorBytes
   unfolding miniSpace miniBytes placeIn

@@ -4,11 +4,12 @@ use mathlib.Core.Bool.{cond}
 use mathlib.Core.List.{List}
 use lib.Dec.{ltb}
 use lib.ListN.{length, getD}
+use Rattle.format.specs.Basics.Bytes.{Bytes}
 use Rattle.format.specs.Layout.Geometry.{Geometry, sectorPlace, miniBytes}
 use Rattle.format.specs.Layout.Need.{cutoff}
 use Rattle.format.specs.Layout.Chain.{FREE}
 use Rattle.format.specs.Layout.Space.{Space}
-use Rattle.format.specs.Layout.Volume.{Volume}
+use Rattle.format.specs.Layout.Volume.{Volume, volume}
 use Rattle.kinds.specs.Sizes.{geometryOf}
 use Rattle.volume.specs.declared.Volume.{Volume as Opened}
 use Rattle.spaces.specs.declared.Kind.{Kind}
@@ -18,9 +19,32 @@ use Rattle.spaces.specs.declared.Kind.the-variants.{Sectors, Minis}
 unfoldable pub kindFor : ℕ → Kind
 kindFor n = cond (ltb n cutoff) Minis Sectors
 
-abbrev pub spaceOf : Kind → Volume → Space
-spaceOf Sectors v = v .sectors
-spaceOf Minis v = v .minis
+-- ---- the spaces of an opened volume
+
+-- the volume that an image is
+abbrev pub volumeIn : Opened → Bytes → Volume
+volumeIn v img = volume (geometryOf (v .tables .geometry)) img
+
+-- a kind's space of a volume
+abbrev pub spaceIn : Volume → Kind → Space
+spaceIn vol Sectors = vol .sectors
+spaceIn vol Minis = vol .minis
+
+-- and of an image
+abbrev pub spaceAt : Opened → Bytes → Kind → Space
+spaceAt v img kind = spaceIn (volumeIn v img) kind
+
+-- ---- sizes, with no look at the image
+
+-- how many bytes a unit has
+abbrev pub unitBytes : Opened → Kind → ℕ
+unitBytes v Sectors = v .tables .geometry .bytes
+unitBytes v Minis = miniBytes
+
+-- how many units there are
+abbrev pub unitCount : Opened → Kind → ℕ
+unitCount v Sectors = v .tables .sectors
+unitCount v Minis = v .minis .units
 
 -- ---- places by the lists
 
@@ -33,28 +57,22 @@ abbrev pub cellList : Opened → Kind → ℕ
 cellList v Sectors = v .tables .list
 cellList v Minis = v .minis .list
 
--- A kind's space as an opened volume has it in hand, with no look at the image. The cells stand in the image and nowhere else, so they are
--- left out: here each is free. What writes cells and bytes goes by the places alone.
+-- the byte where a unit starts
+abbrev pub listedUnit : Opened → List ℕ → Kind → ℕ → ℕ
+listedUnit v work Sectors u = sectorPlace (geometryOf (v .tables .geometry)) u
+listedUnit v work Minis u = listedPlace (geometryOf (v .tables .geometry)) work (v .stream) (64 * u)
+
+-- A kind's space as an opened volume has it in hand, with no look at the image. It is a whole `Space` because `format`'s writes take one, and
+-- these go by the places alone. The cells stand in the image and nowhere else, so they are left out: here each is free.
 abbrev pub listedSpace : Opened → List ℕ → Kind → Space
-listedSpace v work Sectors =
-    let g = geometryOf (v .tables .geometry) in
+listedSpace v work kind =
     record {
-      limit = v .tables .sectors;
+      limit = unitCount v kind;
       cells = 0;
-      unit = g .sectorBytes;
+      unit = unitBytes v kind;
       cell = λ u. FREE;
-      cellPlace = λ u. listedPlace g work (v .tables .list) (4 * u);
-      unitPlace = sectorPlace g;
-    }
-listedSpace v work Minis =
-    let g = geometryOf (v .tables .geometry) in
-    record {
-      limit = v .minis .units;
-      cells = 0;
-      unit = miniBytes;
-      cell = λ u. FREE;
-      cellPlace = λ u. listedPlace g work (v .minis .list) (4 * u);
-      unitPlace = λ u. listedPlace g work (v .stream) (64 * u);
+      cellPlace = λ u. listedPlace (geometryOf (v .tables .geometry)) work (cellList v kind) (4 * u);
+      unitPlace = listedUnit v work kind;
     }
 
 -- the sector that holds a unit's cell stands in the list

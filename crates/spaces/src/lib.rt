@@ -3,12 +3,15 @@ ghost use mathlib.Core.Path.{_≡_};
 ghost use Prim.Native.Nat.{_+_, _/_, _≤_, _<_};
 ghost use lib.Dec.{eqb};
 ghost use lib.ListN.{length};
-ghost use mathlib.Core.List.{[]};
 ghost use Rattle.format.specs.Layout.Chain.{FREE, END};
-ghost use Rattle.format.specs.Layout.Volume.{volume as volumeOf};
+ghost use Rattle.format.specs.Layout.Entry.{start as startOf};
 ghost use Rattle.kinds.specs.Sizes.{geometryOf};
+ghost use Rattle.entries.specs.Entry.{entryAt};
 ghost use Rattle.volume.specs.Opened.{Readied};
-ghost use Rattle.spaces.specs.Spaces.{kindFor, spaceOf, listedPlace, listedSpace, CellListed, UnitListed};
+ghost use Rattle.spaces.specs.Units.{kindOf, numberIn, unitOf};
+ghost use Rattle.spaces.specs.Spaces.{kindFor, spaceAt, unitBytes, unitCount, listedPlace, listedSpace, CellListed, UnitListed};
+use entries::start_mini;
+use entries::start_sector;
 use kinds::Geometry;
 use kinds::MiniSector;
 use kinds::Sector;
@@ -22,51 +25,87 @@ pub enum Kind {
     Minis,
 }
 
-// A unit of one kind.
-pub struct Unit {
-    pub kind: Kind,
-    pub number: u32,
+// A unit of either kind, by its number.
+pub enum Unit {
+    Sector(Sector),
+    Mini(MiniSector),
 }
 
 impl Unit {
-    // What a cell of a kind holds where its unit is free, and where a chain ends.
-    pub fn free(kind: Kind) -> Unit
-        ensures { λ r. ⌜ r ≡ record { kind = kind; number = FREE } ⌝ }
+    pub fn kind(self) -> Kind
+        ensures { λ r. ⌜ r ≡ kindOf self ⌝ }
+    {
+        match self {
+            Unit::Sector(_) => Kind::Sectors,
+            Unit::Mini(_) => Kind::Minis,
+        }
+    }
+
+    // The unit whose number stands in the work buffer.
+    pub fn of(kind: Kind, number: u32) -> Unit
+        ensures { λ r. ⌜ r ≡ unitOf kind number ⌝ }
     {
         match kind {
-            Kind::Sectors => Unit {
-                kind: Kind::Sectors,
-                number: Sector::FREE.0,
-            },
-            Kind::Minis => Unit {
-                kind: Kind::Minis,
-                number: MiniSector::FREE.0,
-            },
+            Kind::Sectors => Unit::Sector(Sector(number)),
+            Kind::Minis => Unit::Mini(MiniSector(number)),
+        }
+    }
+
+    // The number that stands for it there.
+    pub fn number(self) -> u32
+        ensures { λ r. ⌜ r ≡ numberIn self ⌝ }
+    {
+        match self {
+            Unit::Sector(s) => s.0,
+            Unit::Mini(m) => m.0,
+        }
+    }
+
+    // The unit of an index.
+    pub fn at(kind: Kind, i: usize) -> Unit
+        requires { ⌜ i < 0x1_0000_0000 ⌝ }
+        ensures { λ r. ⌜ r ≡ unitOf kind i ⌝ }
+    {
+        match kind {
+            Kind::Sectors => Unit::Sector(Sector::at(i)),
+            Kind::Minis => Unit::Mini(MiniSector::at(i)),
+        }
+    }
+
+    pub fn index(self) -> usize
+        ensures { λ r. ⌜ r ≡ numberIn self ⌝ }
+    {
+        match self {
+            Unit::Sector(s) => s.index(),
+            Unit::Mini(m) => m.index(),
+        }
+    }
+
+    // What a cell of a kind holds where its unit is free, and where a chain ends.
+    pub fn free(kind: Kind) -> Unit
+        ensures { λ r. ⌜ r ≡ unitOf kind FREE ⌝ }
+    {
+        match kind {
+            Kind::Sectors => Unit::Sector(Sector::FREE),
+            Kind::Minis => Unit::Mini(MiniSector::FREE),
         }
     }
 
     pub fn end(kind: Kind) -> Unit
-        ensures { λ r. ⌜ r ≡ record { kind = kind; number = END } ⌝ }
+        ensures { λ r. ⌜ r ≡ unitOf kind END ⌝ }
     {
         match kind {
-            Kind::Sectors => Unit {
-                kind: Kind::Sectors,
-                number: Sector::END.0,
-            },
-            Kind::Minis => Unit {
-                kind: Kind::Minis,
-                number: MiniSector::END.0,
-            },
+            Kind::Sectors => Unit::Sector(Sector::END),
+            Kind::Minis => Unit::Mini(MiniSector::END),
         }
     }
 
     pub fn is_free(self) -> bool
-        ensures { λ r. ⌜ r ≡ eqb (self .number) FREE ⌝ }
+        ensures { λ r. ⌜ r ≡ eqb (numberIn self) FREE ⌝ }
     {
-        let kind = self.kind;
-        match kind {
-            Kind::Sectors => Sector(self.number).is_free(),
-            Kind::Minis => MiniSector(self.number).is_free(),
+        match self {
+            Unit::Sector(s) => s.is_free(),
+            Unit::Mini(m) => m.is_free(),
         }
     }
 }
@@ -81,21 +120,32 @@ pub fn kind_for(n: u64) -> Kind
     Kind::Sectors
 }
 
+// Where a stream of a kind starts, by its entry at a byte place.
+pub fn start_unit(img: &[u8], p: usize, kind: Kind) -> Unit
+    requires { ⌜ p + 128 ≤ length (now img) ⌝ }
+    ensures { λ r. ⌜ r ≡ unitOf kind (startOf (entryAt (now (img .entry)) p)) ⌝ }
+{
+    match kind {
+        Kind::Sectors => Unit::Sector(start_sector(img, p)),
+        Kind::Minis => Unit::Mini(start_mini(img, p)),
+    }
+}
+
 // ---- sizes
 
 // How many bytes a unit has.
 pub fn unit_bytes(v: Volume, kind: Kind) -> usize
-    ensures { λ r. ⌜ r ≡ listedSpace v [] kind .unit ⌝ }
+    ensures { λ r. ⌜ r ≡ unitBytes v kind ⌝ }
 {
     match kind {
         Kind::Sectors => v.tables.geometry.bytes,
-        Kind::Minis => 64,
+        Kind::Minis => MiniSector::BYTES,
     }
 }
 
 // How many units there are.
 pub fn unit_count(v: Volume, kind: Kind) -> usize
-    ensures { λ r. ⌜ r ≡ listedSpace v [] kind .limit ⌝ }
+    ensures { λ r. ⌜ r ≡ unitCount v kind ⌝ }
 {
     match kind {
         Kind::Sectors => v.tables.sectors,
@@ -117,28 +167,25 @@ fn listed_place(work: &[u32], g: Geometry, list: usize, i: usize) -> usize
 
 // The byte where the cell of a unit starts.
 pub fn cell_place(work: &[u32], v: Volume, u: Unit) -> usize
-    requires { ⌜ CellListed v (now work) (u .kind) (u .number) ⌝ }
-    ensures { λ r. ⌜ r ≡ listedSpace v (now (work .entry)) (u .kind) .cellPlace (u .number) ⌝ }
+    requires { ⌜ CellListed v (now work) (kindOf u) (numberIn u) ⌝ }
+    ensures { λ r. ⌜ r ≡ listedSpace v (now (work .entry)) (kindOf u) .cellPlace (numberIn u) ⌝ }
 {
     let g = v.tables.geometry;
-    let i = 4 * (u.number as usize);
-    let kind = u.kind;
-    match kind {
-        Kind::Sectors => listed_place(work, g, v.tables.list, i),
-        Kind::Minis => listed_place(work, g, v.minis.list, i),
+    match u {
+        Unit::Sector(s) => listed_place(work, g, v.tables.list, s.cell()),
+        Unit::Mini(m) => listed_place(work, g, v.minis.list, m.cell()),
     }
 }
 
 // The byte where a unit starts.
 pub fn unit_place(work: &[u32], v: Volume, u: Unit) -> usize
-    requires { ⌜ UnitListed v (now work) (u .kind) (u .number) ⌝ }
-    ensures { λ r. ⌜ r ≡ listedSpace v (now (work .entry)) (u .kind) .unitPlace (u .number) ⌝ }
+    requires { ⌜ UnitListed v (now work) (kindOf u) (numberIn u) ⌝ }
+    ensures { λ r. ⌜ r ≡ listedSpace v (now (work .entry)) (kindOf u) .unitPlace (numberIn u) ⌝ }
 {
     let g = v.tables.geometry;
-    let kind = u.kind;
-    match kind {
-        Kind::Sectors => Sector(u.number).place(g),
-        Kind::Minis => listed_place(work, g, v.stream, 64 * (u.number as usize)),
+    match u {
+        Unit::Sector(s) => s.place(g),
+        Unit::Mini(m) => listed_place(work, g, v.stream, m.place()),
     }
 }
 
@@ -147,18 +194,11 @@ pub fn unit_place(work: &[u32], v: Volume, u: Unit) -> usize
 // The cell of a unit.
 pub fn cell_of(img: &[u8], work: &[u32], v: Volume, u: Unit) -> Unit
     requires { ⌜ Readied v (now img) (now work) ⌝ }
-    requires { ⌜ u .number < spaceOf (u .kind) (volumeOf (geometryOf (v .tables .geometry)) (now img)) .limit ⌝ }
-    ensures { λ r. ⌜ r ≡ record { kind = u .kind; number = spaceOf (u .kind) (volumeOf (geometryOf (v .tables .geometry)) (now (img .entry))) .cell (u .number) } ⌝ }
+    requires { ⌜ numberIn u < spaceAt v (now img) (kindOf u) .limit ⌝ }
+    ensures { λ r. ⌜ r ≡ unitOf (kindOf u) (spaceAt v (now (img .entry)) (kindOf u) .cell (numberIn u)) ⌝ }
 {
-    let kind = u.kind;
-    match kind {
-        Kind::Sectors => Unit {
-            kind: Kind::Sectors,
-            number: cell_at(img, work, v.tables, Sector(u.number)).0,
-        },
-        Kind::Minis => Unit {
-            kind: Kind::Minis,
-            number: mini_cell(img, work, v.minis, MiniSector(u.number)).0,
-        },
+    match u {
+        Unit::Sector(s) => Unit::Sector(cell_at(img, work, v.tables, s)),
+        Unit::Mini(m) => Unit::Mini(mini_cell(img, work, v.minis, m)),
     }
 }

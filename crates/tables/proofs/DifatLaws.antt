@@ -11,15 +11,16 @@ use lib.Dec.{eqb}
 use lib.ListN.{length, set}
 use borrow.Author.Tests.{lt-ltb, le-ltb}
 use Rattle.format.specs.Basics.Lists.{allBelow}
-use Rattle.format.specs.Basics.Bytes.{Bytes, u32at}
+use Rattle.format.specs.Basics.Bytes.{Bytes}
 use Rattle.format.specs.Layout.Geometry.{Geometry, headerDifat, sectorCount, cellsIn, difatIn}
 use Rattle.format.specs.Layout.Chain.{END, FREE}
-use Rattle.format.specs.Layout.Header.{fatCount, difatCount}
+use Rattle.format.specs.Layout.Header.{fatCount, difatStart, difatCount}
 use Rattle.format.specs.Layout.Tables.{difatSector, difatEntry}
 use Rattle.format.specs.Rules.Tables.{difatNeed, difatEnds, difatRest, spareEntryFree}
 use Rattle.theory.proofs.RoundUp.{round-enough}
 use Rattle.theory.proofs.Tests.{clash}
-use Rattle.tables.specs.Sized.{ImageSized, F, D, wordIn}
+use Rattle.header.specs.Sized.{ImageSized, F, D}
+use Rattle.tables.specs.Words.{wordIn}
 use Rattle.tables.specs.Work.{Wrote, Holds}
 use Rattle.tables.specs.Stages.{Counted, difatBelow, DifatListed, Difats}
 use Rattle.tables.proofs.Places.{cells-some, cells-few, difat-is, difat-first, difat-next}
@@ -73,7 +74,7 @@ pub record DifatWalk (g : Geometry) (img : Bytes) (w₀ : List ℕ) (at : ℕ) (
   pub some : j ≤ D img
 
 module _ {g : Geometry} {img : Bytes} {w₀ : List ℕ} {at : ℕ} where
-  pub difat-start : {s : ℕ} → s ≡ u32at img 68 → at ≤ length w₀ → DifatWalk g img w₀ at w₀ s 0
+  pub difat-start : {s : ℕ} → s ≡ difatStart img → at ≤ length w₀ → DifatWalk g img w₀ at w₀ s 0
   difat-start e l =
       record { here = rw (difat-first g img) e; good = below-none _; wrote = wrote-none _ _ _; holds = holds-none _ _ _ l; some = omega arith }
 

@@ -1,6 +1,4 @@
 -- Laws for the functions on tables.
-pub mod Allowed
-pub mod Header
 pub mod Places
 pub mod WorkLaws
 pub mod DifatLaws

@@ -1,18 +1,19 @@
 -- Where numbers stand in sectors: inside the image; and the cells of the FAT by these places.
 use Prim.Native.Nat.{ℕ, suc, _+_, _-_, _*_, _/_, _%_, _≤_, _<_}
 use mathlib.Core.Path.{_≡_, refl, ap}
-use native.Mathlib.Nat.{mod-lt, mul-le-mul-left, mul-le-mul-right, le-div-iff-mul-le}
+use native.Mathlib.Nat.{mod-lt, mul-le-mul-left}
 use native.Mathlib.Omega.{arith}
 use lib.ListN.{length}
 use borrow.Author.Tests.{lt-ltb, le-ltb}
 use Rattle.format.specs.Basics.Bytes.{Bytes, u32at}
 use Rattle.format.specs.Layout.Geometry.{Geometry, headerDifat, sectorCount, sectorPlace, placeIn, cellsIn, difatIn}
-use Rattle.format.specs.Layout.Header.{fatCount, difatStart, difatPlace}
+use Rattle.format.specs.Layout.Header.{fatCount, difatStart}
 use Rattle.format.specs.Layout.Tables.{difatSector, difatEntry, fatSectors, fatCells, fatCell, cellIn, cellPlaceIn}
 use Rattle.theory.proofs.Below.{getD-below}
 use Rattle.theory.proofs.Scale.{scale-div, scale-mod, scale-below}
 use Rattle.frame.proofs.Kept.{place-in}
-use Rattle.tables.specs.Sized.{ImageSized, F, wordIn}
+use Rattle.header.specs.Sized.{ImageSized, F}
+use Rattle.tables.specs.Words.{wordIn}
 
 module _ {g : Geometry} {img : Bytes} (z : ImageSized g img) where
   -- a sector lies whole in the image
@@ -34,12 +35,6 @@ module _ {g : Geometry} {img : Bytes} (z : ImageSized g img) where
   pub difat-is : suc (difatIn g) ≡ cellsIn g
   unfolding difatIn
   difat-is = let c = cells-some in omega arith
-
-  pub one-sector : 1 ≤ length img / g .sectorBytes
-  one-sector =
-      let w = z .wide in
-      le-div-iff-mul-le {k = g .sectorBytes} {x = 1} {y = length img} (omega arith) .1
-      (omega (arith, z .long, mul-le-mul-right (g .sectorBytes) (let o : 1 ≤ sectorCount g img + 1 = omega arith in o)))
 
   -- the cells of no more sectors than there are take no more bytes than the image has
   pub cells-short : (n : ℕ) → n ≤ sectorCount g img → 4 * (cellsIn g * n) ≤ length img
@@ -68,17 +63,13 @@ module _ {g : Geometry} {img : Bytes} (z : ImageSized g img) where
 
 -- ---- the DIFAT by these places
 
-pub difat-first : (g : Geometry) (img : Bytes) → difatSector g img 0 ≡ u32at img 68
-unfolding difatSector difatStart
+pub difat-first : (g : Geometry) (img : Bytes) → difatSector g img 0 ≡ difatStart img
+unfolding difatSector
 difat-first g img = refl
 
 pub difat-next : (g : Geometry) (img : Bytes) (k : ℕ) → difatSector g img (suc k) ≡ wordIn g img (difatSector g img k) (difatIn g)
 unfolding difatSector wordIn
 difat-next g img k = refl
-
-pub entry-first : (g : Geometry) (img : Bytes) (i : ℕ) → i < 109 → difatEntry g img i ≡ u32at img (76 + 4 * i)
-unfolding difatEntry headerDifat difatPlace
-entry-first g img i h = rw (lt-ltb i 109 h)
 
 pub entry-later : (g : Geometry) (img : Bytes) (i : ℕ) → 109 ≤ i → difatEntry g img i ≡ wordIn g img (difatSector g img ((i - 109) / difatIn g)) ((i - 109) % difatIn g)
 unfolding difatEntry headerDifat wordIn

@@ -18,7 +18,7 @@ use Rattle.format.specs.Rules.Tables.{isSector, tableSectors}
 use Rattle.theory.proofs.Counts.{count-append, pigeonhole}
 use Rattle.theory.proofs.Tests.{both, all-at, all-append, below-of}
 use Rattle.theory.proofs.Below.{listBelow-ext, length-below}
-use Rattle.tables.specs.Sized.{F, D}
+use Rattle.header.specs.Sized.{F, D}
 use Rattle.tables.specs.Work.{Wrote, Holds}
 use Rattle.tables.specs.Stages.{difatBelow, listed, times, ListMarked, ListFails, TableMarked, StageArgs, Built}
 use Rattle.theory.proofs.Loops.{below-not, all-below, count-absent, distinct-of, distinct-not, distinct-once}

@@ -1,12 +1,12 @@
 -- Group 11 as a whole: from stage to stage, and from the stages to the test.
-use Prim.Native.Nat.{ℕ, _+_, _-_, _*_, _/_, _≤_, _<_}
+use Prim.Native.Nat.{ℕ, _+_, _-_, _*_, _≤_, _<_}
 use mathlib.Core.Path.{_≡_, refl, sym, _∙_}
 use mathlib.Core.Bool.{Bool, true, false, _&&_, and-false}
 use mathlib.Core.List.{List}
 use mathlib.Core.Logic.{inl, inr}
 use native.Mathlib.Omega.{arith}
 use lib.Dec.{eqb, leb}
-use lib.ListN.{length, getD}
+use lib.ListN.{getD}
 use borrow.Author.Tests.{leb-true, eqb-true, ltb-true}
 use Rattle.format.specs.Basics.Bytes.{Bytes}
 use Rattle.format.specs.Basics.Lists.{allBelow}
@@ -16,9 +16,9 @@ use Rattle.format.specs.Layout.Tables.{difatSector, difatEntry, fatCells}
 use Rattle.format.specs.Rules.Tables.{difatNeed, tableCounts, difatEnds, difatRest, tableSectors, tableMarks, tableRules}
 use Rattle.format.specs.Calls.Buffers.{workCleared}
 use Rattle.theory.proofs.Tests.{clash, both, below-at}
-use Rattle.tables.specs.Sized.{ImageSized, F, D}
+use Rattle.header.specs.Sized.{ImageSized, F, D, W}
 use Rattle.tables.specs.Work.{Wrote, Holds, WorkClear}
-use Rattle.tables.specs.Listed.{Listed, listPlace}
+use Rattle.tables.specs.Listed.{FatListedAt, listPlace}
 use Rattle.tables.specs.Stages.{Counted, difatBelow, DifatArgs, DifatListed, Difats, ListArgs, ListMarked, ListLeft, StageArgs, Built, ListsLeft, MarksLeft, TablesLeft}
 use Rattle.tables.proofs.WorkLaws.{wrote-two, wrote-wider, holds-kept, listed-kept, cleared, wrote-cleared}
 use Rattle.tables.proofs.SectorLaws.{apart, few-tables, difats-out, fat-in, sectors-pass}
@@ -133,7 +133,7 @@ module _ {g : Geometry} {img : Bytes} {w₁ w₂ w₃ : List ℕ} {n f d list : 
     (wr : Wrote w₁ w₂ 0 (sectorCount g img)) (one : ListMarked w₁ w₂ (sectorCount g img) list (F img) 1)
     (wr₃ : Wrote w₂ w₃ 0 (sectorCount g img)) (two : ListMarked w₂ w₃ (sectorCount g img) (list + F img) (D img) 2) where
   -- the list, for the lookup of cells
-  pub built-listed : (n : ℕ) → n ≡ sectorCount g img → Listed g img w₃ n list
+  pub built-listed : (n : ℕ) → n ≡ sectorCount g img → FatListedAt g img w₃ n list
   built-listed n e =
       let h = holds-kept (b .fats) (wrote-two wr wr₃) (inr (omega (arith, apart a))) in
       record {
@@ -160,11 +160,11 @@ module _ {g : Geometry} {img : Bytes} {w₁ w₂ w₃ : List ℕ} {n f d list : 
 -- ---- the whole
 
 -- refused, with nothing past our part of the work buffer changed
-pub not-left : (g : Geometry) (img : Bytes) (w₀ w : List ℕ) → ((i : ℕ) → 13 * (length img / 512) ≤ i → getD w i 0 ≡ getD w₀ i 0) → TablesLeft g img w₀ w false
+pub not-left : (g : Geometry) (img : Bytes) (w₀ w : List ℕ) → ((i : ℕ) → W img ≤ i → getD w i 0 ≡ getD w₀ i 0) → TablesLeft g img w₀ w false
 not-left g img w₀ w h = record { rest = h; listed = λ e. absurd (clash e refl); clear = λ e. absurd (clash e refl) }
 
 pub stage-start : {g : Geometry} {img : Bytes} {w : List ℕ} (n f d list : ℕ) → Counted g img → WorkClear g img w → n ≡ sectorCount g img → f ≡ F img → d ≡ D img
-    → list ≡ 13 * (length img / 512) - (f + d) → StageArgs g img w n f d list
+    → list ≡ W img - (f + d) → StageArgs g img w n f d list
 stage-start n f d list c w a b e h =
     record { counted = c; clear = w; sectors = a; fats = b; difats = e; place = omega (arith, c .few, c .sized .many) }
 

@@ -11,7 +11,7 @@ use Rattle.format.specs.Basics.Bytes.{Bytes}
 use Rattle.format.specs.Layout.Geometry.{Geometry}
 use Rattle.format.specs.Calls.Buffers.{workCleared}
 use Rattle.tables.specs.Work.{Wrote, Holds}
-use Rattle.tables.specs.Listed.{Listed}
+use Rattle.tables.specs.Listed.{FatListedAt}
 
 -- ---- nothing changed but a part
 
@@ -57,7 +57,7 @@ holds-kept h r d =
     }
 
 -- the list stays where only what stands before it changes
-pub listed-kept : {g : Geometry} {img : Bytes} {w w′ : List ℕ} {n list at m : ℕ} → Listed g img w n list → Wrote w w′ at m → at + m ≤ list → Listed g img w′ n list
+pub listed-kept : {g : Geometry} {img : Bytes} {w w′ : List ℕ} {n list at m : ℕ} → FatListedAt g img w n list → Wrote w w′ at m → at + m ≤ list → FatListedAt g img w′ n list
 listed-kept l r k =
     record {
       sized = l .sized;

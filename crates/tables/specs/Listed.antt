@@ -1,5 +1,5 @@
 -- The FAT's sectors stand listed in the work buffer, so that every cell can be looked up at once.
-use Prim.Native.Nat.{ℕ, _+_, _-_, _*_, _/_, _≤_, _<_}
+use Prim.Native.Nat.{ℕ, _+_, _-_, _*_, _≤_, _<_}
 use mathlib.Core.Path.{_≡_}
 use mathlib.Core.List.{List}
 use lib.ListN.{length, getD}
@@ -8,11 +8,11 @@ use Rattle.format.specs.Layout.Geometry.{Geometry, sectorCount, cellsIn}
 use Rattle.format.specs.Layout.Tables.{difatEntry}
 use Rattle.kinds.specs.declared.Geometry.{Geometry as Sizes}
 use Rattle.kinds.specs.Sizes.{geometryOf}
-use Rattle.tables.specs.Sized.{ImageSized, F, D}
+use Rattle.header.specs.Sized.{ImageSized, F, D, W}
 use Rattle.tables.specs.declared.Tables.{Tables}
 
 -- n is N; the list starts at a place behind the marks of the sectors
-pub record Listed (g : Geometry) (img : Bytes) (work : List ℕ) (n list : ℕ) : Type 0 where
+pub record FatListedAt (g : Geometry) (img : Bytes) (work : List ℕ) (n list : ℕ) : Type 0 where
   pub sized : ImageSized g img
   pub count : n ≡ sectorCount g img
   pub apart : sectorCount g img ≤ list
@@ -22,9 +22,13 @@ pub record Listed (g : Geometry) (img : Bytes) (work : List ℕ) (n list : ℕ) 
   pub fats : (k : ℕ) → k < F img → getD work (list + k) 0 ≡ difatEntry g img k
   pub below : (k : ℕ) → k < F img → difatEntry g img k < sectorCount g img
 
+-- the list is where the tables say
+abbrev pub FatListed : Tables → Bytes → List ℕ → Type 0
+FatListed t img work = FatListedAt (geometryOf (t .geometry)) img work (t .sectors) (t .list)
+
 -- where the list of table sectors starts: it ends with the part of the work buffer that is ours
 abbrev pub listPlace : Bytes → ℕ
-listPlace img = 13 * (length img / 512) - (F img + D img)
+listPlace img = W img - (F img + D img)
 
 abbrev pub tablesOf : Sizes → Bytes → Tables
 tablesOf g img = record { geometry = g; sectors = sectorCount (geometryOf g) img; list = listPlace img }

@@ -1,5 +1,5 @@
 -- The stages of group 11: what each is called with, and what it leaves in the work buffer.
-use Prim.Native.Nat.{ℕ, _+_, _*_, _/_, _≤_, _<_}
+use Prim.Native.Nat.{ℕ, _+_, _*_, _≤_, _<_}
 use mathlib.Core.Path.{_≡_}
 use mathlib.Core.Bool.{Bool, true, false, _&&_}
 use mathlib.Core.List.{List}
@@ -11,9 +11,9 @@ use Rattle.format.specs.Basics.Bytes.{Bytes}
 use Rattle.format.specs.Layout.Geometry.{Geometry, sectorCount, cellsIn}
 use Rattle.format.specs.Layout.Tables.{difatEntry, difatSector, fatSectors, difatSectors}
 use Rattle.format.specs.Rules.Tables.{difatNeed, difatEnds, difatRest, tableSectors, tableMarks}
-use Rattle.tables.specs.Sized.{ImageSized, F, D}
+use Rattle.header.specs.Sized.{ImageSized, F, D, W}
 use Rattle.tables.specs.Work.{Wrote, Holds, WorkClear}
-use Rattle.tables.specs.Listed.{Listed, listPlace}
+use Rattle.tables.specs.Listed.{FatListedAt, listPlace}
 
 -- ---- the counts
 
@@ -90,8 +90,8 @@ pub record TableMarked (g : Geometry) (img : Bytes) (work : List ℕ) : Type 0 w
 -- ---- group 11 as a whole
 
 pub record TablesLeft (g : Geometry) (img : Bytes) (before after : List ℕ) (r : Bool) : Type 0 where
-  pub rest : (i : ℕ) → 13 * (length img / 512) ≤ i → getD after i 0 ≡ getD before i 0
-  pub listed : r ≡ true → Listed g img after (sectorCount g img) (listPlace img)
+  pub rest : (i : ℕ) → W img ≤ i → getD after i 0 ≡ getD before i 0
+  pub listed : r ≡ true → FatListedAt g img after (sectorCount g img) (listPlace img)
   pub clear : r ≡ true → WorkClear g img after
 
 -- what the stages after the counts are called with
@@ -101,7 +101,7 @@ pub record StageArgs (g : Geometry) (img : Bytes) (work : List ℕ) (n f d list 
   pub sectors : n ≡ sectorCount g img
   pub fats : f ≡ F img
   pub difats : d ≡ D img
-  pub place : list + (F img + D img) ≡ 13 * (length img / 512)
+  pub place : list + (F img + D img) ≡ W img
 
 -- the lists stand in the work buffer
 pub record Built (g : Geometry) (img : Bytes) (w : List ℕ) (list : ℕ) : Type 0 where
@@ -117,5 +117,5 @@ pub record ListsLeft (g : Geometry) (img : Bytes) (before after : List ℕ) (lis
 pub record MarksLeft (g : Geometry) (img : Bytes) (before after : List ℕ) (list : ℕ) (r : Bool) : Type 0 where
   pub answer : r ≡ (tableSectors g img && tableMarks g img)
   pub wrote : Wrote before after 0 (sectorCount g img)
-  pub listed : r ≡ true → Listed g img after (sectorCount g img) list
+  pub listed : r ≡ true → FatListedAt g img after (sectorCount g img) list
   pub clear : r ≡ true → (u : ℕ) → u < sectorCount g img → getD after u 0 ≡ 0

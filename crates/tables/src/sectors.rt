@@ -5,17 +5,23 @@ ghost use Rattle.format.specs.Layout.Geometry.{difatIn, headerDifat};
 ghost use Rattle.format.specs.Layout.Tables.{difatEntry};
 ghost use Rattle.format.specs.Rules.Tables.{difatNeed, tableCounts, difatRest, tableMarks, tableRules};
 ghost use Rattle.kinds.specs.Sizes.{geometryOf};
-ghost use Rattle.tables.specs.Sized.{ImageSized, F, D};
+ghost use Rattle.header.specs.Sized.{ImageSized, F, D};
 ghost use Rattle.tables.specs.Work.{Wrote, Holds, WorkClear};
-ghost use Rattle.tables.specs.Listed.{Listed};
-ghost use Rattle.tables.specs.Stages.{DifatArgs, DifatListed, Difats, ListArgs, ListLeft, TableMarked, TablesLeft, StageArgs, Built, ListsLeft, MarksLeft};
+ghost use Rattle.tables.specs.Listed.{FatListed};
+ghost use Rattle.tables.specs.Stages.{DifatArgs, DifatListed, Difats, ListArgs, ListLeft, TableMarked, TablesLeft};
+ghost use Rattle.tables.specs.Stages.{StageArgs, Built, ListsLeft, MarksLeft};
 use super::Tables;
 use super::cell_at;
-use super::sector_count;
 use super::word_in;
+use header::DIFAT_ENTRIES;
+use header::difat_count;
+use header::difat_in_header;
+use header::difat_start;
+use header::fat_count;
+use header::sector_count;
+use header::work_need;
 use kinds::Geometry;
 use kinds::Sector;
-use le::u32_at;
 use le::zero_first;
 
 // ---- counts
@@ -24,20 +30,20 @@ pub fn table_counts(img: &[u8], g: Geometry) -> bool
     requires { ⌜ ImageSized (geometryOf g) (now img) ⌝ }
     ensures { λ r. ⌜ r ≡ tableCounts (geometryOf g) (now (img .entry)) ⌝ }
 {
-    let f = u32_at(img, 44) as usize;
-    let d = u32_at(img, 72) as usize;
+    let f = fat_count(img) as usize;
+    let d = difat_count(img) as usize;
     let n = sector_count(img, g);
     (1 <= f) & (n <= g.cells() * f) & (d == difat_need(g, f))
 }
 
 // The DIFAT sectors that f FAT sectors need.
 fn difat_need(g: Geometry, f: usize) -> usize
-    requires { ⌜ (512 ≤ g .bytes) × (g .bytes ≤ 4096) × (f < 4294967296) ⌝ }
+    requires { ⌜ (512 ≤ g .bytes) × (g .bytes ≤ 4096) × (f < 0x1_0000_0000) ⌝ }
     ensures { λ r. ⌜ r ≡ difatNeed (geometryOf g) f ⌝ }
 {
     let mut over = 0;
-    if 109 < f {
-        over = f - 109;
+    if DIFAT_ENTRIES < f {
+        over = f - DIFAT_ENTRIES;
     }
     let per = g.difat();
     (over + (per - 1)) / per
@@ -51,14 +57,14 @@ pub fn list_difats(img: &[u8], work: &mut [u32], g: Geometry, n: usize, at: usiz
     ensures { λ r. ⌜ DifatListed (geometryOf g) (now (img .entry)) (now (work .entry)) (now (work .exit)) at r ⌝ }
 {
     let link = g.difat();
-    let mut s = Sector(u32_at(img, 68));
+    let mut s = difat_start(img);
     let mut j = 0;
     while j < d {
         if !s.below(n) {
             return false;
         }
         work[at + j] = s.0;
-        s = word_in(img, g, s, link);
+        s = Sector(word_in(img, g, s, link));
         j += 1;
     }
     s.is_end()
@@ -70,19 +76,20 @@ pub fn difat_entry(img: &[u8], work: &[u32], g: Geometry, at: usize, i: usize) -
     requires { ⌜ i < headerDifat + difatIn (geometryOf g) * D (now img) ⌝ }
     ensures { λ r. ⌜ r .0 ≡ difatEntry (geometryOf g) (now (img .entry)) i ⌝ }
 {
-    if i < 109 {
-        return Sector(u32_at(img, 76 + 4 * i));
+    if i < DIFAT_ENTRIES {
+        return difat_in_header(img, g, i);
     }
     let per = g.difat();
-    word_in(img, g, Sector(work[at + (i - 109) / per]), (i - 109) % per)
+    let j = i - DIFAT_ENTRIES;
+    Sector(word_in(img, g, Sector(work[at + j / per]), j % per))
 }
 
 // Lists the f FAT sectors, in front of the DIFAT sectors.
 pub fn list_fats(img: &[u8], work: &mut [u32], g: Geometry, at: usize, f: usize)
     requires { ⌜ Difats (geometryOf g) (now img) (now work) (at + F (now img)) ⌝ }
     requires { ⌜ f ≡ F (now img) ⌝ }
-    ensures { λ _. ⌜ Wrote (now (work .entry)) (now (work .exit)) at (F (now (img .entry))) ⌝ }
-    ensures { λ _. ⌜ Holds (now (work .exit)) at (F (now (img .entry))) (difatEntry (geometryOf g) (now (img .entry))) ⌝ }
+    ensures wrote { λ _. ⌜ Wrote (now (work .entry)) (now (work .exit)) at (F (now (img .entry))) ⌝ }
+    ensures holds { λ _. ⌜ Holds (now (work .exit)) at (F (now (img .entry))) (difatEntry (geometryOf g) (now (img .entry))) ⌝ }
 {
     let mut k = 0;
     while k < f {
@@ -98,7 +105,7 @@ pub fn difat_rest(img: &[u8], work: &[u32], g: Geometry, at: usize, f: usize, d:
     requires { ⌜ (f ≡ F (now img)) × (d ≡ D (now img)) ⌝ }
     ensures { λ r. ⌜ r ≡ difatRest (geometryOf g) (now (img .entry)) ⌝ }
 {
-    let end = 109 + g.difat() * d - f;
+    let end = DIFAT_ENTRIES + g.difat() * d - f;
     let mut i = 0;
     while i < end {
         let s = difat_entry(img, work, g, at, f + i);
@@ -134,22 +141,22 @@ pub fn mark_list(work: &mut [u32], n: usize, at: usize, count: usize, v: u32) ->
 
 // The cells that mark table sectors are those of the marked sectors.
 pub fn table_marks(img: &[u8], work: &[u32], t: Tables) -> bool
-    requires { ⌜ Listed (geometryOf (t .geometry)) (now img) (now work) (t .sectors) (t .list) ⌝ }
+    requires { ⌜ FatListed t (now img) (now work) ⌝ }
     requires { ⌜ TableMarked (geometryOf (t .geometry)) (now img) (now work) ⌝ }
     ensures { λ r. ⌜ r ≡ tableMarks (geometryOf (t .geometry)) (now (img .entry)) ⌝ }
 {
     let n = t.sectors;
-    let mut i = 0;
-    while i < n {
-        let c = cell_at(img, work, t, Sector(i as u32));
-        let m = work[i];
+    let mut s = Sector::FIRST;
+    while s.index() < n {
+        let c = cell_at(img, work, t, s);
+        let m = work[s.index()];
         if c.is_fat() != (m == 1) {
             return false;
         }
         if c.is_difat() != (m == 2) {
             return false;
         }
-        i += 1;
+        s = s.next();
     }
     true
 }
@@ -213,19 +220,20 @@ pub fn mark_tables(
 pub fn table_rules(img: &[u8], work: &mut [u32], g: Geometry) -> bool
     requires { ⌜ ImageSized (geometryOf g) (now img) ⌝ }
     requires { ⌜ WorkClear (geometryOf g) (now img) (now work) ⌝ }
-    ensures { λ r. ⌜ r ≡ tableRules (geometryOf g) (now (img .entry)) ⌝ }
-    ensures { λ r. ⌜ TablesLeft (geometryOf g) (now (img .entry)) (now (work .entry)) (now (work .exit)) r ⌝ }
+    ensures answer { λ r. ⌜ r ≡ tableRules (geometryOf g) (now (img .entry)) ⌝ }
+    ensures left { λ r. ⌜ TablesLeft (geometryOf g) (now (img .entry)) (now (work .entry)) (now (work .exit)) r ⌝ }
 {
+    let need = work_need(img.len());
     let n = sector_count(img, g);
-    let f = u32_at(img, 44) as usize;
-    let d = u32_at(img, 72) as usize;
+    let f = fat_count(img) as usize;
+    let d = difat_count(img) as usize;
     if !table_counts(img, g) {
         return false;
     }
     if n < f + d {
         return false;
     }
-    let list = 13 * (img.len() / 512) - (f + d);
+    let list = need - (f + d);
     if !list_tables(img, work, g, n, f, d, list) {
         return false;
     }

@@ -1,5 +1,6 @@
 -- Laws for text.
 pub mod Decimals
+pub mod Filled
 pub mod Names
 pub mod Over
 pub mod Units

@@ -1,1 +1,2 @@
--- Text is stated with `format`'s own definitions.
+-- What text is stated with, beside `format`'s own definitions.
+pub mod Lines

@@ -4,12 +4,13 @@ ghost use mathlib.Core.Bool.{_&&_};
 ghost use Prim.Native.Nat.{_+_, _≤_};
 ghost use lib.Dec.{leb};
 ghost use lib.ListN.{length};
-ghost use Rattle.format.specs.Layout.Entry.{name};
 ghost use Rattle.format.specs.Calls.Read.{over};
 ghost use Rattle.format.specs.Calls.Text.{decimal, hexDigit, printUnit, printName};
-ghost use Rattle.entries.specs.Entry.{entryAt, NamedAt};
-use entries::names::unit;
-use entries::names::units;
+ghost use Rattle.entries.specs.Entry.{nameAt, NamedAt};
+ghost use Rattle.text.specs.Lines.{numberLine};
+use entries::names::name_unit;
+use entries::names::name_units;
+use le::copy;
 
 // ---- numbers
 
@@ -29,8 +30,8 @@ pub fn decimal_length(n: u64) -> usize
 // Writes a number's digits, and returns how many they are.
 pub fn put_decimal(out: &mut [u8], n: u64) -> usize
     requires { ⌜ length (decimal n) ≤ length (now out) ⌝ }
-    ensures { λ r. ⌜ r ≡ length (decimal n) ⌝ }
-    ensures { λ _. ⌜ now (out .exit) ≡ over (decimal n) (now (out .entry)) ⌝ }
+    ensures count { λ r. ⌜ r ≡ length (decimal n) ⌝ }
+    ensures written { λ _. ⌜ now (out .exit) ≡ over (decimal n) (now (out .entry)) ⌝ }
 {
     let k = decimal_length(n);
     let mut i = k;
@@ -43,17 +44,30 @@ pub fn put_decimal(out: &mut [u8], n: u64) -> usize
     k
 }
 
+// Writes a word, a number's digits behind it and the end of the line, and returns how many bytes they are.
+pub fn put_number_line(out: &mut [u8], word: &[u8], n: u64) -> usize
+    requires { ⌜ length (numberLine (now word) n) ≤ length (now out) ⌝ }
+    ensures count { λ r. ⌜ r ≡ length (numberLine (now (word .entry)) n) ⌝ }
+    ensures written { λ _. ⌜ now (out .exit) ≡ over (numberLine (now (word .entry)) n) (now (out .entry)) ⌝ }
+{
+    let k = word.len();
+    copy(&mut out[..k], word);
+    let m = put_decimal(&mut out[k..], n);
+    out[k + m] = 0x0A;
+    k + m + 1
+}
+
 // ---- names
 
-// Whether a unit prints as itself.
+// Whether a name's unit prints as itself.
 fn plain(u: u16) -> bool
     ensures { λ r. ⌜ r ≡ (leb 0x20 u && leb u 0x7E) ⌝ }
 {
     (0x20 <= u) & (u <= 0x7E)
 }
 
-// How many bytes a unit takes.
-pub fn unit_length(u: u16) -> usize
+// How many bytes a name's unit takes.
+fn name_unit_length(u: u16) -> usize
     ensures { λ r. ⌜ r ≡ length (printUnit u) ⌝ }
 {
     if plain(u) {
@@ -73,11 +87,11 @@ fn hex_digit(d: u16) -> u8
     0x37 + d as u8
 }
 
-// Writes a unit, and returns how many bytes it takes.
-pub fn put_unit(out: &mut [u8], u: u16) -> usize
+// Writes a name's unit, and returns how many bytes it takes.
+fn put_name_unit(out: &mut [u8], u: u16) -> usize
     requires { ⌜ length (printUnit u) ≤ length (now out) ⌝ }
-    ensures { λ r. ⌜ r ≡ length (printUnit u) ⌝ }
-    ensures { λ _. ⌜ now (out .exit) ≡ over (printUnit u) (now (out .entry)) ⌝ }
+    ensures count { λ r. ⌜ r ≡ length (printUnit u) ⌝ }
+    ensures written { λ _. ⌜ now (out .exit) ≡ over (printUnit u) (now (out .entry)) ⌝ }
 {
     if plain(u) {
         out[0] = u as u8;
@@ -94,13 +108,13 @@ pub fn put_unit(out: &mut [u8], u: u16) -> usize
 // How many bytes the name of the entry at p takes.
 pub fn name_length(img: &[u8], p: usize) -> usize
     requires { ⌜ NamedAt (now img) p ⌝ }
-    ensures { λ r. ⌜ r ≡ length (printName (name (entryAt (now (img .entry)) p))) ⌝ }
+    ensures { λ r. ⌜ r ≡ length (printName (nameAt (now (img .entry)) p)) ⌝ }
 {
-    let n = units(img, p);
+    let n = name_units(img, p);
     let mut k = 0;
     let mut i = 0;
     while i < n {
-        k += unit_length(unit(img, p, i));
+        k += name_unit_length(name_unit(img, p, i));
         i += 1;
     }
     k
@@ -109,15 +123,15 @@ pub fn name_length(img: &[u8], p: usize) -> usize
 // Writes the name of the entry at p, and returns how many bytes it takes.
 pub fn put_name(out: &mut [u8], img: &[u8], p: usize) -> usize
     requires { ⌜ NamedAt (now img) p ⌝ }
-    requires { ⌜ length (printName (name (entryAt (now img) p))) ≤ length (now out) ⌝ }
-    ensures { λ r. ⌜ r ≡ length (printName (name (entryAt (now (img .entry)) p))) ⌝ }
-    ensures { λ _. ⌜ now (out .exit) ≡ over (printName (name (entryAt (now (img .entry)) p))) (now (out .entry)) ⌝ }
+    requires { ⌜ length (printName (nameAt (now img) p)) ≤ length (now out) ⌝ }
+    ensures count { λ r. ⌜ r ≡ length (printName (nameAt (now (img .entry)) p)) ⌝ }
+    ensures written { λ _. ⌜ now (out .exit) ≡ over (printName (nameAt (now (img .entry)) p)) (now (out .entry)) ⌝ }
 {
-    let n = units(img, p);
+    let n = name_units(img, p);
     let mut k = 0;
     let mut i = 0;
     while i < n {
-        k += put_unit(&mut out[k..], unit(img, p, i));
+        k += put_name_unit(&mut out[k..], name_unit(img, p, i));
         i += 1;
     }
     k

@@ -12,7 +12,7 @@ use Rattle.format.specs.Layout.Chain.{FREE, isFree}
 use Rattle.format.specs.Layout.Space.{Space, freeUnits}
 use Rattle.tables.specs.Work.{Wrote}
 use Rattle.tables.proofs.WorkLaws.{wrote-none, wrote-set}
-use Rattle.unitlists.specs.Free.{NextFree}
+use Rattle.unitlists.specs.Free.{NoneFree, LowestFree}
 use Rattle.theory.proofs.Picks.{pick-skip, pick-more, pick-front}
 
 pub record Picking (sp : Space) (w₀ : List ℕ) (k₀ need : ℕ) (w : List ℕ) (k from : ℕ) : Type 0 where
@@ -34,32 +34,34 @@ module _ {sp : Space} {w₀ : List ℕ} {k₀ need : ℕ} where
       }
 
   module _ {w : List ℕ} {k from : ℕ} (a : Picking sp w₀ k₀ need w k from) where
-    module _ {u : ℕ} (f : NextFree sp from u) where
-      skipped : pickBelow u (isFree (sp .cell)) ≡ pickBelow from (isFree (sp .cell))
-      skipped = pick-skip (isFree (sp .cell)) from u (f .low) (λ x l h. ne-eqb (sp .cell x) FREE (f .none x l h))
+    -- units that are not free are passed over
+    skipped : (u : ℕ) → from ≤ u → NoneFree sp from u → pickBelow u (isFree (sp .cell)) ≡ pickBelow from (isFree (sp .cell))
+    skipped u h f = pick-skip (isFree (sp .cell)) from u h (λ x l b. ne-eqb (sp .cell x) FREE (f x l b))
 
-      pub picking-step : k < need → k < length w → u < sp .limit → Picking sp w₀ k₀ need (set w k u) (k + 1) (u + 1)
-      picking-step h l b =
-          let p : pickBelow (u + 1) (isFree (sp .cell)) ≡ pickBelow from (isFree (sp .cell)) ++ (u ∷ []) =
-          pick-more (isFree (sp .cell)) u (eq-eqb (sp .cell u) FREE (f .here b)) ∙ ap (λ x. x ++ (u ∷ [])) skipped in
-          record {
-            some = omega arith;
-            within = omega arith;
-            wrote = wrote-set k u (a .wrote) (omega arith) (omega arith);
-            count = rw (p, length-append) (omega (arith, a .count));
-            front = rw (p, add-one) (take-suc-set w k u l ∙ rw (a .front) (append-assoc (take k₀ w₀) (pickBelow from (isFree (sp .cell))) (u ∷ [])));
-          }
+    pub picking-step : {u : ℕ} → LowestFree sp from u → k < need → k < length w → Picking sp w₀ k₀ need (set w k u) (k + 1) (u + 1)
+    picking-step {u} f h l =
+        let p : pickBelow (u + 1) (isFree (sp .cell)) ≡ pickBelow from (isFree (sp .cell)) ++ (u ∷ []) =
+        pick-more (isFree (sp .cell)) u (eq-eqb (sp .cell u) FREE (f .free)) ∙ ap (λ x. x ++ (u ∷ [])) (skipped u (f .low) (f .none)) in
+        record {
+          some = omega arith;
+          within = omega (arith, f .inside);
+          wrote = wrote-set k u (a .wrote) (omega arith) (omega arith);
+          count = rw (p, length-append) (omega (arith, a .count));
+          front = rw (p, add-one) (take-suc-set w k u l ∙ rw (a .front) (append-assoc (take k₀ w₀) (pickBelow from (isFree (sp .cell))) (u ∷ [])));
+        }
 
-      -- no free unit is left
-      pub picking-none : k₀ ≤ length w₀ → u ≡ sp .limit → (k ≡ min need (k₀ + length (freeUnits sp))) × (take k w ≡ take need (take k₀ w₀ ++ freeUnits sp))
-      unfolding freeUnits
-      picking-none r e =
-          let z : pickBelow (sp .limit) (isFree (sp .cell)) ≡ pickBelow from (isFree (sp .cell)) = rw e at skipped in
-          let l = length-take-le k₀ w₀ r in
-          rw z (omega (arith, a .count, a .some), a .front ∙ sym (take-all need _ (rw (length-append, l) (omega (arith, a .count, a .some)))))
+    -- no free unit is left
+    pub picking-none : NoneFree sp from (sp .limit) → k₀ ≤ length w₀
+        → (k ≡ min need (k₀ + length (freeUnits sp))) × (take k w ≡ take need (take k₀ w₀ ++ freeUnits sp))
+    unfolding freeUnits
+    picking-none f r =
+        let z = skipped (sp .limit) (a .within) f in
+        let l = length-take-le k₀ w₀ r in
+        rw z (omega (arith, a .count, a .some), a .front ∙ sym (take-all need _ (rw (length-append, l) (omega (arith, a .count, a .some)))))
 
     -- there are as many as are needed
-    pub picking-full : k₀ ≤ length w₀ → need ≤ k → (k ≡ min need (k₀ + length (freeUnits sp))) × (take k w ≡ take need (take k₀ w₀ ++ freeUnits sp))
+    pub picking-full : k₀ ≤ length w₀ → need ≤ k
+        → (k ≡ min need (k₀ + length (freeUnits sp))) × (take k w ≡ take need (take k₀ w₀ ++ freeUnits sp))
     unfolding freeUnits
     picking-full r h =
         let P = pickBelow from (isFree (sp .cell)) in

@@ -4,13 +4,11 @@ ghost use mathlib.Core.Bool.{true};
 ghost use mathlib.Core.List.{_++_};
 ghost use Prim.Native.Nat.{_+_, _≤_, min};
 ghost use lib.ListN.{length, take};
-ghost use Rattle.format.specs.Layout.Chain.{chain, units};
 ghost use Rattle.format.specs.Layout.Space.{freeUnits};
-ghost use Rattle.format.specs.Layout.Volume.{volume as volumeOf};
-ghost use Rattle.kinds.specs.Sizes.{geometryOf};
 ghost use Rattle.tables.specs.Work.{Wrote};
 ghost use Rattle.volume.specs.Opened.{Readied};
-ghost use Rattle.spaces.specs.Spaces.{spaceOf};
+ghost use Rattle.spaces.specs.Spaces.{spaceAt};
+ghost use Rattle.spaces.specs.Units.{chainFrom, unitsFrom};
 ghost use Rattle.unitlists.specs.Free.{NextFree};
 use spaces::Kind;
 use spaces::Unit;
@@ -20,25 +18,28 @@ use volume::Volume;
 
 // ---- free units
 
-// The lowest free unit from a place on, or how many units there are.
-fn next_free(img: &[u8], work: &[u32], v: Volume, kind: Kind, from: usize) -> usize
+// What a search for a free unit finds.
+pub enum Search {
+    Found(Unit),
+    Nothing,
+}
+
+// The lowest free unit from a place on.
+fn next_free(img: &[u8], work: &[u32], v: Volume, kind: Kind, from: usize) -> Search
     requires { ⌜ Readied v (now img) (now work) ⌝ }
-    requires { ⌜ from ≤ spaceOf kind (volumeOf (geometryOf (v .tables .geometry)) (now img)) .limit ⌝ }
-    ensures { λ r. ⌜ NextFree (spaceOf kind (volumeOf (geometryOf (v .tables .geometry)) (now (img .entry)))) from r ⌝ }
+    requires { ⌜ from ≤ spaceAt v (now img) kind .limit ⌝ }
+    ensures { λ r. ⌜ NextFree kind (spaceAt v (now (img .entry)) kind) from r ⌝ }
 {
     let count = unit_count(v, kind);
     let mut i = from;
     while i < count {
-        let u = Unit {
-            kind: kind,
-            number: i as u32,
-        };
+        let u = Unit::at(kind, i);
         if cell_of(img, work, v, u).is_free() {
-            return i;
+            return Search::Found(u);
         }
         i += 1;
     }
-    i
+    Search::Nothing
 }
 
 // Lists free units behind the first k numbers, lowest first, until there are `need`, and says how many numbers stand there.
@@ -52,22 +53,21 @@ pub fn list_free(
 ) -> usize
     requires { ⌜ Readied v (now img) (now work) ⌝ }
     requires { ⌜ k ≤ need ⌝ }
-    requires { ⌜ need ≤ spaceOf kind (volumeOf (geometryOf (v .tables .geometry)) (now img)) .limit ⌝ }
-    ensures { λ r. ⌜ r ≡ min need (k + length (freeUnits (spaceOf kind (volumeOf (geometryOf (v .tables .geometry)) (now (img .entry)))))) ⌝ }
-    ensures { λ r. ⌜ take r (now (work .exit)) ≡ take need (take k (now (work .entry)) ++ freeUnits (spaceOf kind (volumeOf (geometryOf (v .tables .geometry)) (now (img .entry))))) ⌝ }
+    requires { ⌜ need ≤ spaceAt v (now img) kind .limit ⌝ }
+    ensures { λ r. ⌜ r ≡ min need (k + length (freeUnits (spaceAt v (now (img .entry)) kind))) ⌝ }
+    ensures { λ r. ⌜ take r (now (work .exit)) ≡ take need (take k (now (work .entry)) ++ freeUnits (spaceAt v (now (img .entry)) kind)) ⌝ }
     ensures { λ _. ⌜ Wrote (now (work .entry)) (now (work .exit)) 0 need ⌝ }
 {
-    let count = unit_count(v, kind);
     let mut n = k;
     let mut from = 0;
     while n < need {
-        let u = next_free(img, work, v, kind, from);
-        if u == count {
+        let s = next_free(img, work, v, kind, from);
+        let Search::Found(u) = s else {
             return n;
-        }
-        work[n] = u as u32;
+        };
+        work[n] = u.number();
         n += 1;
-        from = u + 1;
+        from = u.index() + 1;
     }
     n
 }
@@ -77,14 +77,14 @@ pub fn list_free(
 // Lists the n units of a chain.
 pub fn list_units(img: &[u8], work: &mut [u32], v: Volume, start: Unit, n: usize)
     requires { ⌜ Readied v (now img) (now work) ⌝ }
-    requires { ⌜ chain (spaceOf (start .kind) (volumeOf (geometryOf (v .tables .geometry)) (now img)) .cell) (spaceOf (start .kind) (volumeOf (geometryOf (v .tables .geometry)) (now img)) .limit) n (start .number) ≡ true ⌝ }
-    ensures { λ _. ⌜ take n (now (work .exit)) ≡ units (spaceOf (start .kind) (volumeOf (geometryOf (v .tables .geometry)) (now (img .entry))) .cell) n (start .number) ⌝ }
+    requires { ⌜ chainFrom v (now img) start n ≡ true ⌝ }
+    ensures { λ _. ⌜ take n (now (work .exit)) ≡ unitsFrom v (now (img .entry)) start n ⌝ }
     ensures { λ _. ⌜ Wrote (now (work .entry)) (now (work .exit)) 0 n ⌝ }
 {
     let mut u = start;
     let mut i = 0;
     while i < n {
-        work[i] = u.number;
+        work[i] = u.number();
         u = cell_of(img, work, v, u);
         i += 1;
     }

@@ -14,10 +14,10 @@ use Rattle.theory.specs.Marks.{marks, Owning}
 use Rattle.theory.proofs.OwnerMarks.{owning-same}
 use Rattle.kinds.specs.Sizes.{geometryOf}
 use Rattle.tables.specs.Work.{Wrote}
-use Rattle.tables.specs.Listed.{Listed, listPlace, tablesOf}
+use Rattle.tables.specs.Listed.{FatListed, listPlace, tablesOf}
 use Rattle.tables.specs.declared.Tables.{Tables}
 use Rattle.tables.proofs.WorkLaws.{wrote-cleared, wrote-two, wrote-wider, listed-kept}
-use Rattle.directory.specs.Listed.{Listed as DirectoryListed, directoryAt}
+use Rattle.directory.specs.Listed.{DirectoryListed, directoryAt}
 use Rattle.directory.specs.declared.Directory.{Directory}
 use Rattle.directory.proofs.Room.{tables-apart}
 use Rattle.owners.proofs.Judged.{owning-cleared}
@@ -49,14 +49,14 @@ module _ {t : Tables} {img : Bytes} {w : List ℕ} {n : ℕ} (h : TablesHold (ge
   pub marks-in : t .sectors ≤ length w
   marks-in = omega (arith, sectors-are, h .whole, h .listed .sized .many)
 
-  pub fat-listed : Listed g img w (t .sectors) (t .list)
+  pub fat-listed : FatListed t img w
   fat-listed = rw (sectors-are, list-is) (h .listed)
 
   module _ {w₁ : List ℕ} (c : w₁ ≡ workCleared (t .sectors) w) where
     emptied : Wrote w w₁ 0 (t .sectors)
     emptied = wrote-cleared (t .sectors) w w₁ c marks-in
 
-    pub still-listed : Listed g img w₁ (t .sectors) (t .list)
+    pub still-listed : FatListed t img w₁
     still-listed = listed-kept fat-listed emptied (omega (arith, list-room, sectors-are))
 
     pub all-clear : {w₂ : List ℕ} {d : Directory} → Wrote w₁ w₂ (t .list - n) n → d ≡ directoryAt t n (t .list - n) → DirectoryListed d img w₂ → Cleared t d img w w₂

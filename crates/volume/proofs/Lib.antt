@@ -3,7 +3,6 @@ pub mod Verdicts
 pub mod Walks
 pub mod Outcomes
 pub mod MiniCounts
-pub mod SystemChains
 pub mod ListsKept
 pub mod Clearing
 pub mod MiniStage

@@ -1,13 +1,12 @@
 -- How many mini sectors and mini FAT sectors there can be, and the rules on the mini FAT's cells.
 use Prim.Native.Nat.{ℕ, _*_, _/_, _%_, _≤_, _<_}
 use mathlib.Core.Path.{_≡_, refl, sym, _∙_}
-use mathlib.Core.Bool.{Bool, true, false, _&&_}
+use mathlib.Core.Bool.{Bool, true, false}
 use native.Mathlib.Nat.{mul-le-mul-right, add-mul}
 use native.Mathlib.Omega.{arith}
 use lib.Dec.{eqb}
 use lib.ListN.{length}
 use borrow.Author.Tests.{le-leb, lt-leb}
-use Rattle.format.specs.Basics.Lists.{allBelow}
 use Rattle.format.specs.Basics.Bytes.{Bytes}
 use Rattle.format.specs.Layout.Geometry.{Geometry, sectorCount, miniBytes, cellsIn}
 use Rattle.format.specs.Layout.Need.{roundUp}
@@ -17,14 +16,13 @@ use Rattle.format.specs.Layout.Header.{miniFatStart, miniFatCount}
 use Rattle.format.specs.Layout.Entry.{size, start}
 use Rattle.format.specs.Layout.Tables.{fatCell, sectorSpace}
 use Rattle.format.specs.Layout.Volume.{volume, root, directory, miniSpace, miniCells}
-use Rattle.format.specs.Rules.Cells.{restFree}
-use Rattle.format.specs.Rules.Mini.{miniFatChain, miniStreamChain, miniCellRight}
+use Rattle.format.specs.Rules.Mini.{miniFatChain, miniStreamChain}
 use Rattle.theory.proofs.Tests.{both}
 use Rattle.theory.proofs.Chains.{chain-short}
 use Rattle.theory.proofs.RoundUp.{round-enough}
-use Rattle.tables.specs.Sized.{ImageSized}
+use Rattle.header.specs.Sized.{ImageSized}
 use Rattle.tables.proofs.Places.{cells-short}
-use Rattle.minis.specs.Listed.{MiniCounts}
+use Rattle.minis.specs.Listed.{MiniCounts, cellsRight}
 use Rattle.volume.specs.Passed.{miniCellRules}
 
 module _ (g : Geometry) (img : Bytes) where
@@ -72,6 +70,6 @@ module _ (g : Geometry) (img : Bytes) where
   unfolding miniCellRules volume miniSpace miniCells
   cells-too-few h = rw (lt-leb (miniSpace g img .limit) (cellsIn g * miniFatCount img) h)
 
-  pub cells-by-rules : miniSpace g img .limit ≤ cellsIn g * miniFatCount img → {r : Bool} → r ≡ (allBelow (miniSpace g img .limit) (miniCellRight (miniSpace g img)) && restFree (miniSpace g img)) → miniCellRules (volume g img) ≡ r
+  pub cells-by-rules : miniSpace g img .limit ≤ cellsIn g * miniFatCount img → {r : Bool} → r ≡ cellsRight (miniSpace g img) → miniCellRules (volume g img) ≡ r
   unfolding miniCellRules volume miniSpace miniCells
   cells-by-rules h e = rw (le-leb (miniSpace g img .limit) (cellsIn g * miniFatCount img) h) (sym e)

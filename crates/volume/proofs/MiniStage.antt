@@ -8,25 +8,24 @@ use lib.ListN.{length}
 use Rattle.format.specs.Basics.Bytes.{Bytes}
 use Rattle.format.specs.Layout.Geometry.{Geometry, sectorCount}
 use Rattle.format.specs.Layout.Header.{miniFatCount}
-use Rattle.format.specs.Layout.Tables.{fatCell, sectorSpace}
+use Rattle.format.specs.Layout.Tables.{sectorSpace}
 use Rattle.format.specs.Layout.Volume.{volume, miniSpace}
 use Rattle.format.specs.Rules.Length.{workNeed}
 use Rattle.format.specs.Rules.Mini.{miniFatChain, miniStreamChain}
-use Rattle.theory.specs.Marks.{marks, Owning}
 use Rattle.theory.proofs.Tests.{both}
 use Rattle.kinds.specs.Sizes.{geometryOf}
 use Rattle.tables.specs.Work.{Wrote}
 use Rattle.tables.specs.Listed.{tablesOf}
 use Rattle.tables.specs.declared.Tables.{Tables}
 use Rattle.tables.proofs.WorkLaws.{wrote-two, wrote-wider, listed-kept}
-use Rattle.chains.specs.Answers.{isBroken, isShared, ChainsMarked}
+use Rattle.chains.specs.Answers.{isBroken, isShared}
 use Rattle.chains.specs.declared.Marked.{Marked}
 use Rattle.chains.proofs.Owners.{is-right}
 use Rattle.directory.specs.Listed.{directoryAt}
 use Rattle.directory.specs.declared.Directory.{Directory}
-use Rattle.minis.specs.Listed.{minisAt, Listed as MiniListed}
+use Rattle.minis.specs.Listed.{minisAt, MiniListed}
 use Rattle.minis.specs.declared.Minis.{Minis}
-use Rattle.owners.specs.Streams.{systemChains}
+use Rattle.system_chains.specs.System.{SystemWalked, SystemOwned}
 use Rattle.directory.proofs.Places.{directory-kept}
 use Rattle.volume.specs.Passed.{TablesHold, Cleared, MiniRoom, SystemMarked, TableRight, miniCellRules}
 use Rattle.volume.specs.declared.mini_stage.MiniTable.{MiniTable}
@@ -38,7 +37,7 @@ use Rattle.volume.proofs.Outcomes.{wrote-ours}
 
 module _ {t : Tables} {d : Directory} {img : Bytes} {w w₁ w₂ : List ℕ} {n : ℕ} {a : Marked} (h : TablesHold (geometryOf (t .geometry)) img w n) (e : t ≡ tablesOf (t .geometry) img)
     (f : d ≡ directoryAt t n (t .list - n)) (c : Cleared t d img w w₁)
-    (m : ChainsMarked (sectorSpace (geometryOf (t .geometry)) img) (miniFatChain (volume (geometryOf (t .geometry)) img) && miniStreamChain (volume (geometryOf (t .geometry)) img)) (systemChains (geometryOf (t .geometry)) img) w₁ w₂ a) where
+    (m : SystemWalked t img w₁ w₂ a) where
   abbrev g : Geometry
   g = geometryOf (t .geometry)
 
@@ -68,7 +67,7 @@ module _ {t : Tables} {d : Directory} {img : Bytes} {w w₁ w₂ : List ℕ} {n 
           room = c .room;
         }
 
-    owned : Owning (fatCell g img) (sectorCount g img) (systemChains g img) (marks w₂) (isShared a)
+    owned : SystemOwned t img w₂ (isShared a)
     unfolding sectorSpace
     owned = m .owners chains-right [] false (c .clear)
 

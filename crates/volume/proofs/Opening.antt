@@ -13,10 +13,11 @@ use Rattle.format.specs.Layout.Geometry.{Geometry}
 use Rattle.format.specs.Rules.Length.{workNeed}
 use Rattle.format.specs.Rules.Verdict.{check, volumeGroups, groups, verdict}
 use Rattle.format.specs.Calls.Buffers.{workCleared}
-use Rattle.kinds.specs.declared.Answer.{Answer}
+use Rattle.kinds.specs.declared.Refusal.{Refusal}
 use Rattle.kinds.specs.declared.Geometry.{Geometry as Sizes}
 use Rattle.kinds.specs.Sizes.{geometryOf}
-use Rattle.kinds.specs.Numbers.{numberOf}
+use Rattle.kinds.specs.Numbers.{refusalNumber}
+use Rattle.kinds.proofs.Refusals.{refusal-some}
 use Rattle.tables.specs.Work.{Wrote}
 use Rattle.tables.proofs.WorkLaws.{wrote-two}
 use Rattle.volume.specs.Opened.{Outcome, StageLeft, OpenedRight, workLeft}
@@ -68,14 +69,8 @@ groups-large g img z =
 -- ---- the answer
 
 -- refused before any group
-pub refused-early : (g : Geometry) (img : Bytes) (w : List ℕ) (a : Answer) → verdict g img (length w) ≡ numberOf a → (numberOf a ≡ 1) ⊎ (numberOf a ≡ 2) → OpenedRight g img w w (Refused a)
-refused-early g img w a e h = (
-  sym e,
-  (
-    λ z. ⊎-elim (λ k. omega (arith, e, k)) (λ k. omega (arith, e, k)) h,
-    left-alone (verdict g img (length w)) img w (⊎-elim (λ k. inl (e ∙ k)) (λ k. inr (e ∙ k)) h),
-  ),
-)
+pub refused-early : (g : Geometry) (img : Bytes) (w : List ℕ) (a : Refusal) → verdict g img (length w) ≡ refusalNumber a → (refusalNumber a ≡ 1) ⊎ (refusalNumber a ≡ 2) → OpenedRight g img w w (Refused a)
+refused-early g img w a e h = (sym e, left-alone (verdict g img (length w)) img w (⊎-elim (λ k. inl (e ∙ k)) (λ k. inr (e ∙ k)) h))
 
 module _ (g : Geometry) {s : Sizes} {img : Bytes} {w w₁ w₂ : List ℕ} (r : Opened) (l : StageLeft s img (groups g img) w₁ w₂ r) (v : verdict g img (length w) ≡ groups g img)
     (x : Wrote w w₁ 0 (workNeed (length img))) where
@@ -83,11 +78,11 @@ module _ (g : Geometry) {s : Sizes} {img : Bytes} {w w₁ w₂ : List ℕ} (r : 
   all-wrote = wrote-two x (l .wrote)
 
   -- refused by a group
-  pub refused-late : {a : Answer} {w₃ : List ℕ} → r ≡ Refused a → w₃ ≡ workCleared (workNeed (length img)) w₂ → OpenedRight g img w w₃ (Refused a)
+  pub refused-late : {a : Refusal} {w₃ : List ℕ} → r ≡ Refused a → w₃ ≡ workCleared (workNeed (length img)) w₂ → OpenedRight g img w w₃ (Refused a)
   refused-late {a} e c =
       let o : Outcome s img (groups g img) w₂ (Refused a) = subst (λ y. Outcome s img (groups g img) w₂ y) e (l .outcome) in
-      let h : 9 < verdict g img (length w) = omega (arith, v, groups-large g img (o .1)) in
-      (o .0 ∙ sym v, (λ z. o .1 (sym v ∙ z), left-cleared (verdict g img (length w)) img w (omega arith) (omega arith) all-wrote c))
+      let h : 9 < verdict g img (length w) = omega (arith, v, groups-large g img (λ z. refusal-some a (o ∙ z))) in
+      (o ∙ sym v, left-cleared (verdict g img (length w)) img w (omega arith) (omega arith) all-wrote c)
 
   pub opened : {y : Volume} → geometryOf s ≡ g → workNeed (length img) ≤ length w → r ≡ Ready y → OpenedRight g img w w₂ (Ready y)
   opened {y} q n e =

@@ -1,7 +1,6 @@
 -- The first rule that does not hold decides: the outcome of each stage.
-use Prim.Native.Nat.{ℕ, _*_, _/_, _≤_}
+use Prim.Native.Nat.{ℕ, _≤_}
 use mathlib.Core.Path.{_≡_, refl, sym, _∙_, subst}
-use mathlib.Core.Logic.{_≢_}
 use mathlib.Core.Bool.{Bool, true, false, _&&_, _||_, and-assoc}
 use mathlib.Core.List.{List}
 use native.Mathlib.Omega.{arith}
@@ -16,9 +15,10 @@ use Rattle.format.specs.Rules.Mini.{miniFatChain, miniStreamChain, miniRules}
 use Rattle.format.specs.Rules.Owners.{ownersIn, ownedSectors, ownedMinis, ownerRules}
 use Rattle.format.specs.Rules.Verdict.{check}
 use Rattle.kinds.specs.declared.Geometry.{Geometry as Sizes}
-use Rattle.kinds.specs.declared.Answer.{Answer}
+use Rattle.kinds.specs.declared.Refusal.{Refusal}
 use Rattle.kinds.specs.Sizes.{geometryOf}
-use Rattle.kinds.specs.Numbers.{numberOf}
+use Rattle.kinds.specs.Numbers.{refusalNumber}
+use Rattle.header.specs.Sized.{W}
 use Rattle.theory.proofs.Tests.{clash}
 use Rattle.tables.specs.Work.{Wrote}
 use Rattle.tables.proofs.WorkLaws.{wrote-wider, wrote-two}
@@ -32,7 +32,7 @@ use Rattle.volume.specs.declared.Opened.{Opened}
 use Rattle.volume.specs.declared.Opened.the-variants.{Refused}
 
 -- only the part of the work buffer that is ours has changed
-pub wrote-ours : (img : Bytes) {w w′ : List ℕ} {n : ℕ} → Wrote w w′ 0 n → n ≤ 13 * (length img / 512) → Wrote w w′ 0 (workNeed (length img))
+pub wrote-ours : (img : Bytes) {w w′ : List ℕ} {n : ℕ} → Wrote w w′ 0 n → n ≤ W img → Wrote w w′ 0 (workNeed (length img))
 unfolding workNeed
 wrote-ours img r h = wrote-wider 0 _ r (omega arith) (omega arith)
 
@@ -105,8 +105,8 @@ pub stage-later : {s : Sizes} {img : Bytes} {want later : ℕ} {w w₁ w₂ : Li
 stage-later {s} {img} {w₂ = w₂} {r} e x l = record { outcome = rw e (l .outcome); wrote = wrote-two x (l .wrote) }
 
 -- a refusal
-pub stage-refused : (s : Sizes) (img : Bytes) (want : ℕ) (a : Answer) {w w′ : List ℕ} → want ≡ numberOf a → numberOf a ≢ 0 → Wrote w w′ 0 (workNeed (length img)) → StageLeft s img want w w′ (Refused a)
-stage-refused s img want a e h x = record { outcome = (sym e, λ z. h (sym e ∙ z)); wrote = x }
+pub stage-refused : (s : Sizes) (img : Bytes) (want : ℕ) (a : Refusal) {w w′ : List ℕ} → want ≡ refusalNumber a → Wrote w w′ 0 (workNeed (length img)) → StageLeft s img want w w′ (Refused a)
+stage-refused s img want a e x = record { outcome = sym e; wrote = x }
 
 -- the same geometry by another name
 pub stage-for : (f : Volume → ℕ) (img : Bytes) {s s′ : Sizes} {w w′ : List ℕ} {r : Opened} → s ≡ s′ → StageLeft s img (f (volume (geometryOf s) img)) w w′ r → StageLeft s′ img (f (volume (geometryOf s′) img)) w w′ r

@@ -20,7 +20,7 @@ use Rattle.format.specs.Rules.Entries.{entryRules}
 use Rattle.format.specs.Rules.Trees.{treeRules}
 use Rattle.format.specs.Rules.Verdict.{check, volumeGroups, groups, verdict}
 use Rattle.format.specs.Calls.Buffers.{workCleared}
-use Rattle.tables.specs.Sized.{ImageSized}
+use Rattle.header.specs.Sized.{ImageSized}
 use Rattle.tables.specs.Work.{Wrote, WorkClear}
 use Rattle.tables.specs.Stages.{TablesLeft}
 use Rattle.tables.proofs.WorkLaws.{cleared, wrote-cleared}

@@ -13,14 +13,14 @@ use Rattle.format.specs.Rules.Length.{workNeed}
 use Rattle.format.specs.Calls.Buffers.{workCleared}
 use Rattle.theory.specs.TreeWalk.{WalkRoom}
 use Rattle.tables.specs.Work.{Wrote}
-use Rattle.tables.specs.Listed.{Listed, listPlace}
+use Rattle.tables.specs.Listed.{FatListedAt, listPlace}
 use Rattle.tables.proofs.WorkLaws.{cleared, wrote-cleared, wrote-two, listed-kept}
 use Rattle.tables.specs.declared.Tables.{Tables}
 use Rattle.directory.specs.declared.Directory.{Directory as Where}
-use Rattle.directory.specs.Listed.{entriesOf, directoryAt, Listed as DirectoryListed}
+use Rattle.directory.specs.Listed.{entriesOf, directoryAt, DirectoryListed}
 use Rattle.directory.proofs.Places.{count-is}
 use Rattle.directory.proofs.Room.{walk-room}
-use Rattle.hierarchy.specs.Lent.{Lent}
+use Rattle.tree_walk.specs.Lent.{Lent}
 use Rattle.volume.specs.Passed.{TablesHold}
 use Rattle.volume.proofs.Outcomes.{wrote-ours}
 
@@ -36,11 +36,11 @@ module _ {g : Geometry} {img : Bytes} {w : List ℕ} {n : ℕ} (t : TablesHold g
     clearing : Wrote w w₁ 0 (n + entriesIn g * n)
     clearing = wrote-cleared (n + entriesIn g * n) w w₁ c (omega (arith, room-before, room-in))
 
-    pub still-listed : Listed g img w₁ (sectorCount g img) (listPlace img)
+    pub still-listed : FatListedAt g img w₁ (sectorCount g img) (listPlace img)
     still-listed = listed-kept (t .listed) clearing (omega (arith, room-before))
 
     -- the directory's list ends before the FAT's
-    pub list-stays : {w₂ : List ℕ} → Wrote w₁ w₂ 0 n → Listed g img w₂ (sectorCount g img) (listPlace img)
+    pub list-stays : {w₂ : List ℕ} → Wrote w₁ w₂ 0 n → FatListedAt g img w₂ (sectorCount g img) (listPlace img)
     list-stays r = listed-kept still-listed r (omega (arith, room-before))
 
     -- nothing behind has changed
@@ -101,5 +101,5 @@ module _ (m : ℕ) (w : List ℕ) (h : m ≤ length w) where
   walked-wrote img k v e = wrote-ours img (part-written v e) (omega arith)
 
   -- the FAT's list stays behind it
-  pub walked-listed : {g : Geometry} {img : Bytes} → Listed g img w (sectorCount g img) (listPlace img) → m ≤ listPlace img → (v : List ℕ) → length v ≡ length (take m w) → Listed g img (v ++ drop m w) (sectorCount g img) (listPlace img)
+  pub walked-listed : {g : Geometry} {img : Bytes} → FatListedAt g img w (sectorCount g img) (listPlace img) → m ≤ listPlace img → (v : List ℕ) → length v ≡ length (take m w) → FatListedAt g img (v ++ drop m w) (sectorCount g img) (listPlace img)
   walked-listed l k v e = listed-kept l (part-written v e) (omega arith)

@@ -1,7 +1,6 @@
 -- What a stage leaves: a refusal with the number of the first broken group, or an opened volume.
 use Prim.Native.Nat.{ℕ, _*_, _/_, _≤_}
 use mathlib.Core.Path.{_≡_}
-use mathlib.Core.Logic.{_≢_}
 use mathlib.Core.Bool.{cond, _||_}
 use mathlib.Core.List.{List}
 use lib.Dec.{eqb}
@@ -14,7 +13,7 @@ use Rattle.format.specs.Rules.Verdict.{verdict}
 use Rattle.format.specs.Calls.Buffers.{workCleared}
 use Rattle.kinds.specs.declared.Geometry.{Geometry as Sizes}
 use Rattle.kinds.specs.Sizes.{geometryOf}
-use Rattle.kinds.specs.Numbers.{numberOf}
+use Rattle.kinds.specs.Numbers.{refusalNumber}
 use Rattle.tables.specs.Work.{Wrote, Holds}
 use Rattle.chains.specs.Answers.{unitAt}
 use Rattle.volume.specs.Passed.{ListsStand}
@@ -22,16 +21,20 @@ use Rattle.volume.specs.declared.Volume.{Volume}
 use Rattle.volume.specs.declared.Opened.{Opened}
 use Rattle.volume.specs.declared.Opened.the-variants.{Refused, Ready}
 
+-- the sectors of the mini stream
+abbrev pub streamOf : Volume → Bytes → List ℕ
+streamOf v img = miniStreamSectors (geometryOf (v .tables .geometry)) img
+
 -- every list stands in the work buffer, that of the mini stream's sectors first; before it there is room to list every unit of a kind
 pub record Readied (v : Volume) (img : Bytes) (work : List ℕ) : Type 0 where
   pub lists : ListsStand (v .tables) (v .directory) (v .minis) img work
-  pub stream : Holds work (v .stream) (length (miniStreamSectors (geometryOf (v .tables .geometry)) img)) (unitAt (miniStreamSectors (geometryOf (v .tables .geometry)) img))
+  pub stream : Holds work (v .stream) (length (streamOf v img)) (unitAt (streamOf v img))
   pub before : v .stream ≤ v .minis .list
   pub room : 8 * (length img / 512) ≤ v .stream
 
 -- a stage that answers `want`
 abbrev pub Outcome : Sizes → Bytes → ℕ → List ℕ → Opened → Type 0
-Outcome s img want work (Refused a) = (numberOf a ≡ want) × (want ≢ 0)
+Outcome s img want work (Refused a) = refusalNumber a ≡ want
 Outcome s img want work (Ready v) = (want ≡ 0) × ((v .tables .geometry ≡ s) × Readied v img work)
 
 pub record StageLeft (s : Sizes) (img : Bytes) (want : ℕ) (before after : List ℕ) (r : Opened) : Type 0 where
@@ -45,6 +48,8 @@ workLeft a img work = cond (eqb a 1 || eqb a 2) work (workCleared (workNeed (len
 -- the opening of an image: refused for good, or with everything ready and the rest of the work buffer untouched
 abbrev pub OpenedRight : Geometry → Bytes → List ℕ → List ℕ → Opened → Type 0
 OpenedRight g img before after (Refused a) =
-    (numberOf a ≡ verdict g img (length before)) × ((verdict g img (length before) ≢ 0) × (after ≡ workLeft (verdict g img (length before)) img before))
+    (refusalNumber a ≡ verdict g img (length before)) × (after ≡ workLeft (verdict g img (length before)) img before)
 OpenedRight g img before after (Ready v) =
-    (verdict g img (length before) ≡ 0) × ((geometryOf (v .tables .geometry) ≡ g) × (Readied v img after × ((workNeed (length img) ≤ length before) × Wrote before after 0 (workNeed (length img)))))
+    (verdict g img (length before) ≡ 0)
+    × ((geometryOf (v .tables .geometry) ≡ g)
+    × (Readied v img after × ((workNeed (length img) ≤ length before) × Wrote before after 0 (workNeed (length img)))))

@@ -6,26 +6,25 @@ use mathlib.Core.List.{List, []}
 use lib.Dec.{leb}
 use lib.ListN.{length}
 use Rattle.format.specs.Basics.Bytes.{Bytes}
-use Rattle.format.specs.Basics.Lists.{allBelow}
 use Rattle.format.specs.Layout.Geometry.{Geometry, sectorCount}
 use Rattle.format.specs.Layout.Header.{miniFatCount}
-use Rattle.format.specs.Layout.Tables.{fatCell}
 use Rattle.format.specs.Layout.Volume.{Volume, volume, directorySectorsOf, miniSpace}
 use Rattle.format.specs.Rules.Length.{workNeed}
-use Rattle.format.specs.Rules.Cells.{restFree}
 use Rattle.format.specs.Rules.Tables.{tableRules}
 use Rattle.format.specs.Rules.Directory.{directoryRules}
-use Rattle.format.specs.Rules.Mini.{miniCellRight, miniFatChain, miniStreamChain}
+use Rattle.format.specs.Rules.Mini.{miniFatChain, miniStreamChain}
 use Rattle.theory.specs.Marks.{marks, Owning}
 use Rattle.kinds.specs.Sizes.{geometryOf}
+use Rattle.header.specs.Sized.{W}
 use Rattle.tables.specs.Work.{Wrote}
-use Rattle.tables.specs.Listed.{Listed, listPlace}
+use Rattle.tables.specs.Views.{volumeOf, sectorCountOf, cellsOf}
+use Rattle.tables.specs.Listed.{FatListedAt, FatListed, listPlace}
 use Rattle.tables.specs.declared.Tables.{Tables}
-use Rattle.directory.specs.Listed.{Listed as DirectoryListed}
+use Rattle.directory.specs.Listed.{DirectoryListed}
 use Rattle.directory.specs.declared.Directory.{Directory}
-use Rattle.minis.specs.Listed.{Listed as MiniListed, minisAt}
+use Rattle.minis.specs.Listed.{MiniListed, minisAt, cellsRight}
 use Rattle.minis.specs.declared.Minis.{Minis}
-use Rattle.owners.specs.Streams.{systemChains}
+use Rattle.system_chains.specs.System.{SystemOwned}
 use Rattle.volume.specs.declared.mini_stage.MiniTable.{MiniTable}
 use Rattle.volume.specs.declared.mini_stage.MiniTable.the-variants.{Wrong, Right}
 
@@ -33,8 +32,8 @@ use Rattle.volume.specs.declared.mini_stage.MiniTable.the-variants.{Wron
 
 -- the directory has n sectors, and the FAT's sectors stand listed
 pub record TablesHold (g : Geometry) (img : Bytes) (work : List ℕ) (n : ℕ) : Type 0 where
-  pub listed : Listed g img work (sectorCount g img) (listPlace img)
-  pub whole : 13 * (length img / 512) ≤ length work
+  pub listed : FatListedAt g img work (sectorCount g img) (listPlace img)
+  pub whole : W img ≤ length work
   pub tables : tableRules g img ≡ true
   pub chained : directoryRules (volume g img) ≡ true
   pub count : n ≡ length (directorySectorsOf g img)
@@ -43,33 +42,33 @@ pub record TablesHold (g : Geometry) (img : Bytes) (work : List ℕ) (n : ℕ) :
 
 -- no sector has a mark; the directory's sectors stand listed before the FAT's; the rest of the work buffer is untouched
 pub record Cleared (t : Tables) (d : Directory) (img : Bytes) (before after : List ℕ) : Type 0 where
-  pub fat : Listed (geometryOf (t .geometry)) img after (t .sectors) (t .list)
+  pub fat : FatListed t img after
   pub directory : DirectoryListed d img after
-  pub clear : Owning (fatCell (geometryOf (t .geometry)) img) (sectorCount (geometryOf (t .geometry)) img) [] (marks after) false
-  pub room : 8 * (length img / 512) + 2 * sectorCount (geometryOf (t .geometry)) img ≤ d .list
+  pub clear : Owning (cellsOf t img) (sectorCountOf t img) [] (marks after) false
+  pub room : 8 * (length img / 512) + 2 * sectorCountOf t img ≤ d .list
   pub wrote : Wrote before after 0 (workNeed (length img))
 
 -- The chains of the mini FAT and of the mini stream are right; the directory's sectors stand listed before the FAT's, and before them there
 -- is room for the mini FAT's, the mini stream's, and a mark for each sector and each mini sector.
 pub record MiniRoom (t : Tables) (d : Directory) (img : Bytes) (work : List ℕ) : Type 0 where
-  pub fat : Listed (geometryOf (t .geometry)) img work (t .sectors) (t .list)
+  pub fat : FatListed t img work
   pub directory : DirectoryListed d img work
   pub same : d .geometry ≡ t .geometry
   pub tables : tableRules (geometryOf (t .geometry)) img ≡ true
-  pub table : miniFatChain (volume (geometryOf (t .geometry)) img) ≡ true
-  pub stream : miniStreamChain (volume (geometryOf (t .geometry)) img) ≡ true
+  pub table : miniFatChain (volumeOf (t .geometry) img) ≡ true
+  pub stream : miniStreamChain (volumeOf (t .geometry) img) ≡ true
   pub before : d .list + d .sectors ≤ t .list
-  pub within : t .list ≤ 13 * (length img / 512)
-  pub room : 8 * (length img / 512) + 2 * sectorCount (geometryOf (t .geometry)) img ≤ d .list
+  pub within : t .list ≤ W img
+  pub room : 8 * (length img / 512) + 2 * sectorCountOf t img ≤ d .list
 
 -- the rules on the mini FAT's cells
 unfoldable pub miniCellRules : Volume → Bool
-miniCellRules v = leb (v .minis .limit) (v .minis .cells) && (allBelow (v .minis .limit) (miniCellRight (v .minis)) && restFree (v .minis))
+miniCellRules v = leb (v .minis .limit) (v .minis .cells) && cellsRight (v .minis)
 
 abbrev pub TableRight : Tables → Directory → Bytes → List ℕ → MiniTable → Type 0
-TableRight t d img work Wrong = miniCellRules (volume (geometryOf (t .geometry)) img) ≡ false
+TableRight t d img work Wrong = miniCellRules (volumeOf (t .geometry) img) ≡ false
 TableRight t d img work (Right m) =
-    (miniCellRules (volume (geometryOf (t .geometry)) img) ≡ true)
+    (miniCellRules (volumeOf (t .geometry) img) ≡ true)
     × ((m ≡ minisAt t img (miniSpace (geometryOf (t .geometry)) img .limit) (d .list - miniFatCount img)) × MiniListed m img work)
 
 -- ---- after group 16
@@ -80,9 +79,9 @@ pub record ListsStand (t : Tables) (d : Directory) (m : Minis) (img : Bytes) (wo
   pub minis : MiniListed m img work
   pub same : m .geometry ≡ t .geometry
   pub before : m .list + m .sectors ≤ d .list
-  pub room : 8 * (length img / 512) + sectorCount (geometryOf (t .geometry)) img ≤ m .list
+  pub room : 8 * (length img / 512) + sectorCountOf t img ≤ m .list
 
 -- and the chains of the system are marked
 pub record SystemMarked (t : Tables) (d : Directory) (m : Minis) (img : Bytes) (work : List ℕ) (shared : Bool) : Type 0 where
   pub lists : ListsStand t d m img work
-  pub owners : Owning (fatCell (geometryOf (t .geometry)) img) (sectorCount (geometryOf (t .geometry)) img) (systemChains (geometryOf (t .geometry)) img) (marks work) shared
+  pub owners : SystemOwned t img work shared

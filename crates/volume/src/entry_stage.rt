@@ -1,36 +1,35 @@
 // Groups 14 and 15.
 ghost use mathlib.Core.Path.{_≡_};
 ghost use lib.ListN.{length};
-ghost use Rattle.format.specs.Layout.Geometry.{sectorCount};
-ghost use Rattle.format.specs.Layout.Volume.{volume};
 ghost use Rattle.format.specs.Rules.Length.{workNeed};
 ghost use Rattle.kinds.specs.Sizes.{geometryOf};
 ghost use Rattle.tables.specs.Work.{Wrote};
-ghost use Rattle.tables.specs.Listed.{Listed as FatListed, listPlace, tablesOf};
+ghost use Rattle.tables.specs.Views.{volumeOf};
+ghost use Rattle.tables.specs.Listed.{FatListed, tablesOf};
 ghost use Rattle.theory.specs.TreeWalk.{WalkRoom};
-ghost use Rattle.directory.specs.Listed.{entriesOf, directoryAt, Listed};
+ghost use Rattle.directory.specs.Listed.{entriesOf, directoryAt, DirectoryListed};
 ghost use Rattle.volume.specs.Groups.{entryGroups};
 ghost use Rattle.volume.specs.Passed.{TablesHold};
 ghost use Rattle.volume.specs.Opened.{StageLeft};
 use super::Opened;
 use super::mini_stage::mini_groups;
 use directory::Directory;
-use directory::entry_rules;
 use directory::listed::list_directory;
+use entry_rules::entry_rules;
 use hierarchy::tree_rules;
-use kinds::Answer;
 use kinds::Geometry;
+use kinds::Refusal;
 use le::zero_first;
 use tables::tables_of;
 
 // Lists the directory's sectors at the start of the work buffer, with the marks of its entries behind them, all clear.
 fn open_directory(img: &[u8], work: &mut [u32], g: Geometry, n: usize) -> Directory
     requires { ⌜ TablesHold (geometryOf g) (now img) (now work) n ⌝ }
-    ensures { λ r. ⌜ r ≡ directoryAt (tablesOf g (now (img .entry))) n 0 ⌝ }
-    ensures { λ r. ⌜ Listed r (now (img .entry)) (now (work .exit)) ⌝ }
-    ensures { λ r. ⌜ WalkRoom (entriesOf r (now (img .entry))) n (now (work .exit)) ⌝ }
-    ensures { λ _. ⌜ FatListed (geometryOf g) (now (img .entry)) (now (work .exit)) (sectorCount (geometryOf g) (now (img .entry))) (listPlace (now (img .entry))) ⌝ }
-    ensures { λ _. ⌜ Wrote (now (work .entry)) (now (work .exit)) 0 (workNeed (length (now (img .entry)))) ⌝ }
+    ensures answer { λ r. ⌜ r ≡ directoryAt (tablesOf g (now (img .entry))) n 0 ⌝ }
+    ensures directory { λ r. ⌜ DirectoryListed r (now (img .entry)) (now (work .exit)) ⌝ }
+    ensures room { λ r. ⌜ WalkRoom (entriesOf r (now (img .entry))) n (now (work .exit)) ⌝ }
+    ensures fat { λ _. ⌜ FatListed (tablesOf g (now (img .entry))) (now (img .entry)) (now (work .exit)) ⌝ }
+    ensures wrote { λ _. ⌜ Wrote (now (work .entry)) (now (work .exit)) 0 (workNeed (length (now (img .entry)))) ⌝ }
 {
     let t = tables_of(img, g);
     let marks = g.entries() * n;
@@ -41,15 +40,15 @@ fn open_directory(img: &[u8], work: &mut [u32], g: Geometry, n: usize) -> Direct
 // The walk over the trees is lent what it needs and no more, so the list of FAT sectors stays.
 pub fn entry_groups(img: &[u8], work: &mut [u32], g: Geometry, n: usize) -> Opened
     requires { ⌜ TablesHold (geometryOf g) (now img) (now work) n ⌝ }
-    ensures { λ r. ⌜ StageLeft g (now (img .entry)) (entryGroups (volume (geometryOf g) (now (img .entry)))) (now (work .entry)) (now (work .exit)) r ⌝ }
+    ensures { λ r. ⌜ StageLeft g (now (img .entry)) (entryGroups (volumeOf g (now (img .entry)))) (now (work .entry)) (now (work .exit)) r ⌝ }
 {
     let d = open_directory(img, work, g, n);
     if !entry_rules(img, work, d) {
-        return Opened::Refused(Answer::Entries);
+        return Opened::Refused(Refusal::Entries);
     }
     let m = n + 3 * d.count() + 1;
     if !tree_rules(img, &mut work[..m], d, n) {
-        return Opened::Refused(Answer::Trees);
+        return Opened::Refused(Refusal::Trees);
     }
     mini_groups(img, work, g, n)
 }

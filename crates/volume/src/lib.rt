@@ -1,20 +1,19 @@
-// A volume: an image that keeps every rule, opened for the calls. Each stage judges its groups and hands on to the next; the last one opens the volume.
+// A volume: an image that keeps every rule, opened for the calls. Each stage tests its groups and hands on to the next; the last one opens the volume.
 ghost use Rattle.format.specs.Layout.Geometry.{version3};
 ghost use Rattle.volume.specs.Opened.{OpenedRight};
 use directory::Directory;
-use kinds::Answer;
+use header::length_allowed;
+use header::work_need;
 use kinds::Geometry;
+use kinds::Refusal;
 use le::zero_first;
 use minis::Minis;
 use table_stage::table_groups;
 use tables::Tables;
-use tables::length_allowed;
-use tables::work_need;
 
 pub mod entry_stage;
 pub mod mini_stage;
 pub mod owner_stage;
-pub mod system;
 pub mod table_stage;
 
 // Where everything stands: the FAT's sectors, the directory's, the mini FAT's and the mini stream's are listed in the work buffer.
@@ -26,7 +25,7 @@ pub struct Volume {
 }
 
 pub enum Opened {
-    Refused(Answer),
+    Refused(Refusal),
     Ready(Volume),
 }
 
@@ -37,11 +36,11 @@ pub fn open_volume(img: &[u8], work: &mut [u32]) -> Opened
     let g = Geometry::V3;
     let n = img.len();
     if !length_allowed(n, g) {
-        return Opened::Refused(Answer::BadLength);
+        return Opened::Refused(Refusal::BadLength);
     }
     let need = work_need(n);
     if work.len() < need {
-        return Opened::Refused(Answer::ShortWork);
+        return Opened::Refused(Refusal::ShortWork);
     }
     zero_first(work, need);
     match table_groups(img, work, g) {

@@ -1,10 +1,10 @@
 // Group 16: the chains of the mini FAT and of the mini stream, and the mini FAT's cells.
 ghost use mathlib.Core.Path.{_≡_};
 ghost use Prim.Native.Nat.{_-_};
-ghost use Rattle.format.specs.Layout.Volume.{volume};
 ghost use Rattle.format.specs.Layout.Header.{miniFatCount};
 ghost use Rattle.kinds.specs.Sizes.{geometryOf};
 ghost use Rattle.tables.specs.Work.{Wrote};
+ghost use Rattle.tables.specs.Views.{volumeOf};
 ghost use Rattle.tables.specs.Listed.{tablesOf};
 ghost use Rattle.directory.specs.Listed.{directoryAt};
 ghost use Rattle.volume.specs.Groups.{miniGroups};
@@ -12,19 +12,20 @@ ghost use Rattle.volume.specs.Passed.{TablesHold, Cleared, MiniRoom, Tab
 ghost use Rattle.volume.specs.Opened.{StageLeft};
 use super::Opened;
 use super::owner_stage::owner_groups;
-use super::system::mark_system;
 use directory::Directory;
 use directory::listed::list_directory;
 use directory::place;
 use entries::size;
-use kinds::Answer;
+use header::mini_fat_count;
 use kinds::EntryId;
 use kinds::Geometry;
-use le::u32_at;
+use kinds::MiniSector;
+use kinds::Refusal;
 use le::zero_first;
 use minis::Minis;
 use minis::cell_rules;
 use minis::list_minis;
+use system_chains::mark_system;
 use tables::Tables;
 use tables::tables_of;
 
@@ -37,13 +38,13 @@ pub enum MiniTable {
 // Whether there is a cell for each mini sector, and the cells' values are right. Lists the mini FAT's sectors before the directory's.
 fn mini_table(img: &[u8], work: &mut [u32], t: Tables, d: Directory) -> MiniTable
     requires { ⌜ MiniRoom t d (now img) (now work) ⌝ }
-    ensures { λ r. ⌜ TableRight t d (now (img .entry)) (now (work .exit)) r ⌝ }
-    ensures { λ _. ⌜ Wrote (now (work .entry)) (now (work .exit)) (d .list - miniFatCount (now (img .entry))) (miniFatCount (now (img .entry))) ⌝ }
+    ensures answer { λ r. ⌜ TableRight t d (now (img .entry)) (now (work .exit)) r ⌝ }
+    ensures wrote { λ _. ⌜ Wrote (now (work .entry)) (now (work .exit)) (d .list - miniFatCount (now (img .entry))) (miniFatCount (now (img .entry))) ⌝ }
 {
     let g = t.geometry;
     let list = d.list;
-    let k = (size(img, place(work, d, EntryId::ROOT)) / 64) as usize;
-    let m = u32_at(img, 64) as usize;
+    let k = (size(img, place(work, d, EntryId::ROOT)) / (MiniSector::BYTES as u64)) as usize;
+    let m = mini_fat_count(img) as usize;
     if g.cells() * m < k {
         return MiniTable::Wrong;
     }
@@ -58,8 +59,8 @@ fn mini_table(img: &[u8], work: &mut [u32], t: Tables, d: Directory) -> MiniTabl
 fn clear_marks(img: &[u8], work: &mut [u32], t: Tables, n: usize) -> Directory
     requires { ⌜ TablesHold (geometryOf (t .geometry)) (now img) (now work) n ⌝ }
     requires { ⌜ t ≡ tablesOf (t .geometry) (now img) ⌝ }
-    ensures { λ r. ⌜ r ≡ directoryAt t n (t .list - n) ⌝ }
-    ensures { λ r. ⌜ Cleared t r (now (img .entry)) (now (work .entry)) (now (work .exit)) ⌝ }
+    ensures answer { λ r. ⌜ r ≡ directoryAt t n (t .list - n) ⌝ }
+    ensures cleared { λ r. ⌜ Cleared t r (now (img .entry)) (now (work .entry)) (now (work .exit)) ⌝ }
 {
     let sectors = t.sectors;
     let list = t.list;
@@ -69,16 +70,16 @@ fn clear_marks(img: &[u8], work: &mut [u32], t: Tables, n: usize) -> Directory
 
 pub fn mini_groups(img: &[u8], work: &mut [u32], g: Geometry, n: usize) -> Opened
     requires { ⌜ TablesHold (geometryOf g) (now img) (now work) n ⌝ }
-    ensures { λ r. ⌜ StageLeft g (now (img .entry)) (miniGroups (volume (geometryOf g) (now (img .entry)))) (now (work .entry)) (now (work .exit)) r ⌝ }
+    ensures { λ r. ⌜ StageLeft g (now (img .entry)) (miniGroups (volumeOf g (now (img .entry)))) (now (work .entry)) (now (work .exit)) r ⌝ }
 {
     let t = tables_of(img, g);
     let d = clear_marks(img, work, t, n);
     let a = mark_system(img, work, t, d);
     if a.is_broken() {
-        return Opened::Refused(Answer::Mini);
+        return Opened::Refused(Refusal::Mini);
     }
     match mini_table(img, work, t, d) {
-        MiniTable::Wrong => Opened::Refused(Answer::Mini),
+        MiniTable::Wrong => Opened::Refused(Refusal::Mini),
         MiniTable::Right(m) => owner_groups(img, work, t, d, m, a.is_shared()),
     }
 }

@@ -1,8 +1,7 @@
 // Groups 17 and 18, and the opened volume.
 ghost use mathlib.Core.Path.{_≡_};
-ghost use Rattle.format.specs.Layout.Volume.{volume};
-ghost use Rattle.kinds.specs.Sizes.{geometryOf};
 ghost use Rattle.tables.specs.Work.{Wrote};
+ghost use Rattle.tables.specs.Views.{volumeOf};
 ghost use Rattle.volume.specs.Groups.{ownerGroups};
 ghost use Rattle.volume.specs.Passed.{SystemMarked, ListsStand};
 ghost use Rattle.volume.specs.Opened.{StageLeft, Readied};
@@ -13,10 +12,9 @@ use chains::units_for;
 use directory::Directory;
 use directory::place;
 use entries::size;
-use entries::start;
-use kinds::Answer;
+use entries::start_sector;
 use kinds::EntryId;
-use kinds::Sector;
+use kinds::Refusal;
 use minis::Minis;
 use owners::rules::minis_owned;
 use owners::rules::sectors_owned;
@@ -25,16 +23,16 @@ use tables::Tables;
 // Lists the mini stream's sectors before the mini FAT's, which makes the volume ready.
 fn list_stream(img: &[u8], work: &mut [u32], t: Tables, d: Directory, m: Minis) -> Volume
     requires { ⌜ ListsStand t d m (now img) (now work) ⌝ }
-    ensures { λ r. ⌜ (r .tables ≡ t) × (r .directory ≡ d) × (r .minis ≡ m) ⌝ }
-    ensures { λ r. ⌜ Readied r (now (img .entry)) (now (work .exit)) ⌝ }
-    ensures { λ _. ⌜ Wrote (now (work .entry)) (now (work .exit)) 0 (m .list) ⌝ }
+    ensures answer { λ r. ⌜ (r .tables ≡ t) × (r .directory ≡ d) × (r .minis ≡ m) ⌝ }
+    ensures ready { λ r. ⌜ Readied r (now (img .entry)) (now (work .exit)) ⌝ }
+    ensures wrote { λ _. ⌜ Wrote (now (work .entry)) (now (work .exit)) 0 (m .list) ⌝ }
 {
     let g = t.geometry;
     let list = m.list;
     let p = place(work, d, EntryId::ROOT);
     let n = units_for(size(img, p), g.bytes as u64) as usize;
     let at = list - n;
-    list_chain(img, work, t, Sector(start(img, p)), n, at);
+    list_chain(img, work, t, start_sector(img, p), n, at);
     Volume {
         tables: t,
         directory: d,
@@ -53,15 +51,16 @@ pub fn owner_groups(
     shared: bool,
 ) -> Opened
     requires { ⌜ SystemMarked t d m (now img) (now work) shared ⌝ }
-    ensures { λ r. ⌜ StageLeft (t .geometry) (now (img .entry)) (ownerGroups (volume (geometryOf (t .geometry)) (now (img .entry)))) (now (work .entry)) (now (work .exit)) r ⌝ }
+    ensures { λ r. ⌜ StageLeft (t .geometry) (now (img .entry)) (ownerGroups (volumeOf (t .geometry) (now (img .entry))))
+        (now (work .entry)) (now (work .exit)) r ⌝ }
 {
     let a = sectors_owned(img, work, t, d, shared);
     let b = minis_owned(img, work, m, d);
     if a.is_broken() | b.is_broken() {
-        return Opened::Refused(Answer::Streams);
+        return Opened::Refused(Refusal::Streams);
     }
     if !(a.is_right() & b.is_right()) {
-        return Opened::Refused(Answer::Owners);
+        return Opened::Refused(Refusal::Owners);
     }
     Opened::Ready(list_stream(img, work, t, d, m))
 }

@@ -1,5 +1,4 @@
 -- Laws for writes.
-pub mod Units
-pub mod Cells
+pub mod Writing
 pub mod Zeroing
 pub mod Putting

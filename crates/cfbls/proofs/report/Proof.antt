@@ -2,7 +2,6 @@ use borrow.Author.Needs.{needs}
 use native.Mathlib.Omega.{arith}
 use mathlib.Core.Path.{sym}
 use Rattle.format.specs.Layout.Geometry.{version3}
-use Rattle.kinds.specs.Numbers.{numberOf}
 use Rattle.cfbls.proofs.Output.{written, room, output-over, listed, refused}
 use Rattle.cfbls.proofs.report.Statement.{statement}
 use Rattle.cfbls.proofs.report.Tie as tie
@@ -33,5 +32,5 @@ report-spec =
     let s = c .before .before .before .before .before .before .before .before .before .before .before .before .before .before .before .before .before .before in
     let a = c .before .before .before .before .before .a .given in
     let p = c .before .before .put-refused2 .ensures in
-    let q = refused version3 (s .args .input .now) (s .args .out .now) (s .args .work .now) (omega arith) (s .pre .0) (s .pre .1) (numberOf (a .0 .0)) (rw (a .1) at (l .ensures .0)) in
+    let q = refused version3 (s .args .input .now) (s .args .out .now) (s .args .work .now) (omega arith) (s .pre .0) (s .pre .1) (a .0 .0) (rw (a .1) at (l .ensures .0)) in
     written _ _ (p .0) (p .1) q))  -- returns-3

@@ -3,31 +3,29 @@ use Prim.Native.Nat.{_-_, _≤_, _<_}
 use mathlib.Core.Path.{sym, _∙_}
 use mathlib.Core.Logic.{inl, inr}
 use native.Mathlib.Omega.{arith}
-use Rattle.format.specs.Layout.Geometry.{sectorCount}
-use Rattle.format.specs.Layout.Tables.{fatCell}
-use Rattle.kinds.specs.Sizes.{geometryOf}
+use Rattle.tables.specs.Views.{sectorCountOf, cellsOf}
 use Rattle.theory.proofs.Loops.{said-below, said-beyond}
 use Rattle.chains.proofs.Groups.{Following, following-start, following-step, following-end, directory-is}
 use Rattle.chains.proofs.directory_length.Statement.{statement}
 use Rattle.chains.proofs.directory_length.Tie as tie
 
 abbrev Inv-loop : tie.InvT-loop
-Inv-loop img work t n s₀ m₀ s m = Following (fatCell (geometryOf (t .geometry)) img) (sectorCount (geometryOf (t .geometry)) img) (s₀ .0) m (s .0)
+Inv-loop img work t n s₀ m₀ s m = Following (cellsOf t img) (sectorCountOf t img) (s₀ .0) m (s .0)
 
 abbrev μ-loop : tie.MeasureT-loop
 μ-loop img work t n s₀ m₀ s m = m
 
-inside : (c : tie.Else1 Inv-loop μ-loop) → let p = c .before .before .before .before .before .before .before in c .before .before .before .loop .s .0 < sectorCount (geometryOf (p .args .t .geometry)) (p .args .img .now)
+inside : (c : tie.Else1 Inv-loop μ-loop) → let p = c .before .before .before .before .before .before .before in c .before .before .before .loop .s .0 < sectorCountOf (p .args .t) (p .args .img .now)
 inside c = let p = c .before .before .before .before .before .before .before in said-below _ (p .args .t .sectors) (c .if1 .left) (c .before .below .ensures) (p .pre .count)
 
-outside : (c : tie.Then1 Inv-loop μ-loop) → let p = c .before .before .before .before .before .before .before in sectorCount (geometryOf (p .args .t .geometry)) (p .args .img .now) ≤ c .before .before .before .loop .s .0
+outside : (c : tie.Then1 Inv-loop μ-loop) → let p = c .before .before .before .before .before .before .before in sectorCountOf (p .args .t) (p .args .img .now) ≤ c .before .before .before .loop .s .0
 outside c = let p = c .before .before .before .before .before .before .before in said-beyond _ (p .args .t .sectors) (c .if1 .taken) (c .before .below .ensures) (p .pre .count)
 
 pub directory-length-spec : {M : Type 1} → statement M
 directory-length-spec =
     tie.close
     (tie.spec Inv-loop μ-loop
-    (λ c κs. search needs)  -- u32-at-requires
+    (λ c κs. search needs)  -- directory-start-requires
     (λ c. rw (c .before .before .before .pre .count) following-start)  -- loop-holds
     (λ c κs. search needs)  -- below-requires
     (λ c. search needs)  -- sub-length-of
@@ -38,7 +36,7 @@ directory-length-spec =
     c .length-of .ensures
     ∙ sym
     (directory-is _ _ (p .args .t .sectors - l .m) (l .s .0)
-    (rw (← c .before .before .before .before .before .u32-at .ensures) (following-end (l .inv) (inl (outside (c .before))) _ (omega (arith, p .pre .count))))))  -- returns
+    (rw (← c .before .before .before .before .before .directory-start .ensures) (following-end (l .inv) (inl (outside (c .before))) _ (omega (arith, p .pre .count))))))  -- returns
     (λ c κs. let p = c .before .before .before .before .before .before .before in (p .pre, omega (arith, inside c, p .pre .covers)))  -- cell-at-requires
     (λ c. search needs)  -- sub-m
     (λ c. search needs)  -- loop-less
@@ -50,4 +48,4 @@ directory-length-spec =
     c .length-of2 .ensures
     ∙ sym
     (directory-is _ _ (p .args .t .sectors) (l .s .0)
-    (rw (← c .before .before .before .u32-at .ensures) (following-end (l .inv) (inr (omega arith)) _ (omega (arith, p .pre .count)))))))  -- returns-2
+    (rw (← c .before .before .before .directory-start .ensures) (following-end (l .inv) (inr (omega arith)) _ (omega (arith, p .pre .count)))))))  -- returns-2

@@ -6,5 +6,7 @@ pub object-spec : {M : Type 1} → statement M
 object-spec =
     tie.close
     (tie.spec
-    (λ c κs. search needs)  -- kind-of-requires
-    (λ c. rw (c .kind-of .ensures)))  -- returns
+    (λ c κs. search needs)  -- type-of-requires
+    (λ c κs. search needs)  -- is-storage-requires
+    (λ c κs. search needs)  -- is-stream-requires
+    (λ c. rw (c .is-stream .ensures, c .before .is-storage .ensures, c .before .before .type-of .ensures)))  -- returns

@@ -18,8 +18,9 @@ slash = 0x2F
 unfoldable pub illegal : ℕ → Bool
 illegal u = eqb u slash || eqb u 0x5C || eqb u 0x3A
 
+-- a unit has 16 bits
 unfoldable pub legalUnit : ℕ → Bool
-legalUnit u = not (eqb u 0) && not (illegal u)
+legalUnit u = ltb u 0x1_0000 && (not (eqb u 0) && not (illegal u))
 
 -- 1 to 31 units, each legal: of an entry (group 14) and of a path
 unfoldable pub legalName : Name → Bool

@@ -11,9 +11,9 @@ use Rattle.theory.specs.TreeViews.{whole, shapeOk}
 use Rattle.theory.proofs.Loops.{said-yes, said-no}
 use Rattle.theory.proofs.Trees.Nodes.{shape-sound}
 use Rattle.directory.specs.Listed.{entriesOf}
-use Rattle.hierarchy.specs.Lent.{Room}
+use Rattle.tree_walk.specs.Lent.{Room}
 use Rattle.directory.proofs.Places.{root-inside}
-use Rattle.hierarchy.proofs.Walks.{room-kept}
+use Rattle.tree_walk.proofs.Walks.{room-kept}
 use Rattle.hierarchy.proofs.Verdicts.{not-followed, not-covered, shaped, not-black, by-places}
 use Rattle.hierarchy.proofs.tree_rules.Statement.{statement}
 use Rattle.hierarchy.proofs.tree_rules.Tie as tie

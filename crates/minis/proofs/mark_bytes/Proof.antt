@@ -13,10 +13,9 @@ mark-bytes-spec =
     (tie.spec
     (λ c κs. search needs)  -- units-for-requires
     (λ c.
-    let l = c .before .before .before .before .pre .0 in
-    let a = too-long _ (omega (arith, units-few l)) (omega (arith, c .before .units-for .ensures, c .if1 .taken, l .counts .count)) in
-    (a .answer, a .left))  -- returns
-    (λ c. let l = c .before .before .before .before .before .pre .0 in omega (arith, l .counts .count, units-few l, c .before .if1 .left))  -- cast-mark-chain
+    let l = c .before .before .before .before .pre .listed in
+    too-long _ (omega (arith, units-few l)) (omega (arith, c .before .units-for .ensures, c .if1 .taken, l .counts .count)))  -- returns
+    (λ c. let l = c .before .before .before .before .before .pre .listed in omega (arith, l .counts .count, units-few l, c .before .if1 .left))  -- cast-mark-chain
     (λ c κs. c .before .before .before .before .before .pre)  -- mark-chain-requires
     (λ c. search needs)  -- same-length
     (λ c. rw (c .before .before .before .before .before .units-for .ensures) at (c .before .before .mark-chain .ensures)))  -- returns-2

@@ -4,26 +4,24 @@ use mathlib.Core.Path.{sym, _∙_}
 use borrow.Author.Tests.{eqb-true, eqb-false}
 use native.Mathlib.Omega.{arith}
 use lib.ListN.{length}
-use Rattle.format.specs.Layout.Volume.{miniSpace}
-use Rattle.kinds.specs.Sizes.{geometryOf}
 use Rattle.theory.proofs.Loops.{said-below, said-beyond}
-use Rattle.minis.specs.Listed.{Listed}
+use Rattle.minis.specs.Listed.{MiniListed, minisOf}
 use Rattle.minis.proofs.ListLaws.{listed-kept, listed-set, units-few, units-in-work, cells-cover}
 use Rattle.chains.proofs.Walks.{Walk, walk-start, walk-step, walk-out, walk-clash, walk-shared, walk-fresh, walk-off}
 use Rattle.minis.proofs.mark_chain.Statement.{statement}
 use Rattle.minis.proofs.mark_chain.Tie as tie
 
 abbrev Inv-loop : tie.InvT-loop
-Inv-loop img work₀ t n s₀ k₀ work s k = Walk (miniSpace (geometryOf (t .geometry)) img .cell) (miniSpace (geometryOf (t .geometry)) img .limit) work₀ n (s₀ .0) work (s .0) k
+Inv-loop img work₀ t n s₀ k₀ work s k = Walk (minisOf t img .cell) (minisOf t img .limit) work₀ n (s₀ .0) work (s .0) k
 
 abbrev μ-loop : tie.MeasureT-loop
 μ-loop img work₀ t n s₀ k₀ work s k = k
 
-inside : (c : tie.Else1 Inv-loop μ-loop) → let p = c .before .before .before .before .before .before in c .before .before .before .loop .s .0 < miniSpace (geometryOf (p .args .t .geometry)) (p .args .img .now) .limit
-inside c = let p = c .before .before .before .before .before .before in said-below _ (p .args .t .units) (c .if1 .left) (c .before .below .ensures) (p .pre .0 .counts .count)
+inside : (c : tie.Else1 Inv-loop μ-loop) → let p = c .before .before .before .before .before .before in c .before .before .before .loop .s .0 < minisOf (p .args .t) (p .args .img .now) .limit
+inside c = let p = c .before .before .before .before .before .before in said-below _ (p .args .t .units) (c .if1 .left) (c .before .below .ensures) (p .pre .listed .counts .count)
 
-outside : (c : tie.Then1 Inv-loop μ-loop) → let p = c .before .before .before .before .before .before in miniSpace (geometryOf (p .args .t .geometry)) (p .args .img .now) .limit ≤ c .before .before .before .loop .s .0
-outside c = let p = c .before .before .before .before .before .before in said-beyond _ (p .args .t .units) (c .if1 .taken) (c .before .below .ensures) (p .pre .0 .counts .count)
+outside : (c : tie.Then1 Inv-loop μ-loop) → let p = c .before .before .before .before .before .before in minisOf (p .args .t) (p .args .img .now) .limit ≤ c .before .before .before .loop .s .0
+outside c = let p = c .before .before .before .before .before .before in said-beyond _ (p .args .t .units) (c .if1 .taken) (c .before .below .ensures) (p .pre .listed .counts .count)
 
 -- the mini sector has a mark
 in-work : (c : tie.Else1 Inv-loop μ-loop) → let l = c .before .before .before .loop in l .s .0 < length (l .work)
@@ -31,17 +29,17 @@ in-work c = omega (arith, inside c, c .before .before .before .loop .inv .room)
 
 -- only marks have changed, so the list stays
 still : (c : tie.Else1 Inv-loop μ-loop) → let p = c .before .before .before .before .before .before in
-    Listed (p .args .t) (p .args .img .now) (c .before .before .before .loop .work)
-still c = let l = c .before .before .before .before .before .before .pre .0 in listed-kept l (c .before .before .before .loop .inv .wrote) (omega (arith, l .counts .count, l .apart))
+    MiniListed (p .args .t) (p .args .img .now) (c .before .before .before .loop .work)
+still c = let l = c .before .before .before .before .before .before .pre .listed in listed-kept l (c .before .before .before .loop .inv .wrote) (omega (arith, l .counts .count, l .apart))
 
 pub mark-chain-spec : {M : Type 1} → statement M
 mark-chain-spec =
     tie.close
     (tie.spec Inv-loop μ-loop
-    (λ c. let p = c .before .before in walk-start (units-in-work (p .pre .0)) (p .pre .1))  -- loop-holds
+    (λ c. let p = c .before .before in walk-start (units-in-work (p .pre .listed)) (p .pre .closed))  -- loop-holds
     (λ c κs. search needs)  -- below-requires
     (λ c. search needs)  -- same-length
-    (λ c. let a = walk-out (c .before .before .before .loop .inv) (c .before .before .loop-test .taken) (outside c) in (a .answer, a .left))  -- returns
+    (λ c. walk-out (c .before .before .before .loop .inv) (c .before .before .loop-test .taken) (outside c))  -- returns
     (λ c κs. search needs)  -- index-requires
     (λ c. omega (arith, inside (c .before), c .index .ensures, units-few (still (c .before))))  -- mul-m
     (λ c. omega (arith, in-work (c .before .before), c .before .index .ensures))  -- slice-read-m
@@ -49,14 +47,12 @@ mark-chain-spec =
     (λ c.
     let at = c .before .before .before .before in
     let i = c .before .before .before .index .ensures in
-    let a = walk-shared (at .before .before .before .loop .inv) (at .before .before .loop-test .taken) (inside at) (rw (← i) (c .if3 .taken)) in
-    (a .answer, a .left))  -- returns-2
+    walk-shared (at .before .before .before .loop .inv) (at .before .before .loop-test .taken) (inside at) (rw (← i) (c .if3 .taken)))  -- returns-2
     (λ c. search needs)  -- same-length-3
     (λ c.
     let at = c .before .before .before .before in
     let i = c .before .before .before .index .ensures in
-    let a = walk-clash (at .before .before .before .loop .inv) (omega (arith, units-few (still at))) (at .before .before .before .before .before .before .pre .1) (inside at) (rw (← i) (c .before .if2 .taken)) (rw (← i) (c .if3 .left)) in
-    (a .answer, a .left))  -- returns-3
+    walk-clash (at .before .before .before .loop .inv) (omega (arith, units-few (still at))) (at .before .before .before .before .before .before .pre .closed) (inside at) (rw (← i) (c .before .if2 .taken)) (rw (← i) (c .if3 .left)))  -- returns-3
     (λ c κs. search needs)  -- index-requires-2
     (λ c. omega (arith, inside (c .before .before .before .before), c .index2 .ensures, units-few (still (c .before .before .before .before))))  -- mul-work
     (λ c. omega (arith, in-work (c .before .before .before .before), c .index2 .ensures))  -- slice-write-work
@@ -72,6 +68,6 @@ mark-chain-spec =
     (walk-step (at .before .before .before .loop .inv) (at .before .before .loop-test .taken) (inside at) (rw (← c .before .before .before .before .before .index .ensures) (c .before .before .before .if2 .left))))  -- loop-again
     (λ c κs. search needs)  -- is-end-requires
     (λ c. search needs)  -- same-length-4
-    (λ c. let a = walk-fresh (c .before .before .before .loop .inv) (c .before .before .loop-test .left) (eqb-true _ _ (sym (c .before .is-end .ensures) ∙ c .if4 .taken)) in (a .answer, a .left))  -- returns-4
+    (λ c. walk-fresh (c .before .before .before .loop .inv) (c .before .before .loop-test .left) (eqb-true _ _ (sym (c .before .is-end .ensures) ∙ c .if4 .taken)))  -- returns-4
     (λ c. search needs)  -- same-length-5
-    (λ c. let a = walk-off (c .before .before .before .loop .inv) (c .before .before .loop-test .left) (eqb-false _ _ (sym (c .before .is-end .ensures) ∙ c .if4 .left)) in (a .answer, a .left)))  -- returns-5
+    (λ c. walk-off (c .before .before .before .loop .inv) (c .before .before .loop-test .left) (eqb-false _ _ (sym (c .before .is-end .ensures) ∙ c .if4 .left))))  -- returns-5

@@ -18,7 +18,7 @@ set-length-opened-spec =
     let p = c .before .before .before .before .before .before .before .before .before .before in
     let a = p .args in
     let i = c .before .before .before .before .set-length-in .ensures in
-    let q = setLength (a .path .now) (a .new) (a .work .now) in
-    let l = length-any _ _ (a .image .now) (a .work .now) (a .path .now) (a .new) (i .0) in
+    let q = setLength (a .path .now) (a .new-len) (a .work .now) in
+    let l = length-any _ _ (a .image .now) (a .work .now) (a .path .now) (a .new-len) (i .0) in
     let m = i .1 .0 ∙ l .1 ∙ opened-image (p .pre) q refl in
     (l .0 ∙ opened-reply (p .pre) q refl, (m, opened-edited (p .pre) q m (i .1 .1)))))  -- returns

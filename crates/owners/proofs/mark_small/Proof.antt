@@ -1,9 +1,12 @@
 use borrow.Author.Needs.{needs}
+use mathlib.Core.Path.{_∙_, ap}
 use native.Mathlib.Omega.{arith}
+use lib.Dec.{eqb}
+use Rattle.kinds.specs.Sizes.{geometryOf}
 use Rattle.directory.proofs.Places.{placed, place-inside}
 use Rattle.minis.proofs.ListLaws.{units-few}
-use Rattle.kinds.specs.Sizes.{geometryOf}
-use Rattle.owners.proofs.StreamLaws.{entry-read, small-walked, small-not-walked}
+use Rattle.system_chains.proofs.SystemLaws.{entry-read}
+use Rattle.owners.proofs.StreamLaws.{small-walked, small-not-walked}
 use Rattle.owners.proofs.mark_small.Statement.{statement}
 use Rattle.owners.proofs.mark_small.Tie as tie
 
@@ -11,22 +14,22 @@ pub mark-small-spec : {M : Type 1} → statement M
 mark-small-spec =
     tie.close
     (tie.spec
-    (λ c κs. let p = c .before .before .before .pre in placed (p .1 .0) _ (p .1 .1 .1 .0))  -- place-requires
-    (λ c κs. let p = c .before .before .before .before .pre in omega (arith, c .place .ensures, place-inside (p .1 .0) _ (p .1 .1 .1 .0)))  -- size-requires
-    (λ c κs. let p = c .before .before .before .before .before .pre in omega (arith, c .before .place .ensures, place-inside (p .1 .0) _ (p .1 .1 .1 .0)))  -- kind-requires
-    (λ c κs. let p = c .before .before .before .before .before .before .before .before .pre in omega (arith, c .before .before .before .before .place .ensures, place-inside (p .1 .0) _ (p .1 .1 .1 .0)))  -- start-requires
-    (λ c κs. let p = c .before .before .before .before .before .before .before .before .before .pre in (p .0, p .1 .1 .1 .1))  -- mark-bytes-requires
+    (λ c κs. let p = c .before .before .before .pre in placed (p .0 .directory) _ (p .1 .1))  -- place-requires
+    (λ c κs. let p = c .before .before .before .before .pre in omega (arith, c .place .ensures, place-inside (p .0 .directory) _ (p .1 .1)))  -- size-requires
+    (λ c κs. let p = c .before .before .before .before .before .pre in omega (arith, c .before .place .ensures, place-inside (p .0 .directory) _ (p .1 .1)))  -- entry-type-requires
+    (λ c κs. search needs)  -- is-stream-requires
+    (λ c κs. let p = c .before .before .before .before .before .before .before .before .before .pre in omega (arith, c .before .before .before .before .before .place .ensures, place-inside (p .0 .directory) _ (p .1 .1)))  -- start-mini-requires
+    (λ c κs. let p = c .before .before .before .before .before .before .before .before .before .before .pre in record { listed = p .0 .minis; closed = p .1 .0 })  -- mark-bytes-requires
     (λ c. search needs)  -- same-length
     (λ c.
-    let p = c .before .before .before .before .before .before .before .before .before .before .before .before in
-    let m = c .before .before .mark-bytes .ensures in
-    small-walked (geometryOf (p .args .t .geometry)) (p .args .img .now) (p .args .x .0) _ _
-    (entry-read (p .args .t .geometry) (p .args .x .0) _ (p .pre .1 .0) (p .pre .1 .1 .0) (p .pre .1 .1 .1 .0) (c .before .before .before .before .before .before .before .before .place .ensures))
-    (c .before .before .before .before .before .before .kind .ensures) (c .before .before .before .before .before .before .before .size .ensures) _ (c .before .before .before .start .ensures)
-    (c .before .before .before .before .before .if1 .taken) (omega (arith, units-few (p .pre .0))) (m .0) (m .1))  -- returns
+    let p = c .before .before .before .before .before .before .before .before .before .before .before .before .before in
+    let e = entry-read (p .args .t .geometry) (p .args .x .0) _ (p .pre .0 .directory) (p .pre .0 .same) (p .pre .1 .1) (c .before .before .before .before .before .before .before .before .before .place .ensures) in
+    small-walked (geometryOf (p .args .t .geometry)) (p .args .img .now) (p .args .x .0) _ _ e
+    (c .before .before .before .before .before .before .is-stream .ensures ∙ ap (λ k. eqb k 2) (c .before .before .before .before .before .before .before .entry-type .ensures)) (c .before .before .before .before .before .before .before .before .size .ensures)
+    _ (c .before .before .before .start-mini .ensures) (c .before .before .before .before .before .if1 .taken) (omega (arith, units-few (p .pre .0 .minis))) (c .before .before .mark-bytes .ensures))  -- returns
     (λ c. search needs)  -- same-length-2
     (λ c.
-    let p = c .before .before .before .before .before .before .before in
-    small-not-walked (geometryOf (p .args .t .geometry)) (p .args .img .now) (p .args .x .0) _ _
-    (entry-read (p .args .t .geometry) (p .args .x .0) _ (p .pre .1 .0) (p .pre .1 .1 .0) (p .pre .1 .1 .1 .0) (c .before .before .before .place .ensures))
-    (c .before .kind .ensures) (c .before .before .size .ensures) (c .if1 .left) (p .pre .1 .1 .1 .1)))  -- returns-2
+    let p = c .before .before .before .before .before .before .before .before in
+    let e = entry-read (p .args .t .geometry) (p .args .x .0) _ (p .pre .0 .directory) (p .pre .0 .same) (p .pre .1 .1) (c .before .before .before .before .place .ensures) in
+    small-not-walked (geometryOf (p .args .t .geometry)) (p .args .img .now) (p .args .x .0) _ _ e
+    (c .before .is-stream .ensures ∙ ap (λ k. eqb k 2) (c .before .before .entry-type .ensures)) (c .before .before .before .size .ensures) (c .if1 .left) (p .pre .1 .0)))  -- returns-2

@@ -1,6 +1,6 @@
 use borrow.Author.Needs.{needs}
 use Prim.Native.Nat.{ℕ, _+_, _-_, _≤_, _<_}
-use mathlib.Core.Path.{_≡_, ap, sym, _∙_, subst}
+use mathlib.Core.Path.{_≡_, sym, subst}
 use native.Mathlib.Omega.{arith}
 use borrow.Rule.Slice.PartAt.{part-to-end}
 use lib.ListN.{length, drop}
@@ -38,21 +38,20 @@ went : (c : tie.After-enter Inv-loop μ-loop) → Went c (c .enter .result)
 went c =
     let p = c .before .before .before .before .before .before .before .before .before .before .args in
     let l = c .before .before .before .loop in
-    let e = entriesOf (p .d) (p .img .now) in
-    c .enter .ensures ∙ ap (λ q. enter e (reached e (l .x .0)) (firstName q)) (part-to-end (p .path .now) (l .i))
+    rw (← part-to-end (p .path .now) (l .i)) (c .enter .ensures)
 
 -- the path, and where the name of a turn starts
-abbrev units : tie.After-name-length Inv-loop μ-loop → Path
+abbrev units : tie.After-first-name-length Inv-loop μ-loop → Path
 units c = c .before .before .before .before .before .before .before .before .before .before .before .before .before .before .args .path .now
 
-abbrev from : tie.After-name-length Inv-loop μ-loop → ℕ
+abbrev from : tie.After-first-name-length Inv-loop μ-loop → ℕ
 from c = c .before .before .before .before .before .before .before .loop .i
 
-counted : (c : tie.After-name-length Inv-loop μ-loop) → c .name-length .result ≡ length (firstName (drop (from c) (units c)))
-counted c = rest-counted (units c) (from c) (c .name-length .result) (c .name-length .ensures)
+counted : (c : tie.After-first-name-length Inv-loop μ-loop) → c .first-name-length .result ≡ length (firstName (drop (from c) (units c)))
+counted c = rest-counted (units c) (from c) (c .first-name-length .result) (c .first-name-length .ensures)
 
-inside : (c : tie.After-name-length Inv-loop μ-loop) → from c + c .name-length .result ≤ length (units c)
-inside c = name-inside (units c) (from c) (c .name-length .result) (counted c) (c .before .before .before .before .before .before .loop-test .taken)
+inside : (c : tie.After-first-name-length Inv-loop μ-loop) → from c + c .first-name-length .result ≤ length (units c)
+inside c = name-inside (units c) (from c) (c .first-name-length .result) (counted c) (c .before .before .before .before .before .before .loop-test .taken)
 
 pub find-entry-spec : {M : Type 1} → statement M
 find-entry-spec =
@@ -73,7 +72,7 @@ find-entry-spec =
     let l = a .before .before .before .loop in
     (way-refused _ _ (l .i) (l .x .0) (l .inv .1) (a .before .before .loop-test .taken) _ (subst (Went a) (c .before .a .given .1) (went a)), tt))  -- returns-3
     (λ c. search needs)  -- enum-known-y
-    (λ c κs. search needs)  -- name-length-requires
+    (λ c κs. search needs)  -- first-name-length-requires
     (λ c. omega (arith, inside c))  -- add-i
     (λ c. omega (arith, inside c))  -- add-i-2
     (λ c. omega (arith, c .before .before .before .before .before .before .loop-test .taken))  -- loop-less

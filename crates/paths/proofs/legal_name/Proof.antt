@@ -20,7 +20,7 @@ pub legal-name-spec : {M : Type 1} → statement M
 legal-name-spec =
     tie.close
     (tie.spec Inv-loop μ-loop
-    (λ c. legal-long _ (c .if1 .taken))  -- returns
+    (λ c. legal-long _ (omega (arith, c .if1 .taken)))  -- returns
     (λ c. (omega arith, refl))  -- loop-holds
     (λ c. search needs)  -- mul-legal-unit
     (λ c. search needs)  -- shared-slice-read-legal-unit

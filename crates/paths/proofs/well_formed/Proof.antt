@@ -19,22 +19,22 @@ abbrev μ-loop : tie.MeasureT-loop
 μ-loop path i₀ i = length path + 1 - i
 
 -- the path, and where the name of a turn starts
-abbrev units : tie.After-name-length Inv-loop μ-loop → Path
+abbrev units : tie.After-first-name-length Inv-loop μ-loop → Path
 units c = c .before .before .before .before .before .before .args .path .now
 
-abbrev from : tie.After-name-length Inv-loop μ-loop → ℕ
+abbrev from : tie.After-first-name-length Inv-loop μ-loop → ℕ
 from c = c .before .before .before .loop .i
 
-counted : (c : tie.After-name-length Inv-loop μ-loop) → c .name-length .result ≡ length (firstName (drop (from c) (units c)))
-counted c = rest-counted (units c) (from c) (c .name-length .result) (c .name-length .ensures)
+counted : (c : tie.After-first-name-length Inv-loop μ-loop) → c .first-name-length .result ≡ length (firstName (drop (from c) (units c)))
+counted c = rest-counted (units c) (from c) (c .first-name-length .result) (c .first-name-length .ensures)
 
-inside : (c : tie.After-name-length Inv-loop μ-loop) → from c + c .name-length .result ≤ length (units c)
-inside c = name-inside (units c) (from c) (c .name-length .result) (counted c) (c .before .before .loop-test .taken)
+inside : (c : tie.After-first-name-length Inv-loop μ-loop) → from c + c .first-name-length .result ≤ length (units c)
+inside c = name-inside (units c) (from c) (c .first-name-length .result) (counted c) (c .before .before .loop-test .taken)
 
 tested : (c : tie.After-legal-name Inv-loop μ-loop) → let a = c .before .before in c .legal-name .result ≡ legalName (firstName (drop (from a) (units a)))
 tested c =
     let a = c .before .before in
-    c .legal-name .ensures ∙ ap legalName (name-is (units a) (from a) (a .name-length .result) (counted a))
+    c .legal-name .ensures ∙ ap legalName (name-is (units a) (from a) (a .first-name-length .result) (counted a))
 
 pub well-formed-spec : {M : Type 1} → statement M
 well-formed-spec =
@@ -42,11 +42,11 @@ well-formed-spec =
     (tie.spec Inv-loop μ-loop
     (λ c. formed-none _ (c .if1 .taken))  -- returns
     (λ c. formed-start _ (c .if1 .left))  -- loop-holds
-    (λ c. search needs)  -- mul-name-length
-    (λ c. search needs)  -- sub-name-length
-    (λ c. search needs)  -- part-name-length-start
-    (λ c. search needs)  -- part-name-length-end
-    (λ c κs. search needs)  -- name-length-requires
+    (λ c. search needs)  -- mul-first-name-length
+    (λ c. search needs)  -- sub-first-name-length
+    (λ c. search needs)  -- part-first-name-length-start
+    (λ c. search needs)  -- part-first-name-length-end
+    (λ c κs. search needs)  -- first-name-length-requires
     (λ c. omega (arith, inside c))  -- add-legal-name
     (λ c. search needs)  -- mul-legal-name
     (λ c. search needs)  -- sub-legal-name

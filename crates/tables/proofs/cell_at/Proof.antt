@@ -1,44 +1,27 @@
 use borrow.Author.Needs.{needs}
-use Prim.Native.Nat.{_+_, _/_, _%_, _<_}
-use mathlib.Core.Path.{_≡_, sym, _∙_, ap₂}
+use Prim.Native.Nat.{_/_, _<_}
 use native.Mathlib.Omega.{arith}
-use lib.ListN.{length}
 use Rattle.format.specs.Layout.Geometry.{cellsIn}
 use Rattle.kinds.specs.Sizes.{geometryOf}
-use Rattle.tables.proofs.Places.{cells-some, cell-is, cell-sector, cell-index}
+use Rattle.header.specs.Sized.{F}
+use Rattle.tables.proofs.Places.{cell-is, cell-sector}
 use Rattle.tables.proofs.cell_at.Statement.{statement}
 use Rattle.tables.proofs.cell_at.Tie as tie
 
--- the FAT sector that holds the cell, and its index there, as the code works them out
-sector-is : (c : tie.After-index) → c .index .result / c .before .cells .result ≡ c .before .before .before .before .before .args .s .0 / cellsIn (geometryOf (c .before .before .before .before .before .args .t .geometry))
-sector-is c = ap₂ (λ a b. a / b) (c .index .ensures) (c .before .cells .ensures)
-
-index-is : (c : tie.After-index) → c .index .result % c .before .cells .result ≡ c .before .before .before .before .before .args .s .0 % cellsIn (geometryOf (c .before .before .before .before .before .args .t .geometry))
-index-is c = ap₂ (λ a b. a % b) (c .index .ensures) (c .before .cells .ensures)
-
-listed-in : (c : tie.After-index) → let p = c .before .before .before .before .before in p .args .t .list + c .index .result / c .before .cells .result < length (p .args .work .now)
-listed-in c =
-    let p = c .before .before .before .before .before in
-    omega (arith, sector-is c, cell-sector (p .pre .0 .sized) (p .args .s .0) (p .pre .1), p .pre .0 .room)
+-- the FAT has a sector for the cell
+inside : (p : tie.Start) → p .args .s .0 / cellsIn (geometryOf (p .args .t .geometry)) < F (p .args .img .now)
+inside p = cell-sector (p .pre .0 .sized) (p .args .s .0) (p .pre .1)
 
 pub cell-at-spec : {M : Type 1} → statement M
 cell-at-spec =
     tie.close
     (tie.spec
-    (λ c κs. search needs)  -- cells-requires
     (λ c κs. search needs)  -- index-requires
-    (λ c. let p = c .before .before .before .before .before in omega (arith, c .before .cells .ensures, cells-some (p .pre .0 .sized)))  -- div-t9
-    (λ c. omega (arith, listed-in c))  -- add-t10
-    (λ c. omega (arith, listed-in c))  -- mul-t11
-    (λ c. listed-in (c .before))  -- shared-slice-read-t13
-    (λ c. let p = c .before .before .before .before .before .before in omega (arith, c .before .before .cells .ensures, cells-some (p .pre .0 .sized)))  -- rem-word-in
     (λ c κs.
-    let p = c .before .before .before .before .before .before in
-    let z = p .pre .0 .sized in
-    let k = cell-sector z (p .args .s .0) (p .pre .1) in
-    (z, (rw (sector-is (c .before), p .pre .0 .fats _ k) (p .pre .0 .below _ k), rw (index-is (c .before)) (cell-index z (p .args .s .0)))))  -- word-in-requires
+    let p = c .before .before .before .before in
+    let l = p .pre .0 in
+    let i = c .index .ensures in
+    (l .sized, (rw i (omega (arith, inside p, l .room)), rw (i, l .fats _ (inside p)) (l .below _ (inside p)))))  -- table-word-requires
     (λ c.
-    let p = c .before .before .before .before .before .before .before in
-    let z = p .pre .0 .sized in
-    let k = cell-sector z (p .args .s .0) (p .pre .1) in
-    c .word-in .ensures ∙ rw (sector-is (c .before .before), index-is (c .before .before), p .pre .0 .fats _ k) (sym (cell-is z (p .args .s .0) (p .pre .1)))))  -- returns
+    let p = c .before .before .before .before .before in
+    rw (cell-is (p .pre .0 .sized) (p .args .s .0) (p .pre .1), ← p .pre .0 .fats _ (inside p), ← c .before .index .ensures) (c .table-word .ensures)))  -- returns

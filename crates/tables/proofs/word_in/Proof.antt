@@ -1,6 +1,6 @@
 use borrow.Author.Needs.{needs}
 use native.Mathlib.Omega.{arith}
-use Rattle.tables.specs.Sized.{wordIn}
+use Rattle.tables.specs.Words.{wordIn}
 use Rattle.tables.proofs.Places.{cells-few, word-inside}
 use Rattle.tables.proofs.word_in.Statement.{statement}
 use Rattle.tables.proofs.word_in.Tie as tie

@@ -1,22 +1,22 @@
 use borrow.Author.Needs.{needs}
 use Prim.Native.Nat.{_-_, _≤_, _<_}
-use mathlib.Core.Path.{_≡_, _∙_}
+use mathlib.Core.Path.{subst}
 use native.Mathlib.Omega.{arith}
 use lib.ListN.{length}
-use Rattle.format.specs.Layout.Volume.{volume}
-use Rattle.kinds.specs.Sizes.{geometryOf}
 use Rattle.volume.proofs.ListsKept.{ready-kept}
-use Rattle.spaces.specs.Spaces.{spaceOf}
-use Rattle.unitlists.proofs.Limits.{count-same, limit-room, limit-work, limit-end}
+use Rattle.spaces.specs.Spaces.{spaceAt}
+use Rattle.spaces.specs.Units.{numberIn}
+use Rattle.unitlists.specs.Free.{LowestFree, NextFree}
+use Rattle.unitlists.proofs.Limits.{limit-room, limit-work, limit-end}
 use Rattle.unitlists.proofs.Picking.{Picking, picking-start, picking-step, picking-none, picking-full}
 use Rattle.unitlists.proofs.list_free.Statement.{statement}
 use Rattle.unitlists.proofs.list_free.Tie as tie
 
 abbrev Inv-loop : tie.InvT-loop
-Inv-loop img work₀ v kind k need count n₀ from₀ work n from = Picking (spaceOf kind (volume (geometryOf (v .tables .geometry)) img)) work₀ k need work n from
+Inv-loop img work₀ v kind k need n₀ from₀ work n from = Picking (spaceAt v img kind) work₀ k need work n from
 
 abbrev μ-loop : tie.MeasureT-loop
-μ-loop img work₀ v kind k need count n₀ from₀ work n from = need - n
+μ-loop img work₀ v kind k need n₀ from₀ work n from = need - n
 
 -- the list has room before the others
 room : (c : tie.Start Inv-loop μ-loop) → let a = c .args in (a .need ≤ a .v .stream) × (a .need ≤ length (a .work .now))
@@ -29,43 +29,48 @@ room c =
 enough : (c : tie.Start Inv-loop μ-loop) → c .args .k ≤ length (c .args .work .now)
 enough c = omega (arith, c .pre .1 .0, room c .1)
 
--- the limit is the count in hand
-limit-is : (c : tie.At-loop Inv-loop μ-loop) → let a = c .before .before .before .before .args in c .before .unit-count .result ≡ spaceOf (a .kind) (volume (geometryOf (a .v .tables .geometry)) (a .img .now)) .limit
-limit-is c = let p = c .before .before .before .before in c .before .unit-count .ensures ∙ count-same (p .pre .0) (p .args .kind)
-
 -- a unit was found, and there is a place for it
-found : (c : tie.Else1 Inv-loop μ-loop) → let a = c .before .before .before .before .before .before .before .before .args in c .before .next-free .result < spaceOf (a .kind) (volume (geometryOf (a .v .tables .geometry)) (a .img .now)) .limit
+found : (c : tie.After-s Inv-loop μ-loop) → let a = c .before .before .before .before .before .before .before .before .args in LowestFree (spaceAt (a .v) (a .img .now) (a .kind)) (c .before .before .before .before .before .loop .from) (numberIn (c .s .given .0 .0))
 found c =
-    let q = c .if1 .left in
-    omega (arith, limit-is (c .before .before .before .before), c .before .next-free .ensures .high)
+    let a = c .before .before .before .before .before .before .before .before .args in
+    subst (λ s. NextFree (a .kind) (spaceAt (a .v) (a .img .now) (a .kind)) (c .before .before .before .before .before .loop .from) s) (c .s .given .1) (c .before .before .next-free .ensures) .1
 
-in-work : (c : tie.Else1 Inv-loop μ-loop) → c .before .before .before .before .loop .n < length (c .before .before .before .before .loop .work)
-in-work c = let l = c .before .before .before .before in omega (arith, room (l .before .before .before .before) .1, l .loop .inv .wrote .long, c .before .before .before .loop-test .taken)
+in-work : (c : tie.In-loop Inv-loop μ-loop) → c .before .loop .n < length (c .before .loop .work)
+in-work c = omega (arith, room (c .before .before .before .before) .1, c .before .loop .inv .wrote .long, c .loop-test .taken)
 
 pub list-free-spec : {M : Type 1} → statement M
 list-free-spec =
     tie.close
     (tie.spec Inv-loop μ-loop
-    (λ c κs. search needs)  -- unit-count-requires
-    (λ c. picking-start (c .before .before .before .pre .1 .0))  -- loop-holds
+    (λ c. picking-start (c .before .before .pre .1 .0))  -- loop-holds
     (λ c κs.
-    let p = c .before .before .before .before .before .before in
+    let p = c .before .before .before .before .before in
     let l = c .before .before .loop .inv in
     (ready-kept (l .wrote) (room p .0) (p .pre .0), l .within))  -- next-free-requires
-    (λ c. c .before .before .before .before .loop .inv .wrote .long)  -- same-length
+    (λ c. search needs)  -- enum-known-s
+    (λ c. search needs)  -- enum-told
+    (λ c. c .before .before .before .before .before .loop .inv .wrote .long)  -- same-length
     (λ c.
-    let l = c .before .before .before .before in
-    let d = picking-none (l .loop .inv) (c .before .next-free .ensures) (enough (l .before .before .before .before)) (c .if1 .taken ∙ limit-is l) in
+    let l = c .before .before .before .before .before in
+    let p = l .before .before .before in
+    let a = p .args in
+    let f = subst (λ s. NextFree (a .kind) (spaceAt (a .v) (a .img .now) (a .kind)) (l .loop .from) s) (c .enum-told .given .1) (c .before .before .next-free .ensures) in
+    let d = picking-none (l .loop .inv) f (enough p) in
     (d .0, (d .1, l .loop .inv .wrote)))  -- returns
-    (λ c. let p = c .before .before .before .before .before .before .before .before in omega (arith, found c, limit-end (p .pre .0) (p .args .kind)))  -- cast-work
-    (λ c. omega (arith, in-work c))  -- mul-work
-    (λ c. in-work c)  -- slice-write-work
-    (λ c. omega (arith, in-work c))  -- add-n
-    (λ c. let p = c .before .before .before .before .before .before .before .before in omega (arith, found c, limit-end (p .pre .0) (p .args .kind)))  -- add-from
+    (λ c κs. search needs)  -- number-requires
+    (λ c. omega (arith, in-work (c .before .before .before .before .before .before)))  -- mul-work
+    (λ c. in-work (c .before .before .before .before .before .before))  -- slice-write-work
+    (λ c. omega (arith, in-work (c .before .before .before .before .before .before)))  -- add-n
+    (λ c κs. search needs)  -- index-requires
+    (λ c.
+    let p = c .before .before .before .before .before .before .before .before .before .before .before in
+    omega (arith, c .index .ensures, found (c .before .before .before) .inside, limit-end (p .pre .0) (p .args .kind)))  -- add-from
     (λ c. search needs)  -- loop-less
-    (λ c. picking-step (c .before .before .before .before .loop .inv) (c .before .next-free .ensures) (c .before .before .before .loop-test .taken) (in-work c) (found c))  -- loop-again
+    (λ c.
+    let l = c .before .before .before .before .before .before .before in
+    rw (c .before .number .ensures, c .index .ensures) (picking-step (l .before .loop .inv) (found (c .before .before .before)) (l .loop-test .taken) (in-work l)))  -- loop-again
     (λ c. c .before .loop .inv .wrote .long)  -- same-length-2
     (λ c.
     let l = c .before .loop .inv in
-    let d = picking-full l (enough (c .before .before .before .before .before)) (c .loop-test .left) in
+    let d = picking-full l (enough (c .before .before .before .before)) (c .loop-test .left) in
     (d .0, (d .1, l .wrote))))  -- returns-2

@@ -8,12 +8,12 @@ use lib.ListN.{length}
 use Rattle.format.specs.Layout.Geometry.{version3}
 use Rattle.format.specs.Rules.Length.{lengthAllowed, workNeed}
 use Rattle.format.specs.Calls.Buffers.{workCleared}
-use Rattle.kinds.specs.declared.Answer.the-variants.{BadLength, ShortWork}
+use Rattle.kinds.specs.declared.Refusal.the-variants.{BadLength, ShortWork}
 use Rattle.theory.proofs.Loops.{said-yes, said-no}
 use Rattle.frame.proofs.Final.{sized3}
 use Rattle.frame.proofs.Lengths.{allowed-short}
 use Rattle.tables.specs.Work.{Wrote}
-use Rattle.tables.proofs.Allowed.{allowed-sized}
+use Rattle.header.proofs.Allowed.{allowed-sized}
 use Rattle.tables.proofs.WorkLaws.{wrote-cleared}
 use Rattle.volume.proofs.Verdicts.{length-breaks, work-short, groups-decide, clear-start}
 use Rattle.volume.proofs.Opening.{refused-early, refused-late, opened}

@@ -12,7 +12,7 @@ cfb-open-spec =
     (tie.spec
     (λ c κs. search needs)  -- open-image-requires
     (λ c. search needs)  -- enum-known-a
-    (λ c κs. search needs)  -- number-requires
+    (λ c κs. search needs)  -- refusal-number-requires
     (λ c. search needs)  -- enum-known-v
     (λ c κs.
     let a = c .before .before .before .before .before .before .before .before .before .before .args in
@@ -22,7 +22,7 @@ cfb-open-spec =
     (λ c.
     let a = c .before .before .before .before .before .before .before .before .before .before .args in
     let o = opening-refused version3 (a .image .now) (a .work .now) _ _ (c .before .before .before .before .before .before .open-image .ensures) (c .before .before .a .given .1) in
-    refused-opening (a .image .now) (a .work .now) _ _ _ (c .before .before .a .given .0 .0) o (c .number .ensures))  -- returns
+    refused-opening (a .image .now) (a .work .now) _ _ _ (c .before .before .a .given .0 .0) o (c .refusal-number .ensures))  -- returns
     (λ c. search needs)  -- same-length-2
     (λ c.
     let a = c .before .before .before .before .before .before .before .before .before .before .before .args in

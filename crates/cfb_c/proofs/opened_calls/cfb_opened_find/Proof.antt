@@ -16,6 +16,6 @@ cfb-opened-find-spec =
     (λ c. search needs)  -- enum-known-e
     (λ c. search needs)  -- cast-kind
     (λ c. search needs)  -- enum-known-a
-    (λ c κs. search needs)  -- number-requires
-    (λ c. let f = c .before .before .before .before .find-opened .ensures in sym (ap findReply (c .before .before .e .given .1)) ∙ f)  -- returns
-    (λ c. let f = c .before .before .before .before .find-opened .ensures in ap plain (c .number .ensures) ∙ sym (ap findReply (c .before .before .a .given .1)) ∙ f))  -- returns-2
+    (λ c κs. search needs)  -- refusal-number-requires
+    (λ c. let f = c .before .before .before .before .before .find-opened .ensures in sym (ap findReply (c .before .before .before .e .given .1)) ∙ f)  -- returns
+    (λ c. let f = c .before .before .before .before .find-opened .ensures in ap plain (c .refusal-number .ensures) ∙ sym (ap findReply (c .before .before .a .given .1)) ∙ f))  -- returns-2

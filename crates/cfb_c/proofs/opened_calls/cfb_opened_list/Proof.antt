@@ -15,10 +15,10 @@ cfb-opened-list-spec =
     (λ c κs. let p = c .before .before .before .before .before .before in numbers-open (c .before .unpack .ensures) (p .pre))  -- list-opened-requires
     (λ c. search needs)  -- enum-known-n
     (λ c. search needs)  -- enum-known-a
-    (λ c κs. search needs)  -- number-requires
+    (λ c κs. search needs)  -- refused-requires
     (λ c. search needs)  -- same-length
     (λ c. search needs)  -- same-length-2
     (λ c. let f = c .before .before .before .before .before .before .before .list-opened .ensures in (sym (ap listReply (c .before .n .given .1)) ∙ f .0, (f .1 .0, (open-numbers (c .before .before .before .before .before .before .before .before .before .unpack .ensures) (f .1 .1 .0), f .1 .1 .1))))  -- returns
     (λ c. search needs)  -- same-length-3
     (λ c. search needs)  -- same-length-4
-    (λ c. let f = c .before .before .before .before .before .before .before .before .list-opened .ensures in (ap plain (c .number .ensures) ∙ sym (ap listReply (c .before .before .a .given .1)) ∙ f .0, (f .1 .0, (open-numbers (c .before .before .before .before .before .before .before .before .before .before .unpack .ensures) (f .1 .1 .0), f .1 .1 .1)))))  -- returns-2
+    (λ c. let f = c .before .before .before .before .before .before .before .before .before .list-opened .ensures in (rw (c .refused .ensures .0, c .refused .ensures .1) (sym (ap listReply (c .before .before .before .a .given .1)) ∙ f .0), (f .1 .0, (open-numbers (c .before .before .before .before .before .before .before .before .before .before .before .unpack .ensures) (f .1 .1 .0), f .1 .1 .1)))))  -- returns-2

@@ -15,8 +15,8 @@ cfb-opened-read-spec =
     (λ c κs. let p = c .before .before .before .before .before .before in numbers-open (c .before .unpack .ensures) (p .pre))  -- read-opened-requires
     (λ c. search needs)  -- enum-known-n
     (λ c. search needs)  -- enum-known-a
-    (λ c κs. search needs)  -- number-requires
+    (λ c κs. search needs)  -- refused-requires
     (λ c. search needs)  -- same-length
     (λ c. let f = c .before .before .before .before .before .read-opened .ensures in (sym (ap readReply (c .before .n .given .1)) ∙ f .0, f .1))  -- returns
     (λ c. search needs)  -- same-length-2
-    (λ c. let f = c .before .before .before .before .before .before .read-opened .ensures in (ap plain (c .number .ensures) ∙ sym (ap readReply (c .before .before .a .given .1)) ∙ f .0, f .1)))  -- returns-2
+    (λ c. let f = c .before .before .before .before .before .before .before .read-opened .ensures in (rw (c .refused .ensures .0, c .refused .ensures .1) (sym (ap readReply (c .before .before .before .a .given .1)) ∙ f .0), f .1)))  -- returns-2

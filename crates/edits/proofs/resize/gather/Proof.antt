@@ -1,51 +1,57 @@
 use borrow.Author.Needs.{needs}
 use Prim.Native.Nat.{_≤_}
-use mathlib.Core.Path.{refl}
+use mathlib.Core.Path.{_≡_, refl, _∙_, ap}
 use native.Mathlib.Omega.{arith}
 use Rattle.theory.proofs.Tests.{clash}
 use Rattle.tables.proofs.WorkLaws.{wrote-two}
-use Rattle.spaces.specs.Spaces.{spaceOf}
-use Rattle.unitlists.proofs.Limits.{count-same}
-use Rattle.edits.specs.Streams.{volumeIn}
+use Rattle.spaces.specs.Spaces.{spaceAt, unitCount}
+use Rattle.spaces.specs.Units.{kindOf}
+use Rattle.spaces.proofs.Listed.{count-same}
 use Rattle.edits.proofs.Gathering.{gathered-wrote, gathered-ready, old-short, needs-more, own-enough, own-first, free-enough, own-still, all-listed}
 use Rattle.edits.proofs.resize.gather.Statement.{statement}
 use Rattle.edits.proofs.resize.gather.Tie as tie
+
+-- how many units there are
+many : (c : tie.After-unit-count) → let a = c .before .before .before .before .before .before .before .before .args in c .unit-count .result ≡ spaceAt (a .v) (a .img .now) (kindOf (a .start)) .limit
+many c =
+    let p = c .before .before .before .before .before .before .before .before in
+    c .unit-count .ensures ∙ ap (unitCount (p .args .v)) (c .before .before .before .before .before .kind .ensures) ∙ count-same (p .pre .0) (kindOf (p .args .start))
 
 pub gather-spec : {M : Type 1} → statement M
 gather-spec =
     tie.close
     (tie.spec
+    (λ c κs. search needs)  -- kind-requires
     (λ c κs. search needs)  -- list-units-requires
     (λ c κs. search needs)  -- unit-count-requires
     (λ c. search needs)  -- same-length
     (λ c.
-    let p = c .before .before .before .before .before .before .before .before in
+    let p = c .before .before .before .before .before .before .before .before .before in
     let l = c .before .before .before .before .list-units .ensures in
-    let k = p .args .start .kind in
+    let k = kindOf (p .args .start) in
     let few = old-short (p .pre .0) k _ _ (p .pre .1) in
-    (needs-more (p .pre .0) k _ _ (p .pre .1) _ (omega (arith, c .if1 .taken, c .before .unit-count .ensures, count-same (p .pre .0) k)), (l .0, ((λ q. absurd (clash q refl)), gathered-wrote (p .pre .0) k _ few (l .1)))))  -- returns
+    (needs-more (p .pre .0) k _ _ (p .pre .1) _ (omega (arith, c .if1 .taken, many (c .before))), (l .0, ((λ q. absurd (clash q refl)), gathered-wrote (p .pre .0) k _ few (l .1)))))  -- returns
     (λ c. search needs)  -- same-length-2
     (λ c.
-    let p = c .before .before .before .before .before .before .before .before .before in
+    let p = c .before .before .before .before .before .before .before .before .before .before in
     let l = c .before .before .before .before .before .list-units .ensures in
-    let k = p .args .start .kind in
+    let k = kindOf (p .args .start) in
     let few = old-short (p .pre .0) k _ _ (p .pre .1) in
     (own-enough (p .pre .0) k _ _ (p .pre .1) _ (l .0) _ (c .if2 .taken), (l .0, ((λ q. own-first (p .pre .0) k _ _ (p .pre .1) _ (l .0) _ (c .if2 .taken)), gathered-wrote (p .pre .0) k _ few (l .1)))))  -- returns-2
     (λ c κs.
-    let p = c .before .before .before .before .before .before .before .before .before .before in
+    let p = c .before .before .before .before .before .before .before .before .before .before .before in
     let l = c .before .before .before .before .before .before .list-units .ensures in
-    let k = p .args .start .kind in
+    let k = kindOf (p .args .start) in
     let few = old-short (p .pre .0) k _ _ (p .pre .1) in
-    (gathered-ready (p .pre .0) (gathered-wrote (p .pre .0) k _ few (l .1)), (omega (arith, c .before .if2 .left), omega (arith, c .before .before .if1 .left, c .before .before .before .unit-count .ensures, count-same (p .pre .0) k))))  -- list-free-requires
+    (gathered-ready (p .pre .0) (gathered-wrote (p .pre .0) k _ few (l .1)), (omega (arith, c .before .if2 .left), rw (c .before .before .before .before .before .before .before .before .kind .ensures) (omega (arith, c .before .before .if1 .left, many (c .before .before .before))))))  -- list-free-requires
     (λ c. search needs)  -- same-length-3
     (λ c.
-    let p = c .before .before .before .before .before .before .before .before .before .before .before .before .before in
+    let p = c .before .before .before .before .before .before .before .before .before .before .before .before .before .before in
     let l = c .before .before .before .before .before .before .before .before .before .list-units .ensures in
-    let f = c .before .before .list-free .ensures in
-    let k = p .args .start .kind in
+    let f = rw (c .before .before .before .before .before .before .before .before .before .before .before .kind .ensures) at (c .before .before .list-free .ensures) in
+    let k = kindOf (p .args .start) in
     let few = old-short (p .pre .0) k _ _ (p .pre .1) in
-    let u = c .before .before .before .before .before .before .unit-count .ensures in
     let t = gathered-wrote (p .pre .0) k _ few (l .1) in
-    let m : p .args .need ≤ spaceOf k (volumeIn (p .args .v) (p .args .img .now)) .limit = omega (arith, c .before .before .before .before .before .if1 .left, u, count-same (p .pre .0) k) in
+    let m : p .args .need ≤ spaceAt (p .args .v) (p .args .img .now) k .limit = omega (arith, c .before .before .before .before .before .if1 .left, many (c .before .before .before .before .before .before)) in
     let o : p .args .old ≤ p .args .need = omega (arith, c .before .before .before .before .if2 .left) in
     (free-enough (p .pre .0) k _ _ (p .pre .1) _ (l .0) _ _ _ o (f .0) (f .1 .0), (own-still (p .pre .0) k _ _ (p .pre .1) _ (l .0) _ _ _ o (f .0) (f .1 .0), (all-listed (p .pre .0) k _ _ (p .pre .1) _ (l .0) _ _ _ o (f .0) (f .1 .0), wrote-two t (gathered-wrote (p .pre .0) k _ m (f .1 .1)))))))  -- returns-3

@@ -18,19 +18,19 @@ abbrev μ-loop : tie.MeasureT-loop
 μ-loop img p q n m i₀ i = n - i
 
 -- the two names
-abbrev one : tie.After-units2 Inv-loop μ-loop → Name
+abbrev one : tie.After-name-units2 Inv-loop μ-loop → Name
 one c = name (entryAt (c .before .before .before .args .img .now) (c .before .before .before .args .p))
 
-abbrev two : tie.After-units2 Inv-loop μ-loop → Name
+abbrev two : tie.After-name-units2 Inv-loop μ-loop → Name
 two c = name (entryAt (c .before .before .before .args .img .now) (c .before .before .before .args .q))
 
 -- where both are counted
-abbrev counted : tie.In-loop Inv-loop μ-loop → tie.After-units2 Inv-loop μ-loop
+abbrev counted : tie.In-loop Inv-loop μ-loop → tie.After-name-units2 Inv-loop μ-loop
 counted c = c .before .before .before .before
 
 within : (c : tie.In-loop Inv-loop μ-loop) → (c .before .loop .i < length (one (counted c))) × (c .before .loop .i < length (two (counted c)))
 within c =
-    let h : c .before .loop .i < length (one (counted c)) = omega (arith, c .loop-test .taken, counted c .before .units .ensures) in
+    let h : c .before .loop .i < length (one (counted c)) = omega (arith, c .loop-test .taken, counted c .before .name-units .ensures) in
     (h, omega (arith, h, c .before .loop .inv .long))
 
 abbrev going : tie.After-fold2 Inv-loop μ-loop → tie.In-loop Inv-loop μ-loop
@@ -41,26 +41,26 @@ turn c =
     record {
       so-far = going c .before .loop .inv;
       inside = within (going c) .0;
-      one = unit-folded _ _ _ _ (within (going c) .0) (c .before .before .before .unit .ensures) (c .before .before .fold .ensures);
-      two = unit-folded _ _ _ _ (within (going c) .1) (c .before .unit2 .ensures) (c .fold2 .ensures);
+      one = unit-folded _ _ _ _ (within (going c) .0) (c .before .before .before .name-unit .ensures) (c .before .before .fold .ensures);
+      two = unit-folded _ _ _ _ (within (going c) .1) (c .before .name-unit2 .ensures) (c .fold2 .ensures);
     }
 
 pub compare-spec : {M : Type 1} → statement M
 compare-spec =
     tie.close
     (tie.spec Inv-loop μ-loop
-    (λ c κs. search needs)  -- units-requires
-    (λ c κs. search needs)  -- units-requires-2
-    (λ c. is-less _ _ (shorter-less fold (one (c .before)) (two (c .before)) (omega (arith, c .if1 .taken, c .before .before .units .ensures, c .before .units2 .ensures))))  -- returns
-    (λ c. is-more _ _ (shorter-less fold (two (c .before .before)) (one (c .before .before)) (omega (arith, c .if2 .taken, c .before .before .before .units .ensures, c .before .before .units2 .ensures))))  -- returns-2
-    (λ c. comparing-start fold (one (c .before .before)) (two (c .before .before)) (omega (arith, c .if2 .left, c .before .if1 .left, c .before .before .before .units .ensures, c .before .before .units2 .ensures)))  -- loop-holds
-    (λ c κs. unit-inside (counted c .before .before .before .pre .0) _ (within c .0))  -- unit-requires
+    (λ c κs. search needs)  -- name-units-requires
+    (λ c κs. search needs)  -- name-units-requires-2
+    (λ c. is-less _ _ (shorter-less fold (one (c .before)) (two (c .before)) (omega (arith, c .if1 .taken, c .before .before .name-units .ensures, c .before .name-units2 .ensures))))  -- returns
+    (λ c. is-more _ _ (shorter-less fold (two (c .before .before)) (one (c .before .before)) (omega (arith, c .if2 .taken, c .before .before .before .name-units .ensures, c .before .before .name-units2 .ensures))))  -- returns-2
+    (λ c. comparing-start fold (one (c .before .before)) (two (c .before .before)) (omega (arith, c .if2 .left, c .before .if1 .left, c .before .before .before .name-units .ensures, c .before .before .name-units2 .ensures)))  -- loop-holds
+    (λ c κs. unit-inside (counted c .before .before .before .pre .0) _ (within c .0))  -- name-unit-requires
     (λ c κs. search needs)  -- fold-requires
-    (λ c κs. unit-inside (counted (c .before .before) .before .before .before .pre .1) _ (within (c .before .before) .1))  -- unit-requires-2
+    (λ c κs. unit-inside (counted (c .before .before) .before .before .before .pre .1) _ (within (c .before .before) .1))  -- name-unit-requires-2
     (λ c κs. search needs)  -- fold-requires-2
     (λ c. is-less _ _ (turn-less (turn (c .before)) (c .if3 .taken)))  -- returns-3
     (λ c. is-more _ _ (turn-more (turn (c .before .before)) (c .if4 .taken)))  -- returns-4
     (λ c. search needs)  -- add-i
     (λ c. search needs)  -- loop-less
     (λ c. turn-on (turn (c .before .before)) (c .if4 .left) (c .before .if3 .left))  -- loop-again
-    (λ c. is-same _ _ (comparing-end (c .before .loop .inv) (omega (arith, c .loop-test .left, c .before .before .before .before .before .units .ensures)))))  -- returns-5
+    (λ c. is-same _ _ (comparing-end (c .before .loop .inv) (omega (arith, c .loop-test .left, c .before .before .before .before .before .name-units .ensures)))))  -- returns-5

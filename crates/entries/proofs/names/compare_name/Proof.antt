@@ -18,14 +18,14 @@ abbrev μ-loop : tie.MeasureT-loop
 μ-loop want img q n k i₀ i = n - i
 
 -- the two names
-abbrev one : tie.After-units Inv-loop μ-loop → Name
+abbrev one : tie.After-name-units Inv-loop μ-loop → Name
 one c = c .before .before .before .args .want .now
 
-abbrev two : tie.After-units Inv-loop μ-loop → Name
+abbrev two : tie.After-name-units Inv-loop μ-loop → Name
 two c = name (entryAt (c .before .before .before .args .img .now) (c .before .before .before .args .q))
 
 -- where both are counted
-abbrev counted : tie.In-loop Inv-loop μ-loop → tie.After-units Inv-loop μ-loop
+abbrev counted : tie.In-loop Inv-loop μ-loop → tie.After-name-units Inv-loop μ-loop
 counted c = c .before .before .before .before
 
 within : (c : tie.In-loop Inv-loop μ-loop) → c .before .loop .i < length (two (counted c))
@@ -40,21 +40,21 @@ turn c =
       so-far = going c .before .loop .inv;
       inside = going c .loop-test .taken;
       one = c .before .before .fold .ensures;
-      two = unit-folded _ _ _ _ (within (going c)) (c .before .unit .ensures) (c .fold2 .ensures);
+      two = unit-folded _ _ _ _ (within (going c)) (c .before .name-unit .ensures) (c .fold2 .ensures);
     }
 
 pub compare-name-spec : {M : Type 1} → statement M
 compare-name-spec =
     tie.close
     (tie.spec Inv-loop μ-loop
-    (λ c κs. search needs)  -- units-requires
-    (λ c. is-less _ _ (shorter-less fold (one (c .before)) (two (c .before)) (omega (arith, c .if1 .taken, c .before .units .ensures))))  -- returns
-    (λ c. is-more _ _ (shorter-less fold (two (c .before .before)) (one (c .before .before)) (omega (arith, c .if2 .taken, c .before .before .units .ensures))))  -- returns-2
-    (λ c. comparing-start fold (one (c .before .before)) (two (c .before .before)) (omega (arith, c .if2 .left, c .before .if1 .left, c .before .before .units .ensures)))  -- loop-holds
+    (λ c κs. search needs)  -- name-units-requires
+    (λ c. is-less _ _ (shorter-less fold (one (c .before)) (two (c .before)) (omega (arith, c .if1 .taken, c .before .name-units .ensures))))  -- returns
+    (λ c. is-more _ _ (shorter-less fold (two (c .before .before)) (one (c .before .before)) (omega (arith, c .if2 .taken, c .before .before .name-units .ensures))))  -- returns-2
+    (λ c. comparing-start fold (one (c .before .before)) (two (c .before .before)) (omega (arith, c .if2 .left, c .before .if1 .left, c .before .before .name-units .ensures)))  -- loop-holds
     (λ c. search needs)  -- mul-fold
     (λ c. search needs)  -- shared-slice-read-fold
     (λ c κs. search needs)  -- fold-requires
-    (λ c κs. unit-inside (counted (c .before .before) .before .before .before .pre) _ (within (c .before .before)))  -- unit-requires
+    (λ c κs. unit-inside (counted (c .before .before) .before .before .before .pre) _ (within (c .before .before)))  -- name-unit-requires
     (λ c κs. search needs)  -- fold-requires-2
     (λ c. is-less _ _ (turn-less (turn (c .before)) (c .if3 .taken)))  -- returns-3
     (λ c. is-more _ _ (turn-more (turn (c .before .before)) (c .if4 .taken)))  -- returns-4

@@ -5,7 +5,7 @@ use Rattle.theory.specs.TreeViews.{Standing}
 use Rattle.theory.proofs.Trees.Stand.{stand}
 use Rattle.theory.proofs.Trees.Spines.{topBlack-none, topBlack-at}
 use Rattle.directory.specs.Listed.{entriesOf}
-use Rattle.hierarchy.proofs.Entries.{none-yes, none-no}
+use Rattle.directory.proofs.Fields.{none-yes, none-no}
 use Rattle.hierarchy.proofs.places.black.Statement.{statement}
 use Rattle.hierarchy.proofs.places.black.Tie as tie
 

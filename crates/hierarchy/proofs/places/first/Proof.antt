@@ -5,7 +5,7 @@ use Rattle.theory.specs.TreeViews.{at}
 use Rattle.theory.specs.TreeOrder.{FirstWalk}
 use Rattle.theory.proofs.Trees.Spines.{first-start, first-step, first-end, left-shorter}
 use Rattle.directory.specs.Listed.{entriesOf}
-use Rattle.hierarchy.proofs.Entries.{none-yes, none-no}
+use Rattle.directory.proofs.Fields.{none-yes, none-no}
 use Rattle.hierarchy.proofs.places.first.Statement.{statement}
 use Rattle.hierarchy.proofs.places.first.Tie as tie
 

@@ -5,7 +5,7 @@ use Rattle.theory.specs.TreeViews.{at}
 use Rattle.theory.specs.TreeOrder.{LastWalk}
 use Rattle.theory.proofs.Trees.Spines.{last-start, last-step, last-end, right-shorter}
 use Rattle.directory.specs.Listed.{entriesOf}
-use Rattle.hierarchy.proofs.Entries.{none-yes, none-no}
+use Rattle.directory.proofs.Fields.{none-yes, none-no}
 use Rattle.hierarchy.proofs.places.last.Statement.{statement}
 use Rattle.hierarchy.proofs.places.last.Tie as tie
 

@@ -7,7 +7,8 @@ use Rattle.theory.specs.TreeViews.{at, leftOf, Standing}
 use Rattle.theory.proofs.Trees.Stand.{left-stands}
 use Rattle.theory.proofs.Trees.Spines.{lastLess-none, lastLess-at}
 use Rattle.directory.specs.Listed.{entriesOf}
-use Rattle.hierarchy.proofs.Entries.{none-yes, none-no, standing-named}
+use Rattle.directory.proofs.Fields.{none-yes, none-no}
+use Rattle.hierarchy.proofs.Standing.{standing-named}
 use Rattle.hierarchy.proofs.places.left_ordered.Statement.{statement}
 use Rattle.hierarchy.proofs.places.left_ordered.Tie as tie
 

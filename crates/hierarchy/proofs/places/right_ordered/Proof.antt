@@ -7,7 +7,8 @@ use Rattle.theory.specs.TreeViews.{at, rightOf, Standing}
 use Rattle.theory.proofs.Trees.Stand.{right-stands}
 use Rattle.theory.proofs.Trees.Spines.{firstMore-none, firstMore-at}
 use Rattle.directory.specs.Listed.{entriesOf}
-use Rattle.hierarchy.proofs.Entries.{none-yes, none-no, standing-named}
+use Rattle.directory.proofs.Fields.{none-yes, none-no}
+use Rattle.hierarchy.proofs.Standing.{standing-named}
 use Rattle.hierarchy.proofs.places.right_ordered.Statement.{statement}
 use Rattle.hierarchy.proofs.places.right_ordered.Tie as tie
 

@@ -3,10 +3,10 @@ use Prim.Native.Nat.{_+_, _-_, _/_, _<_}
 use mathlib.Core.Path.{_≡_, sym, _∙_, ap}
 use native.Mathlib.Omega.{arith}
 use lib.ListN.{length}
-use Rattle.format.specs.Layout.Geometry.{difatIn}
+use Rattle.format.specs.Layout.Geometry.{difatIn, headerDifat}
 use Rattle.kinds.specs.Sizes.{geometryOf}
-use Rattle.tables.specs.Sized.{D}
-use Rattle.tables.proofs.Places.{entry-first, entry-later}
+use Rattle.header.specs.Sized.{D}
+use Rattle.tables.proofs.Places.{entry-later}
 use Rattle.tables.proofs.DifatLaws.{difat-some, entry-sector, entry-index}
 use Rattle.tables.proofs.sectors.difat_entry.Statement.{statement}
 use Rattle.tables.proofs.sectors.difat_entry.Tie as tie
@@ -25,18 +25,17 @@ per-some : (c : tie.After-difat) → 0 < c .difat .result
 per-some c = omega (arith, c .difat .ensures, difat-some (c .before .before .before .before .pre .0 .counted .sized))
 
 pub difat-entry-spec : {M : Type 1} → statement M
+unfolding headerDifat
 difat-entry-spec =
     tie.close
     (tie.spec
-    (λ c. search needs)  -- mul-u32-at
-    (λ c. search needs)  -- add-u32-at
-    (λ c κs. search needs)  -- u32-at-requires
-    (λ c. rw (entry-first _ _ _ (c .before .if1 .taken)) (c .u32-at .ensures))  -- returns
+    (λ c κs. search needs)  -- difat-in-header-requires
+    (λ c. c .difat-in-header .ensures)  -- returns
     (λ c κs. search needs)  -- difat-requires
-    (λ c. per-some c)  -- div-t12
-    (λ c. omega (arith, listed-in c))  -- add-t13
-    (λ c. omega (arith, listed-in c))  -- mul-t14
-    (λ c. listed-in (c .before))  -- shared-slice-read-t16
+    (λ c. per-some c)  -- div-t10
+    (λ c. omega (arith, listed-in c))  -- add-t11
+    (λ c. omega (arith, listed-in c))  -- mul-t12
+    (λ c. listed-in (c .before))  -- shared-slice-read-t14
     (λ c. per-some (c .before))  -- rem-word-in
     (λ c κs.
     let p = c .before .before .before .before .before in

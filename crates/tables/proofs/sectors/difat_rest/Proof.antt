@@ -7,7 +7,7 @@ use Rattle.format.specs.Basics.Lists.{allBelow}
 use Rattle.format.specs.Layout.Geometry.{headerDifat, difatIn}
 use Rattle.format.specs.Rules.Tables.{spareEntryFree}
 use Rattle.kinds.specs.Sizes.{geometryOf}
-use Rattle.tables.specs.Sized.{F, D}
+use Rattle.header.specs.Sized.{F, D}
 use Rattle.theory.proofs.Loops.{below-none, below-more, below-not, said-yes, said-no}
 use Rattle.tables.proofs.DifatLaws.{entries-enough, entries-few, entry-free, rest-is}
 use Rattle.tables.proofs.sectors.difat_rest.Statement.{statement}

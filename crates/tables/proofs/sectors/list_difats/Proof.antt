@@ -32,8 +32,8 @@ list-difats-spec =
     tie.close
     (tie.spec Inv-loop μ-loop
     (λ c κs. search needs)  -- difat-requires
-    (λ c κs. search needs)  -- u32-at-requires
-    (λ c. difat-start (c .u32-at .ensures) (omega (arith, c .before .before .before .before .pre .room)))  -- loop-holds
+    (λ c κs. search needs)  -- difat-start-requires
+    (λ c. difat-start (c .difat-start .ensures) (omega (arith, c .before .before .before .before .pre .room)))  -- loop-holds
     (λ c κs. search needs)  -- below-requires
     (λ c. search needs)  -- same-length
     (λ c.

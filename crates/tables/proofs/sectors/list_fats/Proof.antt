@@ -3,7 +3,7 @@ use Prim.Native.Nat.{_-_}
 use mathlib.Core.Path.{_≡_}
 use native.Mathlib.Omega.{arith}
 use Rattle.kinds.specs.Sizes.{geometryOf}
-use Rattle.tables.specs.Sized.{F}
+use Rattle.header.specs.Sized.{F}
 use Rattle.tables.proofs.DifatLaws.{entries-enough, FatWalk, fat-start, fat-step}
 use Rattle.tables.proofs.sectors.list_fats.Statement.{statement}
 use Rattle.tables.proofs.sectors.list_fats.Tie as tie

@@ -2,7 +2,7 @@ use borrow.Author.Needs.{needs}
 use Prim.Native.Nat.{_+_}
 use borrow.Author.Tests.{not-true, not-false}
 use Rattle.kinds.specs.Sizes.{geometryOf}
-use Rattle.tables.specs.Sized.{F}
+use Rattle.header.specs.Sized.{F}
 use Rattle.tables.specs.Stages.{Difats}
 use Rattle.tables.proofs.DifatLaws.{difats-kept}
 use Rattle.tables.proofs.StageLaws.{difat-args, left-listed, lists-fail, lists-difats, lists-left}

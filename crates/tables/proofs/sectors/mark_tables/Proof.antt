@@ -5,7 +5,7 @@ use native.Mathlib.Omega.{arith}
 use borrow.Author.Tests.{not-true, not-false}
 use Rattle.format.specs.Layout.Geometry.{sectorCount}
 use Rattle.kinds.specs.Sizes.{geometryOf}
-use Rattle.tables.specs.Sized.{F, D}
+use Rattle.header.specs.Sized.{F, D}
 use Rattle.tables.specs.Stages.{ListLeft}
 use Rattle.tables.proofs.WorkLaws.{wrote-two}
 use Rattle.tables.proofs.SectorLaws.{fats-fail, difats-fail, sectors-marked}

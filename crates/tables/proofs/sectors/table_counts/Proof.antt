@@ -14,16 +14,16 @@ unfolding tableCounts fatCount difatCount fatCells
 table-counts-spec =
     tie.close
     (tie.spec
-    (λ c κs. search needs)  -- u32-at-requires
+    (λ c κs. search needs)  -- fat-count-requires
     (λ c. search needs)  -- cast-f
-    (λ c κs. search needs)  -- u32-at-requires-2
+    (λ c κs. search needs)  -- difat-count-requires
     (λ c. search needs)  -- cast-d
     (λ c κs. search needs)  -- sector-count-requires
     (λ c κs. search needs)  -- cells-requires
     (λ c.
     let p = c .before .before .before .before .before in
-    let f = c .before .before .before .u32-at .result in
+    let f = c .before .before .before .fat-count .result in
     let few : c .cells .result ≤ 1024 = rw (c .cells .ensures) (cells-few (p .pre)) in
-    omega (arith, mul-le-mul-right f few, c .before .before .before .u32-at .ok))  -- mul-result
+    omega (arith, mul-le-mul-right f few, c .before .before .before .fat-count .ok))  -- mul-result
     (λ c κs. search needs)  -- difat-need-requires
-    (λ c. rw (c .difat-need .ensures, c .before .cells .ensures, c .before .before .sector-count .ensures, c .before .before .before .u32-at2 .ensures, c .before .before .before .before .u32-at .ensures)))  -- returns
+    (λ c. rw (c .difat-need .ensures, c .before .cells .ensures, c .before .before .sector-count .ensures, c .before .before .before .difat-count .ensures, c .before .before .before .before .fat-count .ensures)))  -- returns

@@ -1,8 +1,8 @@
 use borrow.Author.Needs.{needs}
-use Prim.Native.Nat.{_+_, _-_, _*_, _/_}
-use mathlib.Core.Path.{refl, sym, _∙_}
+use Prim.Native.Nat.{_+_, _-_}
+use mathlib.Core.Path.{refl, sym, _∙_, ap}
+use Rattle.format.specs.Rules.Length.{workNeed}
 use native.Mathlib.Omega.{arith}
-use lib.ListN.{length}
 use borrow.Author.Tests.{not-false}
 use Rattle.kinds.specs.Sizes.{geometryOf}
 use Rattle.tables.specs.Stages.{Counted, StageArgs}
@@ -12,45 +12,47 @@ use Rattle.tables.proofs.sectors.table_rules.Statement.{statement}
 use Rattle.tables.proofs.sectors.table_rules.Tie as tie
 
 -- what both tests of the counts say
-counts : (c : tie.Else2) → let p = c .before .before .before .before .before .before .before .before in Counted (geometryOf (p .args .g)) (p .args .img .now)
+counts : (c : tie.Else2) → let p = c .before .before .before .before .before .before .before .before .before in Counted (geometryOf (p .args .g)) (p .args .img .now)
 counts c =
-    let p = c .before .before .before .before .before .before .before .before in
+    let p = c .before .before .before .before .before .before .before .before .before in
     let n = c .before .before .before .before .before .sector-count .ensures in
-    counted _ _ (p .pre .0) (said-yes (c .before .if1 .left) (c .before .before .table-counts .ensures)) (omega (arith, c .if2 .left, n, c .before .before .before .before .u32-at .ensures, c .before .before .before .u32-at2 .ensures))
+    counted _ _ (p .pre .0) (said-yes (c .before .if1 .left) (c .before .before .table-counts .ensures)) (omega (arith, c .if2 .left, n, c .before .before .before .before .fat-count .ensures, c .before .before .before .difat-count .ensures))
 
 -- what the stages after them are called with
 stage : (c : tie.Else2)
-    → let p = c .before .before .before .before .before .before .before .before in
+    → let p = c .before .before .before .before .before .before .before .before .before in
     let n = c .before .before .before .before .before .sector-count .result in
-    let f = c .before .before .before .before .u32-at .result in
-    let d = c .before .before .before .u32-at2 .result in
-    StageArgs (geometryOf (p .args .g)) (p .args .img .now) (p .args .work .now) n f d (13 * (length (p .args .img .now) / 512) - (f + d))
+    let f = c .before .before .before .before .fat-count .result in
+    let d = c .before .before .before .difat-count .result in
+    StageArgs (geometryOf (p .args .g)) (p .args .img .now) (p .args .work .now) n f d (c .before .before .before .before .before .before .work-need .result - (f + d))
+unfolding workNeed
 stage c =
-    let p = c .before .before .before .before .before .before .before .before in
+    let p = c .before .before .before .before .before .before .before .before .before in
     let n = c .before .before .before .before .before .sector-count .ensures in
-    stage-start _ _ _ _ (counts c) (p .pre .1) n (c .before .before .before .before .u32-at .ensures) (c .before .before .before .u32-at2 .ensures) refl
+    stage-start _ _ _ _ (counts c) (p .pre .1) n (c .before .before .before .before .fat-count .ensures) (c .before .before .before .difat-count .ensures) (ap (λ k. k - (c .before .before .before .before .fat-count .result + c .before .before .before .difat-count .result)) (c .before .before .before .before .before .before .work-need .ensures))
 
 pub table-rules-spec : {M : Type 1} → statement M
+unfolding workNeed
 table-rules-spec =
     tie.close
     (tie.spec
+    (λ c κs. search needs)  -- work-need-requires
     (λ c κs. search needs)  -- sector-count-requires
-    (λ c κs. search needs)  -- u32-at-requires
+    (λ c κs. search needs)  -- fat-count-requires
     (λ c. search needs)  -- cast-f
-    (λ c κs. search needs)  -- u32-at-requires-2
+    (λ c κs. search needs)  -- difat-count-requires
     (λ c. search needs)  -- cast-d
     (λ c κs. search needs)  -- table-counts-requires
     (λ c. (sym (rules-counts _ _ (said-no (c .if1 .taken) (c .before .table-counts .ensures))), not-left _ _ _ _ (λ i h. refl)))  -- returns
     (λ c. search needs)  -- add-if2
     (λ c.
-    let p = c .before .before .before .before .before .before .before .before in
+    let p = c .before .before .before .before .before .before .before .before .before in
     let n = c .before .before .before .before .before .sector-count .ensures in
-    (sym (rules-many (geometryOf (p .args .g)) (p .args .img .now) (omega (arith, c .if2 .taken, n, c .before .before .before .before .u32-at .ensures, c .before .before .before .u32-at2 .ensures))), not-left _ _ _ _ (λ i h. refl)))  -- returns-2
-    (λ c. search needs)  -- mul-list
+    (sym (rules-many (geometryOf (p .args .g)) (p .args .img .now) (omega (arith, c .if2 .taken, n, c .before .before .before .before .fat-count .ensures, c .before .before .before .difat-count .ensures))), not-left _ _ _ _ (λ i h. refl)))  -- returns-2
     (λ c. search needs)  -- add-list
     (λ c.
-    let p = c .before .before .before .before .before .before .before .before in
-    omega (arith, counts c .few, c .before .before .before .before .u32-at .ensures, c .before .before .before .u32-at2 .ensures, p .pre .0 .many))  -- sub-list
+    let p = c .before .before .before .before .before .before .before .before .before in
+    omega (arith, counts c .few, c .before .before .before .before .fat-count .ensures, c .before .before .before .difat-count .ensures, p .pre .0 .many))  -- sub-list
     (λ c κs. stage (c .before))  -- list-tables-requires
     (λ c. search needs)  -- same-length
     (λ c.

@@ -11,13 +11,14 @@ use Rattle.format.specs.Rules.Length.{workNeed}
 use Rattle.format.specs.Rules.Entries.{entryRules}
 use Rattle.format.specs.Rules.Trees.{treeRules}
 use Rattle.kinds.specs.Sizes.{geometryOf}
-use Rattle.kinds.specs.declared.Answer.the-variants.{Entries, Trees}
+use Rattle.kinds.specs.declared.Refusal.the-variants.{Entries, Trees}
 use Rattle.tables.specs.Work.{Wrote}
 use Rattle.tables.proofs.WorkLaws.{wrote-two}
 use Rattle.theory.proofs.Loops.{said-yes, said-no}
 use Rattle.tables.specs.Listed.{listPlace, tablesOf}
 use Rattle.directory.specs.Listed.{countOf, entriesOf}
-use Rattle.directory.proofs.Places.{countable, count-is, ruled}
+use Rattle.directory.proofs.Places.{countable, count-is}
+use Rattle.entry_rules.proofs.Ruled.{ruled}
 use Rattle.volume.specs.Passed.{TablesHold}
 use Rattle.volume.proofs.Outcomes.{stage-refused, stage-later}
 use Rattle.volume.proofs.Verdicts.{entries-break, trees-break, entries-hold}
@@ -69,7 +70,7 @@ entry-groups-spec =
     (λ c κs. c .before .before .before .open-directory .ensures .1 .0)  -- entry-rules-requires
     (λ c. search needs)  -- same-length
     (λ c.
-    stage-refused _ _ _ Entries (entries-break _ _ (said-no (c .if1 .taken) (rw (c .before .before .before .before .before .open-directory .ensures .0) at (c .before .entry-rules .ensures)))) (λ z. omega arith) (c .before .before .before .before .before .open-directory .ensures .1 .1 .1 .1))  -- returns
+    stage-refused _ _ _ Entries (entries-break _ _ (said-no (c .if1 .taken) (rw (c .before .before .before .before .before .open-directory .ensures .0) at (c .before .entry-rules .ensures)))) (c .before .before .before .before .before .open-directory .ensures .1 .1 .1 .1))  -- returns
     (λ c κs. countable (c .before .before .before .before .before .open-directory .ensures .1 .0))  -- count-requires
     (λ c. omega (arith, fits c))  -- mul-m
     (λ c. omega (arith, fits c))  -- add-m
@@ -83,7 +84,7 @@ entry-groups-spec =
     (λ c. search needs)  -- same-length-2
     (λ c.
     let t = c .before .before .before in
-    stage-refused _ _ _ Trees (trees-break _ _ (right (c .before .before .before .before .before .before)) (said-no (c .if2 .taken) (trees t))) (λ z. omega arith) (wrote t))  -- returns-2
+    stage-refused _ _ _ Trees (trees-break _ _ (right (c .before .before .before .before .before .before)) (said-no (c .if2 .taken) (trees t))) (wrote t))  -- returns-2
     (λ c κs. hold (c .before .before .before .before))  -- mini-groups-requires
     (λ c. search needs)  -- same-length-3
     (λ c.

@@ -3,7 +3,7 @@ use mathlib.Core.Path.{_≡_, sym, _∙_, ap}
 use native.Mathlib.Omega.{arith}
 use mathlib.Core.Bool.{false}
 use Rattle.kinds.specs.Sizes.{geometryOf}
-use Rattle.kinds.specs.declared.Answer.the-variants.{Mini}
+use Rattle.kinds.specs.declared.Refusal.the-variants.{Mini}
 use Rattle.tables.specs.Listed.{tablesOf}
 use Rattle.chains.specs.Answers.{isBroken}
 use Rattle.chains.proofs.Owners.{is-wrong}
@@ -35,14 +35,14 @@ mini-groups-spec =
     (λ c κs. (hold (c .before), tables (c .before)))  -- clear-marks-requires
     (λ c κs.
     let d = c .before .before .before .clear-marks .ensures in
-    (d .1 .fat, (d .1 .directory, (ap (λ x. x .geometry) (d .0), (omega (arith, d .1 .room), (hold (c .before .before .before .before .before) .chained, d .1 .clear .closed))))))  -- mark-system-requires
+    (record { fat = d .1 .fat; directory = d .1 .directory; same = ap (λ x. x .geometry) (d .0); behind = omega (arith, d .1 .room) }, (d .1 .clear .closed, hold (c .before .before .before .before .before) .chained)))  -- mark-system-requires
     (λ c κs. search needs)  -- is-broken-requires
     (λ c. search needs)  -- same-length
     (λ c.
     let k = c .before .before .before .before .before .before .before .before in
     let m = c .before .before .before .before .mark-system .ensures in
     let d = k .clear-marks .ensures in
-    stage-for miniGroups _ (sized (k .before .before)) (stage-refused _ _ _ Mini (chains-break _ (is-wrong m (sym (c .before .is-broken .ensures) ∙ c .if1 .taken))) (λ z. omega arith) (chains-wrote (hold (k .before .before)) (tables (k .before .before)) (d .0) (d .1) m)))  -- returns
+    stage-for miniGroups _ (sized (k .before .before)) (stage-refused _ _ _ Mini (chains-break _ (is-wrong m (sym (c .before .is-broken .ensures) ∙ c .if1 .taken))) (chains-wrote (hold (k .before .before)) (tables (k .before .before)) (d .0) (d .1) m)))  -- returns
     (λ c κs.
     let k = c .before .before .before .before .before .before .before .before .before in
     let d = k .clear-marks .ensures in
@@ -67,7 +67,7 @@ mini-groups-spec =
     let u = whole (c .before .before .before .before .before .before) in
     stage-for miniGroups _ (sized (k .before .before))
     (stage-refused _ _ _ Mini (cells-break _ (chains-right h (tables (k .before .before)) (d .0) (d .1) m u) (table-wrong h (tables (k .before .before)) (d .0) (d .1) m u (t .1) _ (t .0) (c .enum-told .given .1)))
-    (λ z. omega arith) (table-wrote h (tables (k .before .before)) (d .0) (d .1) m u (t .1))))  -- returns-2
+    (table-wrote h (tables (k .before .before)) (d .0) (d .1) m u (t .1))))  -- returns-2
     (λ c.
     let k = c .before .before .before .before .before .before .before .before .before .before .before .before .before .before .before .before .before .before .before .before in
     let d = k .clear-marks .ensures in

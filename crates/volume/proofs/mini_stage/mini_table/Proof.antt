@@ -11,10 +11,9 @@ use Rattle.kinds.specs.Sizes.{geometryOf}
 use Rattle.tables.specs.Work.{Wrote}
 use Rattle.tables.proofs.WorkLaws.{wrote-none}
 use Rattle.directory.proofs.Places.{placed, place-inside, root-inside}
-use Rattle.minis.specs.Listed.{MiniCounts, minisAt}
-use Rattle.minis.proofs.Sectors.{count-is}
+use Rattle.minis.specs.Listed.{MiniCounts}
 use Rattle.volume.specs.Passed.{miniCellRules}
-use Rattle.volume.proofs.SystemChains.{root-read}
+use Rattle.system_chains.proofs.SystemLaws.{root-read}
 use Rattle.volume.proofs.MiniCounts.{units-are, table-short, table-cells, mini-counts, cells-too-few, cells-by-rules}
 use Rattle.volume.proofs.mini_stage.mini_table.Statement.{statement}
 use Rattle.volume.proofs.mini_stage.mini_table.Tie as tie
@@ -26,8 +25,8 @@ units c =
     ap (λ n. n / 64) (c .size .ensures ∙ ap size (root-read _ _ (p .pre .directory) (p .pre .same) (c .before .place .ensures))) ∙ sym (units-are _ _)
 
 -- how many cells the mini FAT has
-cells : (c : tie.After-cells) → let p = c .before .before .before .before .before .before .before .before .args in c .cells .result * c .before .u32-at .result ≡ cellsIn (geometryOf (p .t .geometry)) * miniFatCount (p .img .now)
-cells c = ap₂ (λ m n. m * n) (c .cells .ensures) (c .before .u32-at .ensures ∙ sym (count-is (c .before .before .before .before .before .before .before .before .args .img .now)))
+cells : (c : tie.After-cells) → let p = c .before .before .before .before .before .before .before .before .args in c .cells .result * c .before .mini-fat-count .result ≡ cellsIn (geometryOf (p .t .geometry)) * miniFatCount (p .img .now)
+cells c = ap₂ (λ m n. m * n) (c .cells .ensures) (c .before .mini-fat-count .ensures)
 
 -- what the list of the mini FAT's sectors asks
 counts : (c : tie.Else1) → let p = c .before .before .before .before .before .before .before .before .before .args in MiniCounts (geometryOf (p .t .geometry)) (p .img .now) (c .before .before .before .size .result / 64)
@@ -36,11 +35,11 @@ counts c =
     mini-counts _ _ (p .fat .sized) _ (p .table) (p .stream) (units (c .before .before .before)) (omega (arith, c .if1 .left, cells (c .before)))
 
 -- how many sectors the mini FAT has
-many : (c : tie.Else1) → let p = c .before .before .before .before .before .before .before .before .before .args in c .before .before .u32-at .result ≡ miniFatCount (p .img .now)
-many c = c .before .before .u32-at .ensures ∙ sym (count-is (c .before .before .before .before .before .before .before .before .before .args .img .now))
+many : (c : tie.Else1) → let p = c .before .before .before .before .before .before .before .before .before .args in c .before .before .mini-fat-count .result ≡ miniFatCount (p .img .now)
+many c = c .before .before .mini-fat-count .ensures
 
 -- and room for them before the directory's
-room : (c : tie.Else1) → let p = c .before .before .before .before .before .before .before .before .before .args in c .before .before .u32-at .result ≤ p .d .list
+room : (c : tie.Else1) → let p = c .before .before .before .before .before .before .before .before .before .args in c .before .before .mini-fat-count .result ≤ p .d .list
 room c =
     let p = c .before .before .before .before .before .before .before .before .before .pre in
     omega (arith, many c, table-short _ _ (p .fat .sized) (p .table), p .room)
@@ -63,7 +62,8 @@ mini-table-spec =
     (tie.spec
     (λ c κs. let l = c .before .before .before .before .pre .directory in placed l _ (root-inside l))  -- place-requires
     (λ c κs. let l = c .before .before .before .before .before .pre .directory in omega (arith, c .place .ensures, place-inside l _ (root-inside l)))  -- size-requires
-    (λ c κs. omega (arith, c .before .before .before .before .before .before .pre .fat .sized .head))  -- u32-at-requires
+    (λ c. search needs)  -- div-k
+    (λ c κs. omega (arith, c .before .before .before .before .before .before .pre .fat .sized .head))  -- mini-fat-count-requires
     (λ c. search needs)  -- cast-m
     (λ c κs. search needs)  -- cells-requires
     (λ c.
@@ -82,11 +82,10 @@ mini-table-spec =
     (λ c. search needs)  -- same-length-3
     (λ c.
     let l = c .before .before .before .before .before in
-    let e = l .before .before in
-    let p = c .before .before .before .before .before .before .before .before .before .before .before .before .before .before .before .before .args in (
+    let e = l .before .before in (
       (
         rules (c .before) ∙ not-false _ (c .if2 .left),
-        (l .list-minis .ensures .0 ∙ ap₂ (λ k m. minisAt (p .t) (p .img .now) k (p .d .list - m)) (units (e .before .before .before)) (many e), l .list-minis .ensures .1 .0),
+        (rw (units (e .before .before .before), many e) at (l .list-minis .ensures .0), l .list-minis .ensures .1 .0),
       ),
       wrote l,
     )))  -- returns-3

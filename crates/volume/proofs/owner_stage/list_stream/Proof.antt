@@ -8,7 +8,7 @@ use Rattle.kinds.specs.Sizes.{geometryOf}
 use Rattle.tables.proofs.WorkLaws.{wrote-wider}
 use Rattle.entries.specs.Entry.{entryAt}
 use Rattle.directory.proofs.Places.{placed, place-inside, root-inside}
-use Rattle.volume.proofs.SystemChains.{root-read}
+use Rattle.system_chains.proofs.SystemLaws.{root-read}
 use Rattle.volume.proofs.StreamList.{stream-fits, stream-chain, stream-ready}
 use Rattle.volume.proofs.owner_stage.list_stream.Statement.{statement}
 use Rattle.volume.proofs.owner_stage.list_stream.Tie as tie
@@ -29,17 +29,17 @@ list-stream-spec =
     (λ c κs. let l = c .before .before .before .before .before .pre .mini .directory in omega (arith, c .place .ensures, place-inside l _ (root-inside l)))  -- size-requires
     (λ c κs. omega (arith, c .before .before .before .before .before .before .pre .mini .fat .sized .wide))  -- units-for-requires
     (λ c. let p = c .before .before .before .before .before .before .before .pre in stream-fits p _ _ (root (c .before .before)) (many c) refl)  -- sub-at
-    (λ c κs. let l = c .before .before .before .before .before .before .before .before .pre .mini .directory in omega (arith, c .before .before .before .place .ensures, place-inside l _ (root-inside l)))  -- start-requires
+    (λ c κs. let l = c .before .before .before .before .before .before .before .before .pre .mini .directory in omega (arith, c .before .before .before .place .ensures, place-inside l _ (root-inside l)))  -- start-sector-requires
     (λ c κs.
     let p = c .before .before .before .before .before .before .before .before .before .pre in
     let r = root (c .before .before .before .before) in
     let n = many (c .before .before) in
-    (p .mini .fat, (stream-chain p _ _ r n (c .start .ensures), omega (arith, stream-fits p _ _ r n (c .start .ensures), p .before, p .mini .before))))  -- list-chain-requires
+    (p .mini .fat, (stream-chain p _ _ r n (c .start-sector .ensures), omega (arith, stream-fits p _ _ r n (c .start-sector .ensures), p .before, p .mini .before))))  -- list-chain-requires
     (λ c. search needs)  -- same-length
     (λ c.
     let p = c .before .before .before .before .before .before .before .before .before .before .before .before .pre in
     let r = root (c .before .before .before .before .before .before .before) in
     let n = many (c .before .before .before .before .before) in
     let a = c .before .before .list-chain .ensures in
-    let s = c .before .before .before .start .ensures in
+    let s = c .before .before .before .start-sector .ensures in
     ((refl, refl, refl), (stream-ready p _ _ r n s (a .0) (a .1), wrote-wider 0 _ (a .0) (omega arith) (omega (arith, stream-fits p _ _ r n s))))))  -- returns

@@ -50,17 +50,17 @@ owner-groups-spec =
     (λ c κs.
     let p = c .before .before .before .pre in
     let m = p .lists .mini in
-    (m .fat, (m .tables, (m .directory, (m .same, (omega (arith, m .room), p .owners))))))  -- sectors-owned-requires
+    (record { fat = m .fat; directory = m .directory; same = m .same; behind = omega (arith, m .room) }, (m .tables, p .owners)))  -- sectors-owned-requires
     (λ c κs.
     let l = first (c .before .before .before) in
-    (l .minis, (l .mini .directory, (l .mini .same ∙ sym (l .same), omega (arith, l .minis .counts .few, l .mini .room)))))  -- minis-owned-requires
+    record { minis = l .minis; directory = l .mini .directory; same = l .mini .same ∙ sym (l .same); behind = omega (arith, l .minis .counts .few, l .mini .room) })  -- minis-owned-requires
     (λ c κs. search needs)  -- is-broken-requires
     (λ c κs. search needs)  -- is-broken-requires-2
     (λ c. search needs)  -- same-length
     (λ c.
     let m = c .before .before .before .before .before in
     let e = streams-break _ _ (m .before .before .before .before .sectors-owned .ensures .0) (minis m) (sym (broken (c .before)) ∙ c .if1 .taken) in
-    record { outcome = (sym e, λ z. omega (arith, e)); wrote = wrote m })  -- returns
+    record { outcome = sym e; wrote = wrote m })  -- returns
     (λ c κs. search needs)  -- is-right-requires
     (λ c κs. search needs)  -- is-right-requires-2
     (λ c. search needs)  -- same-length-2
@@ -68,7 +68,7 @@ owner-groups-spec =
     let o = c .before .before .before in
     let m = o .before .before .before .before .before in
     let e = owners-break _ _ (m .before .before .before .before .sectors-owned .ensures .0) (minis m) (sym (broken (o .before)) ∙ o .if1 .left) (sym (right (c .before)) ∙ not-true _ (c .if2 .taken)) in
-    record { outcome = (sym e, λ z. omega (arith, e)); wrote = wrote m })  -- returns-2
+    record { outcome = sym e; wrote = wrote m })  -- returns-2
     (λ c κs. second (c .before .before .before .before .before .before .before .before .before))  -- list-stream-requires
     (λ c. c .before .before .list-stream .kept .1 .0 ∙ wrote (c .before .before .before .before .before .before .before .before .before .before .before .before) .long)  -- same-length-3
     (λ c.

@@ -13,7 +13,7 @@ use Rattle.format.specs.Rules.Directory.{directoryRules}
 use Rattle.format.specs.Layout.Volume.{volume, directorySectorsOf}
 use Rattle.chains.specs.Answers.{lengthAnswer}
 use Rattle.kinds.specs.Sizes.{geometryOf}
-use Rattle.kinds.specs.declared.Answer.the-variants.{Header, Tables, Cells, Directory}
+use Rattle.kinds.specs.declared.Refusal.the-variants.{Header, Tables, Cells, Directory}
 use Rattle.theory.proofs.Loops.{said-yes, said-no}
 use Rattle.tables.specs.Work.{Wrote}
 use Rattle.tables.proofs.WorkLaws.{wrote-none}
@@ -56,15 +56,15 @@ table-groups-spec =
     tie.close
     (tie.spec
     (λ c κs. search needs)  -- header-rules-requires
-    (λ c. stage-refused _ _ _ Header (header-breaks _ _ (said-no (c .if1 .taken) (c .before .header-rules .ensures))) (λ z. omega arith) (wrote-none _ 0 _))  -- returns
+    (λ c. stage-refused _ _ _ Header (header-breaks _ _ (said-no (c .if1 .taken) (c .before .header-rules .ensures))) (wrote-none _ 0 _))  -- returns
     (λ c κs. search needs)  -- table-rules-requires
     (λ c. search needs)  -- same-length
-    (λ c. let t = c .before .before .before in stage-refused _ _ _ Tables (tables-break _ _ (header (c .before .before .before .before .before)) (said-no (c .if2 .taken) (t .table-rules .ensures .0))) (λ z. omega arith) (wrote t))  -- returns-2
+    (λ c. let t = c .before .before .before in stage-refused _ _ _ Tables (tables-break _ _ (header (c .before .before .before .before .before)) (said-no (c .if2 .taken) (t .table-rules .ensures .0))) (wrote t))  -- returns-2
     (λ c κs. (c .before .before .before .before .before .before .before .before .before .pre .0, (c .before .before .before .table-rules .ensures .1 .listed (not-false _ (c .if2 .left))) .few))  -- tables-of-requires
     (λ c κs. rw (c .before .tables-of .ensures) (c .before .before .before .before .before .table-rules .ensures .1 .listed (not-false _ (c .before .before .if2 .left))))  -- cell-rules-requires
     (λ c. search needs)  -- same-length-2
     (λ c.
-    stage-refused _ _ _ Cells (cells-break _ _ (header (c .before .before .before .before .before .before .before .before .before)) (tables (c .before .before .before .before)) (said-no (c .if3 .taken) (rw (c .before .before .before .tables-of .ensures) at (c .before .cell-rules .ensures)))) (λ z. omega arith) (wrote (c .before .before .before .before .before .before .before)))  -- returns-3
+    stage-refused _ _ _ Cells (cells-break _ _ (header (c .before .before .before .before .before .before .before .before .before)) (tables (c .before .before .before .before)) (said-no (c .if3 .taken) (rw (c .before .before .before .tables-of .ensures) at (c .before .cell-rules .ensures)))) (wrote (c .before .before .before .before .before .before .before)))  -- returns-3
     (λ c κs. rw (c .before .before .before .before .tables-of .ensures) (c .before .before .before .before .before .before .before .before .table-rules .ensures .1 .listed (not-false _ (c .before .before .before .before .before .if2 .left))))  -- directory-length-requires
     (λ c. search needs)  -- enum-known-n
     (λ c κs. hold (c .before .before))  -- entry-groups-requires
@@ -75,4 +75,4 @@ table-groups-spec =
     stage-later (tables-hold _ _ (header (n .before .before .before .before .before .before .before .before .before .before .before .before .before)) (tables (n .before .before .before .before .before .before .before .before)) (cells (n .before .before .before .before)) (hold n .chained)) (wrote (n .before .before .before .before .before .before .before .before .before .before .before)) (c .before .before .entry-groups .ensures))  -- returns-4
     (λ c. search needs)  -- same-length-4
     (λ c.
-    stage-refused _ _ _ Directory (directory-breaks _ _ (header (c .before .before .before .before .before .before .before .before .before .before .before .before .before)) (tables (c .before .before .before .before .before .before .before .before)) (cells (c .before .before .before .before)) (has-none _ _ (found (c .before .before)) (c .enum-told .given .1))) (λ z. omega arith) (wrote (c .before .before .before .before .before .before .before .before .before .before .before))))  -- returns-5
+    stage-refused _ _ _ Directory (directory-breaks _ _ (header (c .before .before .before .before .before .before .before .before .before .before .before .before .before)) (tables (c .before .before .before .before .before .before .before .before)) (cells (c .before .before .before .before)) (has-none _ _ (found (c .before .before)) (c .enum-told .given .1))) (wrote (c .before .before .before .before .before .before .before .before .before .before .before))))  -- returns-5

@@ -1,0 +1,2 @@
+-- What the functions of group 14 ensure, beside `format`.
+pub mod Names

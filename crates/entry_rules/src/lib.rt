@@ -1,0 +1,131 @@
+// Group 14: the fields of each entry of the directory.
+ghost use mathlib.Core.Path.{_≡_};
+ghost use Prim.Native.Nat.{_+_, _*_, _≤_};
+ghost use lib.ListN.{length};
+ghost use Rattle.format.specs.Basics.Lists.{allBelow};
+ghost use Rattle.format.specs.Rules.Entries.{blankFields, nameFields, streamFields, storageFields, rootFields, commonFields, entryFields, entryRules};
+ghost use Rattle.entries.specs.Entry.{entryAt, Field};
+ghost use Rattle.directory.specs.Listed.{entriesOf, DirectoryListed};
+ghost use Rattle.entry_rules.specs.Names.{unitLegal};
+use directory::Directory;
+use directory::place;
+use entries::child;
+use entries::colour;
+use entries::entry_type;
+use entries::half;
+use entries::left;
+use entries::name_bytes;
+use entries::names::legal_unit;
+use entries::names::name_unit;
+use entries::right;
+use entries::word;
+use entries::zeros;
+use kinds::EntryId;
+
+// ---- names
+
+// Whether the first n units of the name are legal.
+fn legal_units(img: &[u8], p: usize, n: usize) -> bool
+    requires { ⌜ Field (now img) p 0 (2 * n) ⌝ }
+    ensures { λ r. ⌜ r ≡ allBelow n (unitLegal (entryAt (now (img .entry)) p)) ⌝ }
+{
+    let mut i: usize = 0;
+    while i < n {
+        if !legal_unit(name_unit(img, p, i)) {
+            return false;
+        }
+        i += 1;
+    }
+    true
+}
+
+fn name_fields(img: &[u8], p: usize) -> bool
+    requires { ⌜ p + 128 ≤ length (now img) ⌝ }
+    ensures { λ r. ⌜ r ≡ nameFields (entryAt (now (img .entry)) p) ⌝ }
+{
+    let n = name_bytes(img, p);
+    if n < 4 {
+        return false;
+    }
+    if 64 < n {
+        return false;
+    }
+    (n % 2 == 0) & (half(img, p, n - 2) == 0) & legal_units(img, p, n / 2 - 1)
+}
+
+// ---- each type of entry
+
+fn blank_fields(img: &[u8], p: usize) -> bool
+    requires { ⌜ p + 128 ≤ length (now img) ⌝ }
+    ensures { λ r. ⌜ r ≡ blankFields (entryAt (now (img .entry)) p) ⌝ }
+{
+    zeros(img, p, 0, 68)
+        & left(img, p).is_none()
+        & right(img, p).is_none()
+        & child(img, p).is_none()
+        & zeros(img, p, 80, 48)
+}
+
+fn stream_fields(img: &[u8], p: usize) -> bool
+    requires { ⌜ p + 128 ≤ length (now img) ⌝ }
+    ensures { λ r. ⌜ r ≡ streamFields (entryAt (now (img .entry)) p) ⌝ }
+{
+    name_fields(img, p)
+        & child(img, p).is_none()
+        & zeros(img, p, 80, 16)
+        & zeros(img, p, 100, 8)
+        & zeros(img, p, 108, 8)
+}
+
+fn storage_fields(img: &[u8], p: usize) -> bool
+    requires { ⌜ p + 128 ≤ length (now img) ⌝ }
+    ensures { λ r. ⌜ r ≡ storageFields (entryAt (now (img .entry)) p) ⌝ }
+{
+    name_fields(img, p) & (word(img, p, 116) == 0) & zeros(img, p, 120, 8)
+}
+
+fn root_fields(img: &[u8], p: usize) -> bool
+    requires { ⌜ p + 128 ≤ length (now img) ⌝ }
+    ensures { λ r. ⌜ r ≡ rootFields (entryAt (now (img .entry)) p) ⌝ }
+{
+    left(img, p).is_none() & right(img, p).is_none() & zeros(img, p, 100, 8)
+}
+
+fn common_fields(img: &[u8], p: usize) -> bool
+    requires { ⌜ p + 128 ≤ length (now img) ⌝ }
+    ensures { λ r. ⌜ r ≡ commonFields (entryAt (now (img .entry)) p) ⌝ }
+{
+    (colour(img, p) <= 1) & zeros(img, p, 124, 4)
+}
+
+// ---- all of it
+
+// Group 14 of entry x, which stands at p.
+fn entry_fields(img: &[u8], p: usize, x: EntryId) -> bool
+    requires { ⌜ p + 128 ≤ length (now img) ⌝ }
+    ensures { λ r. ⌜ r ≡ entryFields (x .0) (entryAt (now (img .entry)) p) ⌝ }
+{
+    let t = entry_type(img, p);
+    if x.is_root() {
+        return t.is_root() & root_fields(img, p) & common_fields(img, p);
+    }
+    ((t.is_blank() & blank_fields(img, p))
+        | (t.is_storage() & storage_fields(img, p))
+        | (t.is_stream() & stream_fields(img, p)))
+        & common_fields(img, p)
+}
+
+pub fn entry_rules(img: &[u8], work: &[u32], d: Directory) -> bool
+    requires { ⌜ DirectoryListed d (now img) (now work) ⌝ }
+    ensures { λ r. ⌜ r ≡ entryRules (entriesOf d (now (img .entry))) ⌝ }
+{
+    let n = d.count();
+    let mut x = EntryId::ROOT;
+    while x.index() < n {
+        if !entry_fields(img, place(work, d, x), x) {
+            return false;
+        }
+        x = x.next();
+    }
+    true
+}

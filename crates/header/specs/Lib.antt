@@ -1,0 +1,2 @@
+-- What the functions on lengths and on the header require.
+pub mod Sized

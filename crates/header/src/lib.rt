@@ -1,0 +1,122 @@
+// The lengths of image and work buffer, and the header: its fields, and group 10.
+ghost use mathlib.Core.Path.{_≡_};
+ghost use Prim.Native.Nat.{_≤_, _<_};
+ghost use lib.ListN.{length};
+ghost use Rattle.format.specs.Layout.Geometry.{sectorCount, headerDifat};
+ghost use Rattle.format.specs.Layout.Header.{directoryStart, miniFatStart, miniFatCount, difatStart};
+ghost use Rattle.format.specs.Layout.Tables.{difatEntry};
+ghost use Rattle.format.specs.Rules.Length.{lengthAllowed, workNeed};
+ghost use Rattle.format.specs.Rules.Header.{headerRules};
+ghost use Rattle.kinds.specs.Sizes.{geometryOf};
+ghost use Rattle.header.specs.Sized.{ImageSized, F, D};
+use kinds::Geometry;
+use kinds::Sector;
+use le::u16_at;
+use le::u32_at;
+use le::u64_at;
+
+// ---- lengths
+
+// Whether an image of n bytes may be looked at; where not, the answer is 1.
+pub fn length_allowed(n: usize, g: Geometry) -> bool
+    requires { ⌜ 0 < g .bytes ⌝ }
+    requires { ⌜ g .bytes ≤ 4096 ⌝ }
+    ensures { λ r. ⌜ r ≡ lengthAllowed (geometryOf g) n ⌝ }
+{
+    (n % g.bytes == 0) & (3 * g.bytes <= n) & (n <= 8_388_608)
+}
+
+// How many numbers the work buffer has at least, for an image of n bytes.
+pub fn work_need(n: usize) -> usize
+    requires { ⌜ n < 0x1_0000_0000 ⌝ }
+    ensures { λ r. ⌜ r ≡ workNeed n ⌝ }
+{
+    13 * (n / 512)
+}
+
+// ---- group 10
+
+pub fn header_rules(img: &[u8], g: Geometry) -> bool
+    requires { ⌜ ImageSized (geometryOf g) (now img) ⌝ }
+    ensures { λ r. ⌜ r ≡ headerRules (geometryOf g) (now (img .entry)) ⌝ }
+{
+    (u64_at(img, 0) == 0xE11A_B1A1_E011_CFD0)
+        & ((u64_at(img, 8) == 0) & (u64_at(img, 16) == 0))
+        & (u16_at(img, 26) == g.major)
+        & (u16_at(img, 28) == 0xFFFE)
+        & (u16_at(img, 30) == g.shift)
+        & (u16_at(img, 32) == 6)
+        & ((u32_at(img, 34) == 0) & (u16_at(img, 38) == 0))
+        & (u32_at(img, 40) == 0)
+        & (u32_at(img, 56) == 4096)
+}
+
+// How many sectors there are.
+pub fn sector_count(img: &[u8], g: Geometry) -> usize
+    requires { ⌜ ImageSized (geometryOf g) (now img) ⌝ }
+    ensures { λ r. ⌜ r ≡ sectorCount (geometryOf g) (now (img .entry)) ⌝ }
+{
+    img.len() / g.bytes - 1
+}
+
+// ---- fields
+
+// How many entries of the DIFAT stand in the header.
+pub const DIFAT_ENTRIES: usize = 109;
+
+// How many sectors the FAT has.
+pub fn fat_count(img: &[u8]) -> u32
+    requires { ⌜ 512 ≤ length (now img) ⌝ }
+    ensures { λ r. ⌜ r ≡ F (now (img .entry)) ⌝ }
+{
+    u32_at(img, 44)
+}
+
+// How many sectors the DIFAT has.
+pub fn difat_count(img: &[u8]) -> u32
+    requires { ⌜ 512 ≤ length (now img) ⌝ }
+    ensures { λ r. ⌜ r ≡ D (now (img .entry)) ⌝ }
+{
+    u32_at(img, 72)
+}
+
+// How many sectors the mini FAT has.
+pub fn mini_fat_count(img: &[u8]) -> u32
+    requires { ⌜ 512 ≤ length (now img) ⌝ }
+    ensures { λ r. ⌜ r ≡ miniFatCount (now (img .entry)) ⌝ }
+{
+    u32_at(img, 64)
+}
+
+// Where the directory's chain starts.
+pub fn directory_start(img: &[u8]) -> Sector
+    requires { ⌜ 512 ≤ length (now img) ⌝ }
+    ensures { λ r. ⌜ r .0 ≡ directoryStart (now (img .entry)) ⌝ }
+{
+    Sector(u32_at(img, 48))
+}
+
+// Where the mini FAT's chain starts.
+pub fn mini_fat_start(img: &[u8]) -> Sector
+    requires { ⌜ 512 ≤ length (now img) ⌝ }
+    ensures { λ r. ⌜ r .0 ≡ miniFatStart (now (img .entry)) ⌝ }
+{
+    Sector(u32_at(img, 60))
+}
+
+// The first DIFAT sector.
+pub fn difat_start(img: &[u8]) -> Sector
+    requires { ⌜ 512 ≤ length (now img) ⌝ }
+    ensures { λ r. ⌜ r .0 ≡ difatStart (now (img .entry)) ⌝ }
+{
+    Sector(u32_at(img, 68))
+}
+
+// Entry i of the DIFAT, where it stands in the header.
+pub fn difat_in_header(img: &[u8], g: Geometry, i: usize) -> Sector
+    requires { ⌜ 512 ≤ length (now img) ⌝ }
+    requires { ⌜ i < headerDifat ⌝ }
+    ensures { λ r. ⌜ r .0 ≡ difatEntry (geometryOf g) (now (img .entry)) i ⌝ }
+{
+    Sector(u32_at(img, 76 + 4 * i))
+}

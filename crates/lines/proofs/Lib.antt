@@ -1,0 +1,3 @@
+-- Laws for one line of the listing.
+pub mod LineLengths
+pub mod LineWrites

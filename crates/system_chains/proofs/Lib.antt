@@ -1,0 +1,2 @@
+-- Laws for the walks along the system's chains.
+pub mod SystemLaws

@@ -1,0 +1,2 @@
+-- What the walks along the system's chains require and leave.
+pub mod System

@@ -1,0 +1,2 @@
+-- What the walk over the trees requires and leaves.
+pub mod Lent
