@@ -37,7 +37,8 @@ pub extern "C" fn cfb_find(
     kind: &mut u32,
     size: &mut u64,
 ) -> u32
-    ensures { λ r. ⌜ record { number = r; entry = now (entry .exit); type = now (kind .exit); size = now (size .exit); count = 0 } ≡ reply version3 (now (image .entry)) (findCall (now (path .entry)) (now (work .entry))) ⌝ }
+    ensures { λ r. ⌜ record { number = r; entry = now (entry .exit); type = now (kind .exit); size = now (size .exit); count = 0 }
+        ≡ reply version3 (now (image .entry)) (findCall (now (path .entry)) (now (work .entry))) ⌝ }
     ensures { λ _. ⌜ now (work .exit) ≡ workAfter version3 (now (image .entry)) (findCall (now (path .entry)) (now (work .entry))) ⌝ }
 {
     match find(image, work, path) {
@@ -75,7 +76,8 @@ pub extern "C" fn cfb_read(
     out: &mut [u8],
     count: &mut u64,
 ) -> u32
-    ensures { λ r. ⌜ record { number = r; entry = 0; type = 0; size = 0; count = now (count .exit) } ≡ reply version3 (now (image .entry)) (readCall (now (path .entry)) offset (now (out .entry)) (now (work .entry))) ⌝ }
+    ensures { λ r. ⌜ record { number = r; entry = 0; type = 0; size = 0; count = now (count .exit) }
+        ≡ reply version3 (now (image .entry)) (readCall (now (path .entry)) offset (now (out .entry)) (now (work .entry))) ⌝ }
     ensures { λ _. ⌜ now (out .exit) ≡ outAfter version3 (now (image .entry)) (readCall (now (path .entry)) offset (now (out .entry)) (now (work .entry))) ⌝ }
     ensures { λ _. ⌜ now (work .exit) ≡ workAfter version3 (now (image .entry)) (readCall (now (path .entry)) offset (now (out .entry)) (now (work .entry))) ⌝ }
 {
@@ -97,8 +99,10 @@ pub extern "C" fn cfb_overwrite(
     bytes: &[u8],
 ) -> u32
     ensures { λ r. ⌜ plain r ≡ reply version3 (now (image .entry)) (overwriteCall (now (path .entry)) offset (now (bytes .entry)) (now (work .entry))) ⌝ }
-    ensures { λ _. ⌜ now (image .exit) ≡ imageAfter version3 (now (image .entry)) (overwriteCall (now (path .entry)) offset (now (bytes .entry)) (now (work .entry))) ⌝ }
-    ensures { λ _. ⌜ now (work .exit) ≡ workAfter version3 (now (image .entry)) (overwriteCall (now (path .entry)) offset (now (bytes .entry)) (now (work .entry))) ⌝ }
+    ensures { λ _. ⌜ now (image .exit)
+        ≡ imageAfter version3 (now (image .entry)) (overwriteCall (now (path .entry)) offset (now (bytes .entry)) (now (work .entry))) ⌝ }
+    ensures { λ _. ⌜ now (work .exit)
+        ≡ workAfter version3 (now (image .entry)) (overwriteCall (now (path .entry)) offset (now (bytes .entry)) (now (work .entry))) ⌝ }
 {
     number(overwrite(image, work, path, offset, bytes))
 }
@@ -114,7 +118,8 @@ pub extern "C" fn cfb_set_len(image: &mut [u8], work: &mut [u32], path: &[u16], 
 
 #[no_mangle]
 pub extern "C" fn cfb_list(image: &[u8], work: &mut [u32], out: &mut [u8], count: &mut u64) -> u32
-    ensures { λ r. ⌜ record { number = r; entry = 0; type = 0; size = 0; count = now (count .exit) } ≡ reply version3 (now (image .entry)) (listCall (now (out .entry)) (now (work .entry))) ⌝ }
+    ensures { λ r. ⌜ record { number = r; entry = 0; type = 0; size = 0; count = now (count .exit) }
+        ≡ reply version3 (now (image .entry)) (listCall (now (out .entry)) (now (work .entry))) ⌝ }
     ensures { λ _. ⌜ now (out .exit) ≡ outAfter version3 (now (image .entry)) (listCall (now (out .entry)) (now (work .entry))) ⌝ }
     ensures { λ _. ⌜ now (work .exit) ≡ workAfter version3 (now (image .entry)) (listCall (now (out .entry)) (now (work .entry))) ⌝ }
 {

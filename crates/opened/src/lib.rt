@@ -75,8 +75,10 @@ pub fn overwrite_opened(
     bytes: &[u8],
 ) -> Answer
     requires { ⌜ OpenVolume version3 v (now image) (now work) ⌝ }
-    ensures { λ r. ⌜ plain (numberOf r) ≡ reply version3 (now (image .entry)) (overwriteCall (now (path .entry)) offset (now (bytes .entry)) (now (work .entry))) ⌝ }
-    ensures { λ _. ⌜ now (image .exit) ≡ imageAfter version3 (now (image .entry)) (overwriteCall (now (path .entry)) offset (now (bytes .entry)) (now (work .entry))) ⌝ }
+    ensures { λ r. ⌜ plain (numberOf r)
+        ≡ reply version3 (now (image .entry)) (overwriteCall (now (path .entry)) offset (now (bytes .entry)) (now (work .entry))) ⌝ }
+    ensures { λ _. ⌜ now (image .exit)
+        ≡ imageAfter version3 (now (image .entry)) (overwriteCall (now (path .entry)) offset (now (bytes .entry)) (now (work .entry))) ⌝ }
     ensures { λ _. ⌜ OpenVolume version3 v (now (image .exit)) (now (work .exit)) ⌝ }
     ensures { λ _. ⌜ Wrote (now (work .entry)) (now (work .exit)) 0 (workNeed (length (now (image .entry)))) ⌝ }
 {
