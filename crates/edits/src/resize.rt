@@ -26,6 +26,7 @@ ghost use Rattle.edits.specs.Rewritten.{tailFilled, rewritten};
 use chains::units_for;
 use directory::place;
 use kinds::Answer;
+use kinds::CUTOFF;
 use kinds::Refusal;
 use le::greatest;
 use le::least;
@@ -54,7 +55,8 @@ use writes::zero_from;
 fn crossing(old: u64, new: u64) -> bool
     ensures { λ r. ⌜ r ≡ crosses old new ⌝ }
 {
-    ((1 <= old) & (old < 4096) & (4096 <= new)) | ((4096 <= old) & ((1 <= new) & (new < 4096)))
+    ((1 <= old) & (old < CUTOFF) & (CUTOFF <= new))
+        | ((CUTOFF <= old) & ((1 <= new) & (new < CUTOFF)))
 }
 
 // ---- units

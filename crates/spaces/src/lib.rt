@@ -12,6 +12,7 @@ ghost use Rattle.spaces.specs.Units.{kindOf, numberIn, unitOf};
 ghost use Rattle.spaces.specs.Spaces.{kindFor, spaceAt, unitBytes, unitCount, listedPlace, listedSpace, CellListed, UnitListed};
 use entries::start_mini;
 use entries::start_sector;
+use kinds::CUTOFF;
 use kinds::Geometry;
 use kinds::MiniSector;
 use kinds::Sector;
@@ -114,7 +115,7 @@ impl Unit {
 pub fn kind_for(n: u64) -> Kind
     ensures { λ r. ⌜ r ≡ kindFor n ⌝ }
 {
-    if n < 4096 {
+    if n < CUTOFF {
         return Kind::Minis;
     }
     Kind::Sectors
