@@ -26,7 +26,7 @@ extern "C" {
 
 /* Answers. */
 #define CFB_DONE 0u
-#define CFB_BAD_LENGTH 1u  /* the image is shorter than 1,536 bytes, longer than 8,388,608, or no multiple of 512 */
+#define CFB_BAD_LENGTH 1u  /* the image is shorter than 1,536 bytes, longer than 67,108,864, or no multiple of 512 */
 #define CFB_SHORT_WORK 2u  /* the work buffer has fewer numbers than CFB_WORK_NEED says */
 #define CFB_HEADER 10u     /* 10 to 18: the first group of rules that the image breaks */
 #define CFB_TABLES 11u
@@ -52,7 +52,7 @@ extern "C" {
 #define CFB_ROOT 5u
 
 /* The longest image, in bytes. */
-#define CFB_GREATEST_IMAGE 8388608u
+#define CFB_GREATEST_IMAGE 67108864u
 
 /* How many 32-bit numbers the work buffer needs for an image of n bytes. */
 #define CFB_WORK_NEED(n) (13u * ((size_t)(n) / 512u))

@@ -1,4 +1,4 @@
-/* gsf FILE SUM: times libgsf on the file of tests/bench's second table, which lies in memory, and prints a row of a table in
+/* gsf FILE SUM: times libgsf on the file of tests/bench's last table, which lies in memory, and prints a row of a table in
  * Markdown. The bytes of all reads have to add up to the sum. */
 #include <gsf/gsf.h>
 #include <stdio.h>

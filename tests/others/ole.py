@@ -1,4 +1,4 @@
-"""ole.py FILE SUM: times olefile on the file of tests/bench's second table, which lies in memory, and prints a row of a table
+"""ole.py FILE SUM: times olefile on the file of tests/bench's last table, which lies in memory, and prints a row of a table
 in Markdown. The bytes of all reads have to add up to the sum."""
 import io
 import statistics

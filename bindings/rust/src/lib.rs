@@ -1,6 +1,6 @@
 //! Compound files (MS-CFB, version 3), by a library in which every function is proved.
 //!
-//! An image is a whole file in memory, a multiple of 512 bytes from 1,536 to 8,388,608. The caller lends it, with a work
+//! An image is a whole file in memory, a multiple of 512 bytes from 1,536 to 67,108,864. The caller lends it, with a work
 //! buffer of at least [`work_need`] numbers, which may hold anything and may be used again. A path is a slice of UTF-16
 //! units, with names parted by `/` and none at either end; the empty path is the root. [`path()`] makes one. Small and
 //! capital letters a to z are the same.

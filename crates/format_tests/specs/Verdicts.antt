@@ -8,6 +8,7 @@ use Rattle.format.specs.Layout.Chain.{FREE, END, FATSECT}
 use Rattle.format.specs.Layout.Entry.{NOSTREAM}
 use Rattle.format.specs.Layout.Geometry.{version3}
 use Rattle.format.specs.Layout.Volume.{directory, volume}
+use Rattle.format.specs.Rules.Length.{lengthAllowed}
 use Rattle.format.specs.Rules.Entries.{entryRules}
 use Rattle.format.specs.Rules.Trees.{treeRules}
 use Rattle.format.specs.Rules.Mini.{miniRules}
@@ -39,6 +40,10 @@ image-too-short = refl
 image-of-two-sectors : verdict version3 (replicate 1024 0) 0 ≡ 1
 unfolding opened built
 image-of-two-sectors = refl
+
+greatest-length : (lengthAllowed version3 67_108_864 ≡ true) × (lengthAllowed version3 67_109_376 ≡ false)
+unfolding opened built
+greatest-length = (refl, refl)
 
 work-too-short : verdict version3 smallest 38 ≡ 2
 unfolding opened built

@@ -23,7 +23,7 @@ pub fn length_allowed(n: usize, g: Geometry) -> bool
     requires { ⌜ g .bytes ≤ 4096 ⌝ }
     ensures { λ r. ⌜ r ≡ lengthAllowed (geometryOf g) n ⌝ }
 {
-    (n % g.bytes == 0) & (3 * g.bytes <= n) & (n <= 8_388_608)
+    (n % g.bytes == 0) & (3 * g.bytes <= n) & (n <= 67_108_864)
 }
 
 // How many numbers the work buffer has at least, for an image of n bytes.

@@ -1,7 +1,7 @@
 //! A file that a program may keep opened: 5,000 small streams in 50 storages, some 6 MB; and a thousand calls on it.
 
 use crate::calls::{Call, read};
-use crate::cases::large::many_streams;
+use crate::cases::large::{OF_8_MIB, many_streams};
 use crate::images::plan::Plan;
 use crate::images::{Sample, names, write};
 use crate::number::{SECTOR, sector_place};
@@ -15,7 +15,7 @@ pub const BYTES: usize = 1_000;
 
 /// In the plainest layout, with a name for the root, since other programs read this file too.
 pub fn image() -> Vec<u8> {
-    let plan = Plan { sectors: None, spare_minis: 1_000, ..many_streams(STREAMS, &[BYTES as u32]) };
+    let plan = Plan { sectors: None, spare_minis: 1_000, ..many_streams(OF_8_MIB, STREAMS, &[BYTES as u32]) };
     let mut random = Random::of(7, 7);
     let Sample { mut image, layout } = Sample::build(&plan, &mut random);
     write::name(&mut image, layout.entry(0), &names::of("Root Entry"));

@@ -1,21 +1,49 @@
-//! The images of the benchmark: many of 8 MiB for validators, and one for lists of calls.
+//! The images of the benchmark: many makes of them for validators, at two lengths, and one image for lists of calls.
 
 pub mod broken;
 pub mod good;
 pub mod many;
 pub mod worst;
 
-/// An image with the answer that the papers give it.
-pub struct Timed {
-    pub name: &'static str,
-    pub answer: u32,
-    pub image: Vec<u8>,
+use crate::cases::large::{OF_8_MIB, OF_64_MIB};
+
+/// How long an image is, and how many times as much of everything it holds as one of 8 MiB.
+#[derive(Clone, Copy)]
+pub struct Scale {
+    pub sectors: u32,
+    pub times: usize,
 }
 
-/// Those for validators, the good ones first.
-pub fn images() -> Vec<Timed> {
-    let mut images = good::images();
-    images.extend(broken::images());
-    images.extend(worst::images());
-    images
+pub const SCALES: [Scale; 2] = [Scale { sectors: OF_8_MIB, times: 1 }, Scale { sectors: OF_64_MIB, times: 8 }];
+
+/// A make of images, with the answer that the papers give them.
+pub struct Make {
+    /// With a # for each of the numbers.
+    name: &'static str,
+    /// In 8 MiB.
+    numbers: &'static [usize],
+    pub answer: u32,
+    pub image: fn(Scale) -> Vec<u8>,
+}
+
+const fn make(answer: u32, name: &'static str, numbers: &'static [usize], image: fn(Scale) -> Vec<u8>) -> Make {
+    Make { name, numbers, answer, image }
+}
+
+impl Make {
+    pub fn name(&self, scale: Scale) -> String {
+        let texts = self.numbers.iter().map(|number| with_commas(number * scale.times));
+        texts.fold(self.name.to_string(), |name, text| name.replacen('#', &text, 1))
+    }
+}
+
+fn with_commas(number: usize) -> String {
+    let digits = number.to_string();
+    let groups: Vec<&str> = digits.as_bytes().rchunks(3).rev().map(|group| str::from_utf8(group).unwrap()).collect();
+    groups.join(",")
+}
+
+/// The good ones first.
+pub fn makes() -> impl Iterator<Item = &'static Make> {
+    [good::MAKES, broken::MAKES, worst::MAKES].into_iter().flatten()
 }

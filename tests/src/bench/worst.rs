@@ -1,52 +1,68 @@
 //! Images that make a validator slow which follows every chain of every stream, or recurses.
 
-use super::Timed;
-use super::good::{build, good};
+use super::good::{build, entries, image};
+use super::{Make, Scale, make};
 use crate::breaks::edit::*;
 use crate::cases::large::*;
 use crate::images::Sample;
 use crate::images::names;
 use crate::images::plan::*;
 
-const DEEP: usize = 60_000;
+pub const MAKES: &[Make] = &[
+    make(18, "# streams on one chain of # sectors", &[30_000, 8_000], |s| changed(one_and_many(s, long(s)), share)),
+    make(17, "the same, the last one's size a sector off", &[], |s| {
+        changed(one_and_many(s, long(s)), |s| {
+            share(s);
+            let size = s.layout.nodes[1].size.unwrap() + 512;
+            s.set_field(s.layout.nodes.last().unwrap().entry, SIZE, size);
+        })
+    }),
+    make(18, "# streams from places along one chain", &[30_000], |s| changed(one_and_many(s, long(s)), share_tails)),
+    make(18, "# streams on one mini chain", &[30_000], |s| changed(one_and_many(s, 4_095), share)),
+    make(0, "# entries, right sides only", &[60_000], |s| image(entries(s, Shape::RightOnly))),
+    make(0, "# entries, left sides only", &[60_000], |s| image(entries(s, Shape::LeftOnly))),
+    make(0, "# entries, zigzag", &[60_000], |s| image(entries(s, Shape::ZigZag))),
+    make(0, "# storages nested", &[60_000], |s| image(nested(s.sectors, s.times * 60_000))),
+    make(13, "ring in the directory's chain", &[], |s| changed(right_only(s), |s| ring(s, |s| &s.layout.directory))),
+    make(15, "ring of siblings", &[], |s| {
+        changed(right_only(s), |s| {
+            let (first, last) = (s.layout.nodes[1].entry, s.layout.nodes.last().unwrap().entry);
+            s.set_field(last, RIGHT, first);
+        })
+    }),
+    make(16, "ring in the mini FAT's chain", &[], |s| changed(minis(s), |s| ring(s, |s| &s.layout.mini_fat))),
+    make(16, "ring in the mini stream's chain", &[], |s| changed(minis(s), |s| ring(s, |s| &s.layout.mini_stream))),
+    make(17, "ring in a stream's chain", &[], |s| {
+        let stream = build(many_streams(s.sectors, 1, &[s.times as u32 * 16_000 * 512]));
+        changed(stream, |s| ring(s, |s| &s.layout.nodes.last().unwrap().units))
+    }),
+    make(17, "ring in the last mini chain", &[], |s| {
+        changed(minis(s), |s| {
+            let units = s.layout.nodes.last().unwrap().units.clone();
+            s.set_mini_cell(*units.last().unwrap(), units[0]);
+        })
+    }),
+];
 
-pub fn images() -> Vec<Timed> {
-    let mut images = shared_chains();
-    images.extend([
-        good("60,000 entries, right sides only", many_entries(DEEP, Shape::RightOnly)),
-        good("60,000 entries, left sides only", many_entries(DEEP, Shape::LeftOnly)),
-        good("60,000 entries, zigzag", many_entries(DEEP, Shape::ZigZag)),
-        good("60,000 storages nested", nested(DEEP)),
-    ]);
-    images.extend(rings());
-    images
+fn right_only(s: Scale) -> Sample {
+    build(entries(s, Shape::RightOnly))
 }
 
-fn changed(name: &'static str, answer: u32, sample: &Sample, change: fn(&mut Sample)) -> Timed {
-    let mut sample = sample.clone();
+fn changed(mut sample: Sample, change: fn(&mut Sample)) -> Vec<u8> {
     change(&mut sample);
-    Timed { name, answer, image: sample.image }
+    sample.image
 }
 
-/// 30,000 empty streams, and a stream of this size as the first object.
-fn one_and_30_000(size: u32) -> Sample {
-    let mut plan = many_entries(30_000, Shape::Balanced);
+/// The bytes of the one chain.
+fn long(s: Scale) -> u32 {
+    s.times as u32 * 8_000 * 512
+}
+
+/// Empty streams, and a stream of this size as the first object.
+fn one_and_many(s: Scale, size: u32) -> Sample {
+    let mut plan = many_entries(s.sectors, s.times * 30_000, Shape::Balanced);
     plan.objects[1].size = Some(size);
     build(plan)
-}
-
-fn shared_chains() -> Vec<Timed> {
-    let large = one_and_30_000(8_000 * 512);
-    let small = one_and_30_000(4_095);
-    vec![
-        changed("30,000 streams on one chain of 8,000 sectors", 18, &large, share),
-        changed("the same, the last one's size a sector off", 17, &large, |s| {
-            share(s);
-            s.set_field(s.layout.nodes.last().unwrap().entry, SIZE, 8_001 * 512);
-        }),
-        changed("30,000 streams from places along one chain", 18, &large, share_tails),
-        changed("30,000 streams on one mini chain", 18, &small, share),
-    ]
 }
 
 /// Every stream gets the first one's chain and size.
@@ -69,26 +85,11 @@ fn share_tails(s: &mut Sample) {
     }
 }
 
-fn rings() -> Vec<Timed> {
-    let tree = build(many_entries(DEEP, Shape::RightOnly));
-    let stream = build(many_streams(1, &[16_000 * 512]));
-    let mut plan = many_streams(1_700, &[4_095]);
+/// Streams of 64 mini sectors each.
+fn minis(s: Scale) -> Sample {
+    let mut plan = many_streams(s.sectors, s.times * 1_700, &[4_095]);
     plan.add(0, names::of("last"), Some(4_095));
-    let minis = build(plan);
-    vec![
-        changed("ring in the directory's chain", 13, &tree, |s| ring(s, |s| &s.layout.directory)),
-        changed("ring of siblings", 15, &tree, |s| {
-            let (first, last) = (s.layout.nodes[1].entry, s.layout.nodes.last().unwrap().entry);
-            s.set_field(last, RIGHT, first);
-        }),
-        changed("ring in the mini FAT's chain", 16, &minis, |s| ring(s, |s| &s.layout.mini_fat)),
-        changed("ring in the mini stream's chain", 16, &minis, |s| ring(s, |s| &s.layout.mini_stream)),
-        changed("ring in a stream's chain", 17, &stream, |s| ring(s, |s| &s.layout.nodes.last().unwrap().units)),
-        changed("ring in the last mini chain", 17, &minis, |s| {
-            let units = s.layout.nodes.last().unwrap().units.clone();
-            s.set_mini_cell(*units.last().unwrap(), units[0]);
-        }),
-    ]
+    build(plan)
 }
 
 /// The chain's last cell leads back to its first sector.

@@ -1,14 +1,14 @@
 //! harness SEED [IMAGES [CALLS [LISTS]]]   all cases: random images to validate, random calls, random lists of calls, and
 //!                                         as many lists on opened volumes
-//! harness SEED only KIND NUMBER           one case again: KIND is fixed, samples, small, large, calls, deep, lists, opened
+//! harness SEED only KIND NUMBER           one case again: KIND is fixed, samples, small, large, tables, calls, deep, filled,
+//!                                         lists, opened
 
 use cfb_tests::calls::{ANSWERS, OPENED_ANSWERS};
 #[cfg(feature = "edits")]
 use cfb_tests::cases::opened;
-use cfb_tests::cases::{Case, calls::Calls, deep, fixed, large, lists, samples, small::Cases};
+use cfb_tests::cases::{Case, calls::Calls, deep, filled, fixed, large, lists, samples, small::Cases, tables};
 use cfb_tests::compare::Tally;
 
-const LARGE_IMAGES: u64 = 12;
 /// So many random images use every break.
 const ENOUGH: u64 = 100_000;
 /// So many random calls get every answer.
@@ -33,15 +33,19 @@ fn main() {
 fn all(seed: u64, images: u64, calls: u64, list_count: u64) -> Tally {
     let mut tally = Tally::new();
     let mut cases = Cases::new(seed);
-    each(fixed::cases(), &mut |number, case| drop(tally.run(&format!("fixed {number}"), &case)));
+    fixed::run(&mut |number, case| drop(tally.run(&format!("fixed {number}"), &case)));
     each(samples::cases(), &mut |number, case| drop(tally.run(&format!("samples {number}"), &case)));
     for number in 0..images {
         let case = cases.case(number);
         tally.run(&format!("seed {seed} small {number}"), &case);
     }
     let mut large_ran = |number, case: Case| drop(tally.run(&format!("seed {seed} large {number}"), &case));
-    for image in 0..LARGE_IMAGES {
+    for image in 0..large::ALL_IMAGES {
         large::run(&mut cases, seed, image, &mut large_ran);
+    }
+    let unused = tables::run(seed, &mut |number, case| drop(tally.run(&format!("seed {seed} tables {number}"), &case)));
+    for rule in unused {
+        tally.fail("never used with 8 DIFAT sectors", rule);
     }
     let mut random_calls = Calls::new(seed);
     for number in 0..calls {
@@ -49,6 +53,7 @@ fn all(seed: u64, images: u64, calls: u64, list_count: u64) -> Tally {
         tally.run(&format!("seed {seed} calls {number}"), &case);
     }
     deep::run(seed, &mut |number, case| drop(tally.run(&format!("seed {seed} deep {number}"), &case)));
+    filled::run(seed, false, &mut tally);
     for number in 0..list_count {
         lists::run(seed, number, false, &mut tally);
     }
@@ -89,6 +94,10 @@ fn one(seed: u64, kind: &str, number: u64) -> Tally {
         lists::run(seed, number, true, &mut tally);
         return tally;
     }
+    if kind == "filled" {
+        filled::run(seed, true, &mut tally);
+        return tally;
+    }
     if kind == "opened" {
         #[cfg(feature = "edits")]
         opened::run(seed, number, true, &mut tally);
@@ -103,9 +112,10 @@ fn one(seed: u64, kind: &str, number: u64) -> Tally {
         }
     };
     match kind {
-        "fixed" => each(fixed::cases(), &mut wanted),
+        "fixed" => fixed::run(&mut wanted),
         "samples" => each(samples::cases(), &mut wanted),
         "large" => large::run(&mut Cases::new(seed), seed, number / 10, &mut wanted),
+        "tables" => drop(tables::run(seed, &mut wanted)),
         "calls" => wanted(number, Calls::new(seed).case(number)),
         "deep" => deep::run(seed, &mut wanted),
         _ => wanted(number, Cases::new(seed).case(number)),

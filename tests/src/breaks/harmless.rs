@@ -5,6 +5,7 @@ use super::{Break, rule};
 use crate::images::Sample;
 use crate::number::*;
 use crate::random::Random;
+use crate::volume::GREATEST_IMAGE;
 
 pub const CHANGES: &[Break] = &[
     rule(0, "harmless: minor version", |s, r| s.spoil(r, 24, 26)),
@@ -111,7 +112,7 @@ fn dropped_sector(s: &mut Sample, _: &mut Random) -> Option<()> {
 }
 
 fn sector_more(s: &mut Sample, r: &mut Random) -> Option<()> {
-    let room = s.layout.sectors < s.layout.cell_count() && s.layout.sectors < 16_383;
+    let room = s.layout.sectors < s.layout.cell_count() && s.image.len() < GREATEST_IMAGE;
     let byte = r.byte();
     s.image.resize(s.image.len() + SECTOR, byte);
     room.then_some(())

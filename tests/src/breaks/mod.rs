@@ -28,6 +28,11 @@ const fn rule(expected: u32, rule: &'static str, apply: fn(&mut Sample, &mut Ran
     Break { rule, expected, apply }
 }
 
+/// Those that break group 11.
+pub fn of_tables() -> &'static [Break] {
+    tables::BREAKS
+}
+
 /// Every change, those that break nothing last.
 pub fn all() -> Vec<&'static Break> {
     let groups = [

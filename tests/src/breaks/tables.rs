@@ -5,6 +5,7 @@ use super::{Break, rule};
 use crate::images::Sample;
 use crate::number::*;
 use crate::random::Random;
+use crate::volume::tables::difat_needed;
 
 pub const BREAKS: &[Break] = &[
     rule(11, "F is 0", |s, _| put(s, 44, 0)),
@@ -48,11 +49,11 @@ fn too_few_cells(s: &mut Sample, r: &mut Random) -> Option<()> {
     full.then_some(())
 }
 
-/// The last FAT sector is not needed, but keeps its FATSECT.
+/// The last FAT sector is not needed, nor more or fewer DIFAT sectors without it, but it keeps its FATSECT.
 fn unlisted(s: &mut Sample, _: &mut Random) -> Option<()> {
     let fewer = s.layout.fat.len() - 1;
-    let spare = fewer >= 1 && fewer * CELLS >= s.layout.sectors as usize && fewer < HEADER_DIFAT;
-    spare.then_some(())?;
+    let spare = fewer >= 1 && fewer * CELLS >= s.layout.sectors as usize;
+    (spare && difat_needed(fewer as u64) == s.layout.difat.len() as u64).then_some(())?;
     s.put(s.layout.difat_entry(fewer), FREE);
     put(s, 44, fewer as u32)
 }
@@ -100,14 +101,18 @@ fn wrong_difat_start(s: &mut Sample, r: &mut Random) -> Option<()> {
 
 fn last_link(s: &mut Sample, r: &mut Random) -> Option<()> {
     let last = s.layout.difat.len().checked_sub(1)?;
-    let own = s.layout.difat[last];
-    put(s, s.layout.difat_link(last), r.pick(&[FREE, FATSECT, DIFSECT, 0, own, s.layout.fat[0], s.layout.sectors]))
+    let (own, first) = (s.layout.difat[last], s.layout.difat[0]);
+    let values = [FREE, FATSECT, DIFSECT, 0, own, first, s.layout.fat[0], s.layout.sectors];
+    put(s, s.layout.difat_link(last), r.pick(&values))
 }
 
+/// Any but the last: to no sector, to a wrong one, or past the next.
 fn middle_link(s: &mut Sample, r: &mut Random) -> Option<()> {
-    let middle = s.layout.difat.len().checked_sub(2)?;
-    let own = s.layout.difat[middle];
-    put(s, s.layout.difat_link(middle), r.pick(&[END, FREE, DIFSECT, own, s.layout.fat[0], s.layout.sectors]))
+    let middle = r.index(s.layout.difat.len().checked_sub(1).filter(|&links| links > 0)?);
+    let (own, first) = (s.layout.difat[middle], s.layout.difat[0]);
+    let after = s.layout.difat.get(middle + 2).copied().unwrap_or(END);
+    let values = [END, FREE, DIFSECT, own, first, after, s.layout.fat[0], s.layout.sectors];
+    put(s, s.layout.difat_link(middle), r.pick(&values))
 }
 
 fn entry_past_fat(s: &mut Sample, r: &mut Random) -> Option<()> {

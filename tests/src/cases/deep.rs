@@ -1,7 +1,7 @@
 //! Large images: storages each inside the one before, whose listing is longer than any buffer; and many streams.
 
 use super::Case;
-use super::large::{MOST, MOST_OBJECTS, many_streams, nested};
+use super::large::{OF_8_MIB, OF_64_MIB, many_streams, most_objects, nested};
 use crate::calls::{Call, list};
 use crate::draw;
 use crate::images::plan::{Fill, Order, Plan};
@@ -21,14 +21,15 @@ pub fn run(seed: u64, then: &mut dyn FnMut(u64, Case)) {
         then(number, case);
         number += 1;
     };
-    for count in [2_000, JUST_ABOVE, MOST_OBJECTS] {
-        let image = Sample::build(&nested(count), &mut Random::of(seed, 0)).image;
+    let (most, most_of_all) = (most_objects(OF_8_MIB), most_objects(OF_64_MIB));
+    for (sectors, count) in [(OF_8_MIB, 2_000), (OF_8_MIB, JUST_ABOVE), (OF_8_MIB, most), (OF_64_MIB, most_of_all)] {
+        let image = Sample::build(&nested(sectors, count), &mut Random::of(seed, 0)).image;
         finds(&image, count).into_iter().chain(lists(&image)).for_each(&mut next);
     }
     let mut r = Random::of(seed, 1);
-    for (count, sizes) in [(5_000, [1, 64, 65, 200, 0]), (40, [130_000, 4096, 513, 200_001, 4095])] {
-        streams(count, &sizes, &mut r).into_iter().for_each(&mut next);
-    }
+    streams(many_streams(OF_8_MIB, 5_000, &[1, 64, 65, 200, 0]), 20, &mut r, &mut next);
+    streams(many_streams(OF_8_MIB, 40, &[130_000, 4096, 513, 200_001, 4095]), 20, &mut r, &mut next);
+    streams(many_streams(OF_64_MIB, 60, &[2_000_000, 4096, 513, 1_000_001, 4095]), 8, &mut r, &mut next);
     fills(&mut r).into_iter().for_each(&mut next);
 }
 
@@ -60,24 +61,24 @@ fn lists(image: &[u8]) -> Vec<Case> {
     lengths.into_iter().map(|(len, answer)| on(image, Call::List { out: vec![0x55; len as usize] }, answer)).collect()
 }
 
-fn streams(count: usize, sizes: &[u32], r: &mut Random) -> Vec<Case> {
-    let plan = Plan { fill: Fill::Noise, ..many_streams(count, sizes) };
+/// So many random calls, each on the first image.
+fn streams(plan: Plan, calls: u32, r: &mut Random, next: &mut dyn FnMut(Case)) {
+    let plan = Plan { fill: Fill::Noise, order: Order::Scattered, ..plan };
     let sample = Sample::build(&plan, r);
     let model = Rc::new(Model::of(&sample));
-    let case = |_| {
+    for _ in 0..calls {
         let call = draw::call(&model, r);
         let case = Case::new("large", sample.image.clone(), work_needed(sample.image.len()), None);
-        Case { call, model: Some(model.clone()), ..case }
-    };
-    (0..20).map(case).collect()
+        next(Case { call, model: Some(model.clone()), ..case });
+    }
 }
 
-/// A stream grown to all free sectors of the largest image, or one more, and cut.
+/// A stream grown to all free sectors of 8 MiB, or one more, and cut.
 fn fills(r: &mut Random) -> Vec<Case> {
     let path = names::of("log");
     let mut cases = Vec::new();
     for size in [0, 4_096, 8_000_000] {
-        let mut plan = Plan { fill: Fill::Noise, sectors: Some(MOST), order: Order::Scattered, ..Plan::bare() };
+        let mut plan = Plan { fill: Fill::Noise, sectors: Some(OF_8_MIB), order: Order::Scattered, ..Plan::bare() };
         plan.add(0, path.clone(), Some(size));
         let sample = Sample::build(&plan, r);
         let model = Rc::new(Model::of(&sample));

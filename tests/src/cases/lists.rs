@@ -1,6 +1,7 @@
 //! Lists of calls on one image, which goes from call to call. The rows are kept from the first image and the list alone.
 
 use super::{Case, small};
+use crate::calls::Call;
 use crate::compare::{After, Tally};
 use crate::draw;
 use crate::images::Sample;
@@ -38,6 +39,10 @@ impl List {
     pub fn new(name: String, mut r: Random, shown: bool) -> List {
         let plan = if r.one_in(5) { random_plan::plan(&mut r) } else { random_plan::scarce(&mut r) };
         let sample = Sample::build(&plan, &mut r);
+        List::on(sample, name, r, shown)
+    }
+
+    pub fn on(sample: Sample, name: String, r: Random, shown: bool) -> List {
         let model = Rc::new(Model::of(&sample));
         List { name, r, shown, made: 0, image: sample.image, model }
     }
@@ -49,9 +54,21 @@ impl List {
 
     /// Draws a call and has it run with a work buffer of this length; None if it fails.
     pub fn next(&mut self, work_len: usize, run: impl FnOnce(&str, &Case) -> Option<After>) -> Option<()> {
+        let call = draw::call(&self.model, &mut self.r);
+        self.make(call, None, work_len, run)
+    }
+
+    /// Has this call run; its answer may be known.
+    pub fn make(
+        &mut self,
+        call: Call,
+        expected: Option<u32>,
+        work_len: usize,
+        run: impl FnOnce(&str, &Case) -> Option<After>,
+    ) -> Option<()> {
         let name = format!("{} call {}", self.name, self.made);
-        let (call, model) = (draw::call(&self.model, &mut self.r), Some(self.model.clone()));
-        let case = Case { call, model, ..Case::new("list", std::mem::take(&mut self.image), work_len, None) };
+        let model = Some(self.model.clone());
+        let case = Case { call, model, ..Case::new("list", std::mem::take(&mut self.image), work_len, expected) };
         if self.shown {
             println!("{name}: {}", case.description());
         }

@@ -2,6 +2,7 @@
 
 pub mod calls;
 pub mod deep;
+pub mod filled;
 pub mod fixed;
 pub mod large;
 pub mod lists;
@@ -11,6 +12,7 @@ pub mod opened;
 pub mod papers;
 pub mod samples;
 pub mod small;
+pub mod tables;
 
 use crate::calls::Call;
 use crate::model::Model;

@@ -8,7 +8,7 @@ mod samples;
 use crate::images::{Sample, names, plan::*};
 use crate::number::*;
 use crate::random::Random;
-use crate::volume::{Volume, chains::Chains, tables::difat_needed, validate, work_needed};
+use crate::volume::{Volume, chains::Chains, length_allowed, tables::difat_needed, validate, work_needed};
 use std::cmp::Ordering;
 
 /// A path through the cells, unit by unit, that must end after exactly n.
@@ -45,6 +45,7 @@ fn chains_agree_with_plain_walks() {
 #[test]
 fn difat_sectors_of_the_papers() {
     assert_eq!([109, 110, 236, 237].map(difat_needed), [0, 1, 1, 2]);
+    assert_eq!([998, 999, 1_024, 1_125, 1_126].map(difat_needed), [7, 8, 8, 8, 9]);
 }
 
 #[test]
@@ -72,6 +73,12 @@ fn lengths_of_the_papers() {
     assert_eq!(validate(&image, 39), 0);
     assert_eq!(validate(&image, 38), 2);
     assert_eq!(validate(&image[..1_535], 39), 1);
+    let allowed = [1_536, 8_388_608, 8_389_120, 67_108_864].map(length_allowed);
+    assert_eq!(allowed, [true; 4]);
+    assert_eq!([1_024, 8_388_609, 67_108_863, 67_109_376].map(length_allowed), [false; 4]);
+    let plan = Plan { sectors: Some(131_071), ..Plan::bare() };
+    let layout = Sample::build(&plan, &mut Random::of(0, 0)).layout;
+    assert_eq!((layout.fat.len(), layout.difat.len()), (1_024, 8));
 }
 
 /// Any bytes behind a header that holds get an answer.

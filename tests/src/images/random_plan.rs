@@ -37,6 +37,13 @@ pub fn scarce(random: &mut Random) -> Plan {
     plan
 }
 
+/// Few objects, and exactly so many FAT sectors, most of them for cells that are not needed.
+pub fn with_fat(random: &mut Random, fat: u32) -> Plan {
+    let mut plan = free_choices(random);
+    long_fat(&mut plan, random, fat, fat);
+    plan
+}
+
 /// Everything but the objects.
 fn free_choices(random: &mut Random) -> Plan {
     Plan {

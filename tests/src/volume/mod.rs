@@ -27,13 +27,16 @@ pub struct Volume<'a> {
     pub mini: Mini,
 }
 
+/// The bytes of the longest image.
+pub const GREATEST_IMAGE: usize = 67_108_864;
+
 /// The numbers that a work buffer needs for an image of this length.
 pub fn work_needed(image_len: usize) -> usize {
     13 * (image_len / SECTOR)
 }
 
 pub fn length_allowed(image_len: usize) -> bool {
-    image_len.is_multiple_of(SECTOR) && (1_536..=8_388_608).contains(&image_len)
+    image_len.is_multiple_of(SECTOR) && (1_536..=GREATEST_IMAGE).contains(&image_len)
 }
 
 /// 0, or the lowest number that applies.

@@ -9,7 +9,7 @@ unfoldable pub leastImage : Geometry → ℕ
 leastImage g = 3 * g .sectorBytes
 
 unfoldable pub greatestImage : ℕ
-greatestImage = 8_388_608
+greatestImage = 67_108_864
 
 -- an image of n bytes may be looked at
 unfoldable pub lengthAllowed : Geometry → ℕ → Bool

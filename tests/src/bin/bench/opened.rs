@@ -1,4 +1,4 @@
-//! The second table: a thousand calls on one file, each plain, and all of them on a volume opened once.
+//! The last table: a thousand calls on one file, each plain, and all of them on a volume opened once.
 
 use super::times::{median, once};
 use cfb_tests::bench::many;

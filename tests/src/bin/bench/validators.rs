@@ -1,45 +1,81 @@
-//! The first table: the library against the independent validator on images of 8 MiB. Both are lent the same work buffer
-//! and leave it zero.
+//! The first tables: the library against the independent validator on images of 8 MiB and of 64 MiB, and how the time for a
+//! byte grows from the one length to the other. Both are lent the same work buffers and leave them zero.
 
 use super::times::{median, once};
-use cfb_tests::bench::{Timed, good, images};
+use cfb_tests::bench::{Make, SCALES, Scale, good, makes};
 use cfb_tests::{library, volume};
 use std::time::Duration;
 
-const ROUNDS: usize = 7;
+const ROUNDS: usize = 5;
 
-/// Prints it; how many answers are wrong.
-pub fn table() -> u32 {
-    let mut wrong = 0;
-    let mut slowest_good = 0.0f64;
-    println!("| image | answer | library ms | independent ms | ratio | library, slowest good image = 1 |");
-    println!("|---|---|---|---|---|---|");
-    for (i, timed) in images().iter().enumerate() {
-        let (ours, theirs, answers) = time(timed);
-        if i < good::COUNT {
-            slowest_good = slowest_good.max(ours);
-        }
-        let same = answers == [timed.answer; 2];
-        wrong += !same as u32;
-        let answer = if same { timed.answer.to_string() } else { format!("{answers:?}, not {}", timed.answer) };
-        let relative = if i < good::COUNT { "-".to_string() } else { format!("{:.2}", ours / slowest_good) };
-        println!("| {} | {answer} | {ours:.3} | {theirs:.3} | {:.2} | {relative} |", timed.name, ours / theirs);
-    }
-    wrong
+/// What was timed of a make at one length: the medians of both in milliseconds, and both answers.
+struct Row {
+    name: String,
+    due: u32,
+    bytes: usize,
+    ours: f64,
+    theirs: f64,
+    answers: [u32; 2],
 }
 
-/// The medians of both in milliseconds, taken by turns, and both answers.
-fn time(timed: &Timed) -> (f64, f64, [u32; 2]) {
-    let mut work = vec![0; volume::work_needed(timed.image.len())];
+/// Prints them; how many answers are wrong.
+pub fn tables() -> u32 {
+    let rows: Vec<[Row; 2]> = makes().map(|make| SCALES.map(|scale| time(make, scale))).collect();
+    for (size, title) in ["8 MiB", "64 MiB"].into_iter().enumerate() {
+        println!("| {title} | answer | library ms | independent ms | ratio | library, slowest good image = 1 |");
+        println!("|---|---|---|---|---|---|");
+        let (good, others) = rows.split_at(good::MAKES.len());
+        let slowest = good.iter().map(|rows| rows[size].ours).fold(0.0, f64::max);
+        good.iter().for_each(|rows| rows[size].print("-"));
+        others.iter().for_each(|rows| rows[size].print(&format!("{:.2}", rows[size].ours / slowest)));
+        println!();
+    }
+    println!("| 8 MiB, then 64 MiB | library ns a byte | then | growth | independent ns a byte | then | growth |");
+    println!("|---|---|---|---|---|---|---|");
+    rows.iter().for_each(growth);
+    rows.iter().flatten().filter(|row| row.wrong()).count() as u32
+}
+
+impl Row {
+    fn print(&self, relative: &str) {
+        let Row { name, due, ours, theirs, answers, .. } = self;
+        let answer = if self.wrong() { format!("{answers:?}, not {due}") } else { due.to_string() };
+        println!("| {name} | {answer} | {ours:.3} | {theirs:.3} | {:.2} | {relative} |", ours / theirs);
+    }
+
+    fn wrong(&self) -> bool {
+        self.answers != [self.due; 2]
+    }
+}
+
+/// A line of the table of growth.
+fn growth(rows: &[Row; 2]) {
+    let columns = |time: fn(&Row) -> f64| {
+        let [short, long] = [0, 1].map(|size| time(&rows[size]) * 1e6 / rows[size].bytes as f64);
+        format!("{short:.4} | {long:.4} | {:.2}", long / short)
+    };
+    println!("| {} | {} | {} |", rows[0].name, columns(|row| row.ours), columns(|row| row.theirs));
+}
+
+/// As many copies in a row as fill 64 MiB, each with a work buffer of its own, so that a short image is no more likely to be in
+/// the processor's cache than a long one. Both validators by turns.
+fn time(make: &Make, scale: Scale) -> Row {
+    let image = (make.image)(scale);
+    let (bytes, work) = (image.len(), vec![0; volume::work_needed(image.len())]);
+    let mut copies = vec![(image, work); SCALES[1].times / scale.times];
     let (mut ours, mut theirs, mut answers) = (Vec::new(), Vec::new(), [0; 2]);
     for _ in 0..ROUNDS {
-        answers[0] = once(&mut ours, || library::validate(&timed.image, &mut work));
-        answers[1] = once(&mut theirs, || independent(&timed.image, &mut work));
+        for (image, work) in &mut copies {
+            answers[0] = once(&mut ours, || library::validate(image, work));
+        }
+        for (image, work) in &mut copies {
+            answers[1] = once(&mut theirs, || independent(image, work));
+        }
         if ours.iter().sum::<Duration>() > Duration::from_secs(20) {
             break;
         }
     }
-    (median(ours), median(theirs), answers)
+    Row { name: make.name(scale), due: make.answer, bytes, ours: median(ours), theirs: median(theirs), answers }
 }
 
 /// The independent validator needs no work buffer, but leaves it as the library has to.

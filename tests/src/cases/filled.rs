@@ -1,0 +1,80 @@
+//! A list of calls on the longest image: a stream grown to all its free sectors, overwritten, read back and cut. Where the
+//! library's edits are linked, the volume is opened once before them and closed behind them.
+
+use super::large::OF_64_MIB;
+use super::lists::List;
+use crate::calls::Call;
+use crate::compare::Tally;
+use crate::images::plan::{Fill, Order, Plan};
+use crate::images::{Sample, names};
+#[cfg(feature = "edits")]
+use crate::library::Opened;
+use crate::number::SECTOR;
+use crate::random::Random;
+use crate::volume::work_needed;
+
+/// Runs the list, up to the first call that fails; `shown` prints each call and its answer.
+pub fn run(seed: u64, shown: bool, tally: &mut Tally) {
+    let name = format!("seed {seed} filled 0");
+    let mut r = Random::of(seed.rotate_left(24), 0);
+    let sample = sample(&mut r);
+    let calls = calls(sample.layout.free.len() * SECTOR, &mut r);
+    let mut list = List::on(sample, name.clone(), r, shown);
+    let work_len = work_needed(list.image.len());
+    #[cfg(feature = "edits")]
+    let Some(mut opened) = tally.pass(&name, Opened::open(&list.image, work_len, 0)).flatten() else { return };
+    for (call, answer) in calls {
+        #[cfg(feature = "edits")]
+        let made = list.make(call, Some(answer), work_len, |name, case| tally.run_opened(name, case, &mut opened));
+        #[cfg(not(feature = "edits"))]
+        let made = list.make(call, Some(answer), work_len, |name, case| tally.run(name, case));
+        if made.is_none() {
+            return;
+        }
+    }
+    #[cfg(feature = "edits")]
+    tally.pass(&name, opened.close());
+}
+
+/// The tables and two other streams lie scattered among free sectors full of noise.
+fn sample(r: &mut Random) -> Sample {
+    let free = Plan { sectors: Some(OF_64_MIB), fill: Fill::Noise, ..Plan::bare() };
+    let mut plan = Plan { order: Order::Scattered, spare_minis: 9, ..free };
+    plan.add(0, names::of("log"), Some(0));
+    plan.add(0, names::of("Jets"), Some(70));
+    plan.add(0, names::of("timing"), Some(1_000_000));
+    Sample::build(&plan, r)
+}
+
+/// Calls with their answers, for a stream that is empty while so many bytes of sectors are free.
+fn calls(most: usize, r: &mut Random) -> Vec<(Call, u32)> {
+    let length = |length: usize| Call::SetLength { path: names::of("log"), length: length as u64 };
+    let read = |offset: usize, len: usize| {
+        let out = vec![b'#'; len];
+        Call::Read { path: names::of("LOG"), offset: offset as u64, out }
+    };
+    let mut overwrite = |offset: usize, len: usize| {
+        let mut bytes = vec![0; len];
+        r.fill(&mut bytes);
+        Call::Overwrite { path: names::of("log"), offset: offset as u64, bytes }
+    };
+    vec![
+        (length(most + 1), 26),
+        (length(most), 0),
+        (length(most + 1), 26),
+        (overwrite(0, most), 0),
+        (read(0, most), 0),
+        (overwrite(most - 10, 11), 24),
+        (overwrite(most - 40_000_001, 1_000), 0),
+        (read(most - 40_000_100, 2_000), 0),
+        (read(most - 1, 10), 0),
+        (length(most / 2 + 7), 0),
+        (Call::Overwrite { path: names::of("Jets"), offset: 0, bytes: vec![b'!'; 70] }, 0),
+        (length(4_100), 0),
+        (length(most - 511), 0),
+        (read(0, most), 0),
+        (Call::List { out: vec![b'#'; 100] }, 0),
+        (length(0), 0),
+        (Call::Validate, 0),
+    ]
+}
