@@ -37,7 +37,7 @@ extern "C" {
 #define CFB_MINI 16u
 #define CFB_STREAMS 17u
 #define CFB_OWNERS 18u
-#define CFB_BAD_PATH 20u           /* a name of the path is empty, longer than 31 units, or has a unit 0, '\' or ':' */
+#define CFB_BAD_PATH 20u           /* a name of the path is empty, longer than 31 units, or has a unit 0, '\', ':' or '!' */
 #define CFB_NOT_FOUND 21u          /* a storage on the way has no child of that name */
 #define CFB_STREAM_ON_THE_WAY 22u  /* a stream stands where a storage is needed */
 #define CFB_NOT_A_STREAM 23u       /* the path ends at a storage or the root, and a stream is needed */

@@ -1,7 +1,7 @@
 #!/usr/bin/env python3
 """Writes the calls that the program `calls_run` makes, and the lines that it must print.
 
-Every answer stands here, or for edits in `edit_cases.py`, as 01 gives it; values and bytes come from the plan of the image and from the edits made,
+Every answer stands here, or for edits in `edit_cases.py`, as 01 and 02 give it; values and bytes come from the plan of the image and from the edits made,
 and images after edits from `edits.py`. Nothing is asked of the library. `groups.py` says how a call is laid out and what is printed of it."""
 import os
 import struct
@@ -38,6 +38,16 @@ for path, number in [("Site/log/x", 22), ("empty/x", 22), ("edge/gone", 22), ("S
 for path in ["/", "//", "/Site", "Site/", "Site//log", "/gone", "gone/", "empty//x", "a" * 32, "Site/" + "a" * 32, "a" * 200, "Si\0te", "\0", "Site/lo\0", "Si\\te", "\\", "Site:log", ":", "gone/a:b", "empty/x/y:", "Site/log/"]:
     g.find(path, 20)
     g.read(path, most, 20)
+# ---- 20: the exclamation mark (W-202) at a name's beginning, in its middle and at its end, whatever the names before and behind it would give
+for path in ["!", "!Site", "Si!te", "Site!", "!Site/log", "Site!/log", "Site/!", "Site/!log", "Site/lo!g", "Site/log!", "gone/!", "gone/!x", "gone/x!y", "gone/x!", "gone!/log", "empty/!x", "Site/log/x!",
+             "a" * 30 + "!", "!" + "a" * 30]:
+    g.find(path, 20)
+    g.read(path, 0, 20)
+    g.read(path, most, 20)
+# ---- 21: the units beside it, and those of which it is a half
+for path in [" ", '"', '"Site', "Si te", 'Site"', "Site/ log", 'Site/lo"g', "Site/log ", "gone/\"", "Site/lo\u0121", "\u2100", "\u2121"]:
+    g.find(path, 21)
+    g.read(path, 0, 21)
 
 # ---- read: from the start, within, over the ends of sectors and mini sectors, up to the length
 for path, size in [("Site/log", 5000), ("edge", 4095), ("whole", 4096), ("Site/Jets", 70), ("Ärger", 65), ("Site/deep/x", 1), ("empty", 0)]:
@@ -90,11 +100,13 @@ s.list(9, 27)
 one = image(3, [0], [], [1], [root(1), entry("s", 2)])
 broken = [(one[:1535], 1), (b"", 1), (byte(one, 0, 0), 10), (byte(one, 44, 0), 11), (put(one, (512 + 4 * 127, 0)), 12), (byte(one, 48, 0xFE), 13), (byte(one, 1024 + 67, 2), 14),
           (byte(one, 1024 + 76, 9), 15), (put(one, (60, 0)), 16), (put(one, (1024 + 128 + 116, 0)), 17), (put(one, (512 + 4 * 2, END)), 18)]
+# a stream and a storage that have the exclamation mark in their names
+broken += [(image(3, [0], [], [1], [root(1), entry("!", 2)]), 14), (image(3, [0], [], [1], [root(1), entry("s!", 1)]), 14)]
 groups = [g, s] + edit_cases.groups()
 for img, number in broken:
     b = Group(img=img)
     b.call(VALIDATE, number)
-    for path in ["", "s", "gone", "a//b"]:
+    for path in ["", "s", "gone", "a//b", "!"]:
         b.find(path, number)
         b.read(path, most, number)
         b.overwrite(path, 0, b"x", number)

@@ -1,6 +1,7 @@
 """Overwrites and changes of length, call after call on one image, with finds, reads and listings between them.
 
-Every answer stands here as 01 gives it; the image after each edit is worked out by `edits.py`, and each stream's bytes by the edits made."""
+Every answer stands here as 01 and 02 give it; the image after each edit is worked out by `edits.py`, and each stream's bytes by the edits made."""
+from edits import Edited
 from groups import VALIDATE, Group
 from plans import Plan, text
 
@@ -202,6 +203,8 @@ def refusals(g):
     for path, number in [
         ("", 23), ("Site", 23), ("SITE/deep", 23), ("gone", 21), ("Site/gone", 21), ("Site/log", 21), ("Site/deep/gone/Pump", 21), ("gone/log/x", 21),
         ("log/x", 22), ("void/x", 22), ("Site/tail/gone/x", 22), ("/", 20), ("log/", 20), ("/log", 20), ("Site//tail", 20), ("log/x:", 20), ("gone\\", 20), ("a" * 32, 20), ("Site/ta\0l", 20),
+        ("!", 20), ("!log", 20), ("lo!g", 20), ("log!", 20), ("Site!/tail", 20), ("Site/tail!", 20), ("gone/!x", 20), ("gone/x!", 20), ("log/!", 20), ("Site!", 20),
+        ("lo g", 21), ('log"', 21), ('Site/"tail', 21), ("log/ ", 22),
     ]:
         for place in [0, 1, 4096, most]:
             g.resize(path, place, number)
@@ -227,6 +230,33 @@ def refusals(g):
     g.call(VALIDATE, 0)
 
 
+def beside_the_exclamation_mark():
+    """Names with the units beside it, and with units of which it is a half. The root has it in its name, which is not judged."""
+    plan = Plan({"a b": text(3, 70), 'a"b': b"", '"': {" ": text(5, 4096), ' "': {}, "ab\u2100\u0121": text(7, 4)}}, free=2, free_minis=4, waste=WASTE)
+    at = Edited(plan.image).entry_at(0)
+    name = "!oot!Entr!".encode("utf-16-le")
+    plan.image = plan.image[:at] + name + plan.image[at + len(name):]
+    g = Group(plan)
+    g.call(VALIDATE, 0)
+    for path in plan.entries:
+        g.finds(path)
+    g.lists(200)
+    for path, length in [("a b", 130), ('a"b', 64), ('"/ ', 4700), ('"/ab\u2100\u0121', 3)]:
+        g.reads(path, 0, 8192)
+        g.resize(path, length, 0)
+        g.overwrite(path, 1, b"!!", 0)
+        g.shows(path)
+    for path, number in [("a!b", 20), ("!", 20), ('"/!', 20), ("a b!", 20), ('"!/ ', 20), ("gone/!", 20), ('a "b', 21), ('"/"', 21), (" ", 21), ("a b/ ", 22), ('"', 23), ('"/ "', 23)]:
+        if number != 23:
+            g.find(path, number)
+        g.read(path, 0, number)
+        g.overwrite(path, 0, b"!", number)
+        g.resize(path, 0, number)
+    g.lists(200)
+    g.call(VALIDATE, 0)
+    return [g]
+
+
 def many_calls():
     """One image, and all its calls."""
     g = Group(Plan({"jets": text(11, 100), "log": text(7, 5000), "Site": {"tail": text(3, 70), "deep": {"Pump": text(9, 600)}}, "void": b""}, free=6, free_minis=16, waste=WASTE, fat=7))
@@ -237,4 +267,4 @@ def many_calls():
 
 
 def groups():
-    return room_for_a_large_stream() + over_the_cutoff() + room_for_small_streams() + two_mini_fat_sectors() + many_calls()
+    return room_for_a_large_stream() + over_the_cutoff() + room_for_small_streams() + two_mini_fat_sectors() + beside_the_exclamation_mark() + many_calls()

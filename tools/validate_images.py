@@ -1,10 +1,10 @@
 #!/usr/bin/env python3
 """Writes the images that the program `validate_run` reads, and the numbers that it must print.
 
-The numbers are those that 01 gives, rule by rule."""
+The numbers are those that 01 and 02 give, rule by rule."""
 from images import DIFSECT, END, FATSECT, FREE, NONE, byte, entry, image, put, root, volume, with_entries, write
 
-STORAGE, STREAM = 1, 2
+STORAGE, STREAM, ROOT = 1, 2, 5
 RED, BLACK = 0, 1
 
 
@@ -99,7 +99,16 @@ directories = [
     # group 14: names of 1 and 31 units, name bytes 2, 3 and 66, a last unit that is not zero, units that no name has
     (one(named(1)), 0), (one(named(31)), 0), (one(named(1, 2)), 14), (one(named(1, 3)), 14), (one(named(31, 66)), 14), (one(named(2, 5)), 14),
     (one(named(3, end=(1, 0))), 14), (one(named(3, end=(0, 1))), 14), (one(stream("a/b")), 14), (one(stream("a\\b")), 14), (one(stream("a:b")), 14),
-    (one(stream("a\0b")), 14), (one(stream("a!b")), 0), (one(patched(stream("ab"), 10, [7])), 0),
+    (one(stream("a\0b")), 14), (one(patched(stream("ab"), 10, [7])), 0),
+    # group 14: the exclamation mark (W-202) alone, at a name's beginning, in its middle and at its end; behind its end and in the root's name it is free
+    (one(stream("!")), 14), (one(stream("!ab")), 14), (one(stream("a!b")), 14), (one(stream("ab!")), 14), (one(stream("!" + "a" * 30)), 14), (one(stream("a" * 30 + "!")), 14),
+    (one(storage("!")), 14), (one(storage("!ab")), 14), (one(storage("a!b")), 14), (one(storage("ab!")), 14), (one(storage("a" * 30 + "!")), 14),
+    (siblings(storage("Site", child=2), storage("Jets", child=3), stream("lo!g")), 14), (siblings(storage("Site", child=2), storage("Je!ts", child=3), stream("log")), 14),
+    (one(patched(stream("ab"), 6, [0x21])), 0), (with_entries([entry("Root!Entry", ROOT)]), 0), (with_entries([entry("!", ROOT, child=1), stream("log")]), 0),
+    (with_entries([entry("/\\:!", ROOT, child=1), stream("log")]), 0),
+    # group 14: the units beside it, and those of which it is a half
+    (one(stream("a b")), 0), (one(stream('a"b')), 0), (one(stream(" ")), 0), (one(stream('"')), 0), (one(stream(' ab"')), 0), (one(storage('"ab ')), 0), (one(storage(" ")), 0),
+    (one(storage('"')), 0), (one(stream("a\u2100")), 0), (one(stream("\u0121b")), 0), (one(storage("\u2121")), 0),
     # group 14: streams and storages
     (one(patched(stream("log"), 76, [2, 0, 0, 0])), 14), (one(patched(stream("log"), 80, [1])), 14), (one(patched(stream("log"), 95, [1])), 14),
     (one(patched(stream("log"), 96, [1])), 0), (one(patched(stream("log"), 100, [1])), 14), (one(patched(stream("log"), 115, [1])), 14),
@@ -124,7 +133,8 @@ directories = [
     (siblings(stream("log", right=0)), 15), (siblings(storage("Site", child=0)), 15), (with_entries([root(0)]), 15), (siblings(stream("log", right=3)), 15),
     (siblings(stream("log", right=4)), 15), (siblings(stream("log", right=0xFFFFFFFE)), 15), (with_entries([root(1)]), 15),
     # the lowest number is given
-    (siblings(stream("log", right=1), stream("a/b")), 14),
+    (siblings(stream("log", right=1), stream("a/b")), 14), (siblings(stream("log", right=1), stream("a!b")), 14),
+    (put(one(stream("a!b")), (48, END)), 13),
 ]
 
 

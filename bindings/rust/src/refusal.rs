@@ -43,7 +43,7 @@ refusals! {
     16 Mini "the image breaks a rule on the mini tables"
     17 Streams "the image breaks a rule on the streams' chains"
     18 Owners "the image breaks a rule on who owns a sector"
-    20 BadPath "a name of the path is empty, longer than 31 units, or has a unit 0, '\\' or ':'"
+    20 BadPath "a name of the path is empty, longer than 31 units, or has a unit 0, '\\', ':' or '!'"
     21 NotFound "a storage on the way has no child of that name"
     22 StreamOnTheWay "a stream stands where a storage is needed"
     23 NotAStream "the path ends at a storage or the root, and a stream is needed"

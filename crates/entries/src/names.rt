@@ -47,7 +47,7 @@ pub fn fold(u: u16) -> u16
 pub fn legal_unit(u: u16) -> bool
     ensures { λ r. ⌜ r ≡ legalUnit u ⌝ }
 {
-    (u != 0) & !((u == 0x2F) | (u == 0x5C) | (u == 0x3A))
+    (u != 0) & !((u == 0x2F) | (u == 0x5C) | (u == 0x3A) | (u == 0x21))
 }
 
 // ---- order

@@ -77,6 +77,10 @@ backslash : answerIn version3 (volume version3 bare) (find (0x5C ∷ []) []) ≡
 unfolding opened built
 backslash = refl
 
+exclamation-mark : answerIn version3 (volume version3 bare) (find (0x53 ∷ 0x21 ∷ []) []) ≡ 20
+unfolding opened built
+exclamation-mark = refl
+
 zero-unit : answerIn version3 (volume version3 bare) (find (0x53 ∷ 0 ∷ []) []) ≡ 20
 unfolding opened built
 zero-unit = refl

@@ -140,6 +140,10 @@ colon-in-name : entryRules (directory version3 (putBytes bare (inEntry 2 0) (0x3
 unfolding opened built
 colon-in-name = refl
 
+exclamation-in-name : entryRules (directory version3 (putBytes bare (inEntry 2 0) (0x21 ∷ []))) ≡ false
+unfolding opened built
+exclamation-in-name = refl
+
 upper-size-bytes : entryRules (directory version3 (put32 bare (inEntry 2 124) 1)) ≡ false
 unfolding opened built
 upper-size-bytes = refl

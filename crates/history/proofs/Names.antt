@@ -92,17 +92,19 @@ fold-low u w e h =
 legal-unit : (u w : ℕ) → fold u ≡ fold w → legalUnit w ≡ true → legalUnit u ≡ true
 unfolding legalUnit illegal
 legal-unit u w e h =
-    let r = both (ltb w 0x1_0000) (not (eqb w 0) && not (eqb w slash || eqb w 0x5C || eqb w 0x3A)) h in
-    let a = not-true (eqb w 0) (both (not (eqb w 0)) (not (eqb w slash || eqb w 0x5C || eqb w 0x3A)) (r .1) .0) in
-    let b = not-true (eqb w slash || eqb w 0x5C || eqb w 0x3A) (both (not (eqb w 0)) (not (eqb w slash || eqb w 0x5C || eqb w 0x3A)) (r .1) .1) in
-    let b1 = neither (eqb w slash) (eqb w 0x5C) (neither (eqb w slash || eqb w 0x5C) (eqb w 0x3A) b .0) .0 in
-    let b2 = neither (eqb w slash) (eqb w 0x5C) (neither (eqb w slash || eqb w 0x5C) (eqb w 0x3A) b .0) .1 in
-    let b3 = neither (eqb w slash || eqb w 0x5C) (eqb w 0x3A) b .1 in
+    let r = both (ltb w 0x1_0000) (not (eqb w 0) && not (eqb w slash || eqb w 0x5C || eqb w 0x3A || eqb w 0x21)) h in
+    let q = both (not (eqb w 0)) (not (eqb w slash || eqb w 0x5C || eqb w 0x3A || eqb w 0x21)) (r .1) in
+    let a = not-true (eqb w 0) (q .0) in
+    let b = not-true (eqb w slash || eqb w 0x5C || eqb w 0x3A || eqb w 0x21) (q .1) in
+    let b4 = neither (eqb w slash || eqb w 0x5C || eqb w 0x3A) (eqb w 0x21) b in
+    let b3 = neither (eqb w slash || eqb w 0x5C) (eqb w 0x3A) (b4 .0) in
+    let b2 = neither (eqb w slash) (eqb w 0x5C) (b3 .0) in
     let c0 = ne-eqb u 0 (fold-keeps-other u w 0 e (eqb-false w 0 a) (inl (omega arith))) in
-    let c1 = ne-eqb u slash (fold-keeps-other u w slash e (eqb-false w slash b1) (inl (omega arith))) in
-    let c2 = ne-eqb u 0x5C (fold-keeps-other u w 0x5C e (eqb-false w 0x5C b2) (inr (inr (omega arith, omega arith)))) in
-    let c3 = ne-eqb u 0x3A (fold-keeps-other u w 0x3A e (eqb-false w 0x3A b3) (inl (omega arith))) in
-    rw (lt-ltb u 0x1_0000 (fold-low u w e (ltb-true w 0x1_0000 (r .0))), c0, c1, c2, c3)
+    let c1 = ne-eqb u slash (fold-keeps-other u w slash e (eqb-false w slash (b2 .0)) (inl (omega arith))) in
+    let c2 = ne-eqb u 0x5C (fold-keeps-other u w 0x5C e (eqb-false w 0x5C (b2 .1)) (inr (inr (omega arith, omega arith)))) in
+    let c3 = ne-eqb u 0x3A (fold-keeps-other u w 0x3A e (eqb-false w 0x3A (b3 .1)) (inl (omega arith))) in
+    let c4 = ne-eqb u 0x21 (fold-keeps-other u w 0x21 e (eqb-false w 0x21 (b4 .1)) (inl (omega arith))) in
+    rw (lt-ltb u 0x1_0000 (fold-low u w e (ltb-true w 0x1_0000 (r .0))), c0, c1, c2, c3, c4)
 
 legal-units : (a b : List ℕ) → map fold a ≡ map fold b → all legalUnit b ≡ true → all legalUnit a ≡ true
 unfolding all

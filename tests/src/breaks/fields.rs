@@ -50,6 +50,14 @@ pub const BREAKS: &[Break] = &[
     rule(14, "name: zero in the middle", |s, r| unit(s, r, any_unit, &[0])),
     rule(14, "name: zero before the last unit", two_zeros),
     rule(14, "name: / \\ or :", |s, r| unit(s, r, any_unit, &[0x2F, 0x5C, 0x3A])),
+    rule(14, "name: ! in a storage's", |s, r| {
+        let node = s.storage(r)?;
+        exclamation_mark(s, r, &node)
+    }),
+    rule(14, "name: ! in a stream's", |s, r| {
+        let node = s.stream(r)?;
+        exclamation_mark(s, r, &node)
+    }),
 ];
 
 /// Chooses an entry, if the image has one.
@@ -155,6 +163,14 @@ fn unit(s: &mut Sample, r: &mut Random, which: fn(&Node, &mut Random) -> usize, 
     let node = s.object(r)?;
     let at = s.layout.entry(node.entry) + 2 * which(&node, r);
     put_u16(&mut s.image, at, r.pick(values));
+    Some(())
+}
+
+/// At the name's beginning, at its end, or anywhere in it.
+fn exclamation_mark(s: &mut Sample, r: &mut Random, node: &Node) -> Option<()> {
+    let any = any_unit(node, r);
+    let at = s.layout.entry(node.entry) + 2 * r.pick(&[0, node.name.len() - 1, any]);
+    put_u16(&mut s.image, at, 0x21);
     Some(())
 }
 

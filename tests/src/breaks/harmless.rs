@@ -3,6 +3,8 @@
 use super::edit::*;
 use super::{Break, rule};
 use crate::images::Sample;
+use crate::images::names::{self, Alphabet, BESIDE, REFUSED};
+use crate::images::write;
 use crate::number::*;
 use crate::random::Random;
 use crate::volume::GREATEST_IMAGE;
@@ -24,6 +26,7 @@ pub const CHANGES: &[Break] = &[
         in_sector(s, r, at)
     }),
     rule(0, "harmless: root's name and name bytes", |s, r| in_entry(s, r, 0, 0, 66)),
+    rule(0, "harmless: a unit that no name has in the root's", refused_in_root),
     rule(0, "harmless: root's CLSID and state", |s, r| in_entry(s, r, 0, 80, 100)),
     rule(0, "harmless: root's modified time", |s, r| in_entry(s, r, 0, 108, 116)),
     rule(0, "harmless: root's colour", root_colour),
@@ -37,6 +40,7 @@ pub const CHANGES: &[Break] = &[
         in_entry(s, r, e, 80, 116)
     }),
     rule(0, "harmless: case of a name", other_case),
+    rule(0, "harmless: a unit beside one that no name has", beside_refused),
     rule(0, "harmless: all entries black", all_black),
     rule(0, "harmless: size within the last unit", size_within),
     rule(0, "harmless: a mini sector more in the mini stream's last sector", mini_sector_more),
@@ -60,6 +64,16 @@ fn root_colour(s: &mut Sample, _: &mut Random) -> Option<()> {
     Some(())
 }
 
+/// The root's name is otherwise one that an object could have.
+fn refused_in_root(s: &mut Sample, r: &mut Random) -> Option<()> {
+    let mut name = names::random(r, Alphabet::Printable);
+    let at = r.index(name.len());
+    name[at] = r.pick(&REFUSED);
+    let place = s.layout.entry(0);
+    write::name(&mut s.image, place, &name);
+    Some(())
+}
+
 fn behind_name(s: &mut Sample, r: &mut Random) -> Option<()> {
     let node = s.node(r, |node| node.entry != 0 && node.name.len() < 31)?;
     in_entry(s, r, node.entry, 2 * (node.name.len() + 1), 64)
@@ -73,6 +87,14 @@ fn other_case(s: &mut Sample, r: &mut Random) -> Option<()> {
             put_u16(&mut s.image, at + 2 * i, unit ^ 0x20);
         }
     }
+    Some(())
+}
+
+/// In the name of an object without siblings, so that any name is in order.
+fn beside_refused(s: &mut Sample, r: &mut Random) -> Option<()> {
+    let node = s.node(r, |node| node.links.top && [node.links.left, node.links.right] == [NOSTREAM; 2])?;
+    let at = s.layout.entry(node.entry) + 2 * r.index(node.name.len());
+    put_u16(&mut s.image, at, r.pick(&BESIDE));
     Some(())
 }
 

@@ -7,6 +7,7 @@ pub mod fixed;
 pub mod large;
 pub mod lists;
 pub mod mutate;
+pub mod names;
 #[cfg(feature = "edits")]
 pub mod opened;
 pub mod papers;

@@ -1,6 +1,7 @@
 //! The papers' values for find, read, list and the edits.
 
 use crate::calls::{ANSWERS, Call, Outcome, perform};
+use crate::cases;
 use crate::cases::papers::{self, site};
 use crate::compare::Tally;
 use crate::images::{Sample, names, plan::*};
@@ -48,7 +49,9 @@ fn finds_of_the_papers() {
     let answers = |paths: &[&str]| paths.iter().map(|path| find(path).answer).collect::<Vec<u32>>();
     let long = "Site/".to_string() + &"x".repeat(32);
     assert_eq!(answers(&["/", "/Site", "Site/", "Site//log", "gone/:", "a\\b", "a\0", &long]), [20; 8]);
+    assert_eq!(answers(&["!", "!Site", "Site/l!g", "Site/log!", "gone/!", "Site/log/x!"]), [20; 6]);
     assert_eq!(answers(&["gone", "Site/gone", "gone/log/x", "log", &long[..36]]), [21; 5]);
+    assert_eq!(answers(&["\"Site", "Si te", "Site/\"", "Site/log ", "Site/lo\u{121}", "\u{2100}"]), [21; 6]);
     assert_eq!(answers(&["Site/log/x", "Site/log/gone/x", "Site/Jets/log"]), [22; 3]);
 }
 
@@ -67,11 +70,11 @@ fn reads_of_the_papers() {
     assert_eq!(read("", 9, 4), (23, 0));
 }
 
-/// Calls, rows and properties agree on the papers' cases, and on the answers that the papers give.
+/// Calls, rows and properties agree on the papers' cases and on those of names, and on the answers that the papers give.
 #[test]
 fn cases_of_the_papers() {
     let mut tally = Tally::new();
-    for (number, case) in papers::cases().iter().enumerate() {
+    for (number, case) in papers::cases().iter().chain(&cases::names::cases()).enumerate() {
         assert!(tally.run(&format!("case {number}"), case).is_some());
     }
 }

@@ -5,11 +5,12 @@ mod plain_owners;
 mod plain_tree;
 mod samples;
 
-use crate::images::{Sample, names, plan::*};
+use crate::images::{Sample, names, names::Alphabet, plan::*};
 use crate::number::*;
 use crate::random::Random;
 use crate::volume::{Volume, chains::Chains, length_allowed, tables::difat_needed, validate, work_needed};
 use std::cmp::Ordering;
+use std::collections::HashSet;
 
 /// A path through the cells, unit by unit, that must end after exactly n.
 fn plain_chain(cells: &[u32], start: u32, n: usize) -> bool {
@@ -63,6 +64,18 @@ fn order_of_the_papers() {
     assert_eq!(order("Jets", "log"), Ordering::Greater);
     assert_eq!(order("LOG", "log"), Ordering::Equal);
     assert_eq!(order("a_b", "aab"), Ordering::Greater);
+}
+
+/// Units that are refused occur in no random name, those beside `!` do.
+#[test]
+fn names_of_random_images() {
+    let mut random = Random::of(5, 0);
+    let alphabets = Alphabet::ALL.into_iter().cycle().take(40_000);
+    let units: HashSet<u16> = alphabets.flat_map(|alphabet| names::random(&mut random, alphabet)).collect();
+    for unit in [0, 0x21, 0x2F, 0x3A, 0x5C] {
+        assert!(!units.contains(&unit), "{unit}");
+    }
+    assert!(units.contains(&0x20) && units.contains(&0x22));
 }
 
 #[test]

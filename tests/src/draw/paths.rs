@@ -1,6 +1,6 @@
 //! Paths: those that are there, those that nearly are, and those that are badly formed.
 
-use crate::images::names::{self, Alphabet};
+use crate::images::names::{self, Alphabet, BESIDE, REFUSED};
 use crate::model::{Model, Row};
 use crate::random::Random;
 
@@ -101,10 +101,10 @@ fn badly_formed(model: &Model, r: &mut Random) -> Vec<u16> {
         2 => path = vec![SLASH; r.between(1, 3) as usize],
         3 => double_slash(&mut path, r),
         4 => path = of(&long_name(model, r)),
-        5 => path.push(r.pick(&[0, 0x5C, 0x3A])),
-        6 => path.insert(r.index(path.len() + 1), r.pick(&[0, 0x5C, 0x3A, SLASH])),
-        // Only the halves of these units are refused ones: the path stays well formed, if it was.
-        _ => path.insert(r.index(path.len() + 1), r.pick(&[0x2F00, 0x012F, 0x5C00, 0x015C, 0x3A00, 0x013A, 0x0100])),
+        5 => path.push(r.pick(&REFUSED)),
+        6 => path.insert(r.index(path.len() + 1), r.pick(&REFUSED)),
+        // The path stays well formed, if it was and no name gets too long.
+        _ => path.insert(r.index(path.len() + 1), r.pick(&BESIDE)),
     }
     path
 }

@@ -10,7 +10,7 @@ pub fn key(name: &[u16]) -> (usize, Vec<u16>) {
     (name.len(), name.iter().map(upper).collect())
 }
 
-/// A name of 1 to 31 units, neither zero nor one of the three that are refused.
+/// A name of 1 to 31 units, none of which is refused.
 pub fn random(random: &mut Random, alphabet: Alphabet) -> Vec<u16> {
     let length = match random.below(4) {
         0 => random.between(1, 3),
@@ -51,8 +51,17 @@ impl Alphabet {
     }
 }
 
+/// The units that no name has.
+pub const REFUSED: [u16; 5] = [0, b'/' as u16, b'\\' as u16, b':' as u16, b'!' as u16];
+
+/// The units beside those, which a name may have; the last ones have one of those for a half.
+pub const BESIDE: [u16; 19] = [
+    0x01, 0x20, 0x22, 0x2E, 0x30, 0x39, 0x3B, 0x5B, 0x5D, 0x0100, 0x2100, 0x0121, 0x2F00, 0x012F, 0x3A00, 0x013A,
+    0x5C00, 0x015C, 0x2121,
+];
+
 pub fn refused(unit: u16) -> bool {
-    unit == 0 || unit == b'/' as u16 || unit == b'\\' as u16 || unit == b':' as u16
+    REFUSED.contains(&unit)
 }
 
 /// A name in printable ASCII.

@@ -105,7 +105,7 @@ impl Entry<'_> {
     fn name_holds(&self) -> bool {
         let bytes = self.name_bytes();
         let counted = bytes.is_multiple_of(2) && (4..=64).contains(&bytes);
-        let refused = |u: u16| u == 0 || [b'/', b'\\', b':'].map(u16::from).contains(&u);
+        let refused = |u: u16| u == 0 || [b'/', b'\\', b':', b'!'].map(u16::from).contains(&u);
         counted && self.unit(bytes / 2 - 1) == 0 && !self.name().any(refused)
     }
 }

@@ -10,7 +10,7 @@ use gyomrelas::{find, list, overwrite, path, read, set_len, validate, work_need,
 const SAMPLES: [&str; 2] = ["site.cfb", "nested.cfb"];
 
 /// Paths that lead somewhere in one of the samples, and paths that are refused for each reason.
-const PATHS: [&str; 20] = [
+const PATHS: [&str; 21] = [
     "",
     "Site",
     "Site/log",
@@ -31,6 +31,7 @@ const PATHS: [&str; 20] = [
     "Pumps/",
     "Site\\log",
     "a:b",
+    "Site/log!",
 ];
 
 /// Offsets and lengths on each side of the lines that streams, sectors, mini sectors and the cutoff draw.

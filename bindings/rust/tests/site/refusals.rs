@@ -7,6 +7,7 @@ use gyomrelas::{find, list, overwrite, path, read, set_len, validate, work_need,
 const FAT: usize = 512;
 const MINI_FAT: usize = 11 * 512;
 const ROOT: usize = 4 * 512;
+const SITE: usize = ROOT + 128;
 const LOG: usize = ROOT + 2 * 128;
 pub const JETS: usize = ROOT + 3 * 128;
 
@@ -75,11 +76,30 @@ fn an_image_that_breaks_a_rule() {
     }
 }
 
+/// The first, a middle and the last unit of a storage's and a stream's name. The root's name is not judged.
+#[test]
+fn a_name_with_a_unit_that_is_refused() {
+    let (image, mut work) = site();
+    for unit in [0, b'/', b'\\', b':', b'!'] {
+        for (entry, answer) in [(SITE, Err(Refusal::Entries)), (JETS, Err(Refusal::Entries)), (ROOT, Ok(()))] {
+            for place in [entry, entry + 2, entry + 6] {
+                let mut image = image.clone();
+                image[place] = unit;
+                assert_eq!(validate(&image, &mut work), answer, "{unit}");
+            }
+        }
+    }
+}
+
 #[test]
 fn a_path_that_is_badly_formed() {
     let (image, mut work) = site();
     let long = "x".repeat(32);
     for name in ["/", "/Site", "Site/", "Site//log", "Site\\log", "Site:log", "Site/l\0g", &long] {
+        assert_eq!(find(&image, &mut work, &path(name)), Err(Refusal::BadPath), "{name}");
+    }
+    // also where a name before it is missing, or is a stream's
+    for name in ["!", "!Site", "Site!log", "Site/l!g", "Site/log!", "gone/!", "Site/log/x!"] {
         assert_eq!(find(&image, &mut work, &path(name)), Err(Refusal::BadPath), "{name}");
     }
     assert_eq!(find(&image, &mut work, &path(&long[1..])), Err(Refusal::NotFound));
@@ -102,6 +122,7 @@ fn a_read_that_is_refused_copies_nothing() {
     let mut out = [b'x'; 8];
     for (name, offset, refusal) in [
         ("a:b", 0, Refusal::BadPath),
+        ("a!b", 0, Refusal::BadPath),
         ("Site/no", 0, Refusal::NotFound),
         ("Site/log/x", 0, Refusal::StreamOnTheWay),
         ("Site", 0, Refusal::NotAStream),
@@ -120,6 +141,7 @@ fn an_overwrite_that_is_refused_changes_nothing() {
     let before = image.clone();
     for (name, offset, refusal) in [
         ("Site/", 0, Refusal::BadPath),
+        ("Site/log!", 0, Refusal::BadPath),
         ("log", 0, Refusal::NotFound),
         ("Site/log/x", 0, Refusal::StreamOnTheWay),
         ("Site", 0, Refusal::NotAStream),
@@ -138,6 +160,7 @@ fn a_change_of_length_that_is_refused_changes_nothing() {
     let before = image.clone();
     for (name, length, refusal) in [
         ("Site\\log", 0, Refusal::BadPath),
+        ("!Site/log", 0, Refusal::BadPath),
         ("Site/Log ", 0, Refusal::NotFound),
         ("Site/Jets/x", 0, Refusal::StreamOnTheWay),
         ("", 0, Refusal::NotAStream),

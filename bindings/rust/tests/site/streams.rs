@@ -114,6 +114,7 @@ fn only_streams_are_given() {
     let volume = ReadOnlyVolume::open(&image, &mut work).expect("valid");
     for (name, refusal) in [
         ("Site/", Refusal::BadPath),
+        ("Site/log!", Refusal::BadPath),
         ("Site/logs", Refusal::NotFound),
         ("Site/log/x", Refusal::StreamOnTheWay),
         ("Site", Refusal::NotAStream),

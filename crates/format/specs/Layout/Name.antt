@@ -14,9 +14,9 @@ Name = List ℕ
 abbrev pub slash : ℕ
 slash = 0x2F
 
--- the units, beside zero, that no name has: slash, backslash, colon
+-- the units, beside zero, that no name has: slash, backslash, colon, exclamation mark
 unfoldable pub illegal : ℕ → Bool
-illegal u = eqb u slash || eqb u 0x5C || eqb u 0x3A
+illegal u = eqb u slash || eqb u 0x5C || eqb u 0x3A || eqb u 0x21
 
 -- a unit has 16 bits
 unfoldable pub legalUnit : ℕ → Bool
