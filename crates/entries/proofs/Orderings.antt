@@ -1,11 +1,15 @@
--- The order of two names as an answer: when each answer is right, and what it says.
+-- The order of two names, and of two units, as an answer: when each answer is right, and what it says.
+use Prim.Native.Nat.{ℕ, _<_}
 use mathlib.Core.Path.{_≡_, sym, _∙_, subst}
 use mathlib.Core.Bool.{true, false}
 use mathlib.Core.Logic.{inl, inr}
+use native.Mathlib.Omega.{arith}
+use native.Mathlib.Decide.{decLt}
+use borrow.Author.Tests.{lt-ltb, le-ltb}
 use Rattle.format.specs.Layout.Name.{Name, nameLess, nameEqual, fold}
 use Rattle.kinds.specs.declared.Order.{Order}
 use Rattle.kinds.specs.declared.Order.the-variants.{Less, Same, More}
-use Rattle.kinds.specs.Ordering.{ordering}
+use Rattle.kinds.specs.Ordering.{ordering, unitOrdering}
 use Rattle.theory.proofs.Tests.{clash, false-of}
 use Rattle.theory.proofs.NameOrder.{lessBy, equalBy, by-three, by-apart, by-once, less-is, equal-is}
 
@@ -44,3 +48,35 @@ module _ (a b : Name) where
 
   pub told : {r o : Order} → r ≡ ordering a b → r ≡ o → Told o
   told e h = subst Told (sym e ∙ h) told-right
+
+module _ (u w : ℕ) where
+  pub unit-less : fold u < fold w → Less ≡ unitOrdering u w
+  unfolding unitOrdering
+  unit-less h = rw (lt-ltb (fold u) (fold w) h)
+
+  pub unit-more : fold w < fold u → More ≡ unitOrdering u w
+  unfolding unitOrdering
+  unit-more h = rw (le-ltb (fold u) (fold w) (omega arith), lt-ltb (fold w) (fold u) h)
+
+  pub unit-same : fold u ≡ fold w → Same ≡ unitOrdering u w
+  unfolding unitOrdering
+  unit-same e = rw (le-ltb (fold u) (fold w) (omega arith), le-ltb (fold w) (fold u) (omega arith))
+
+  abbrev pub UnitTold : Order → Type 0
+  UnitTold Less = fold u < fold w
+  UnitTold Same = fold u ≡ fold w
+  UnitTold More = fold w < fold u
+
+  unit-told-right : UnitTold (unitOrdering u w)
+  unit-told-right =
+      elim (decLt (fold u) (fold w)) [
+        | yes h ↦ subst UnitTold (unit-less h) h
+        | no h ↦
+            elim (decLt (fold w) (fold u)) [
+              | yes k ↦ subst UnitTold (unit-more k) k
+              | no k ↦ let e : fold u ≡ fold w = omega arith in subst UnitTold (unit-same e) e
+            ]
+      ]
+
+  pub unit-told : {r o : Order} → r ≡ unitOrdering u w → r ≡ o → UnitTold o
+  unit-told e h = subst UnitTold (sym e ∙ h) unit-told-right

@@ -2,9 +2,9 @@
 ghost use mathlib.Core.Path.{_≡_};
 ghost use Prim.Native.Nat.{_+_, _*_, _≤_};
 ghost use lib.ListN.{length};
-ghost use Rattle.format.specs.Layout.Name.{fold as folded, legalUnit};
+ghost use Rattle.format.specs.Layout.Name.{smallBy20, smallBy50, fold as folded, legalUnit};
 ghost use Rattle.format.specs.Layout.Entry.{nameUnit};
-ghost use Rattle.kinds.specs.Ordering.{ordering};
+ghost use Rattle.kinds.specs.Ordering.{ordering, unitOrdering};
 ghost use Rattle.entries.specs.Entry.{entryAt, nameAt, Field, NamedAt};
 use super::half;
 use super::name_bytes;
@@ -31,17 +31,37 @@ pub fn name_unit(img: &[u8], p: usize, i: usize) -> u16
     half(img, p, 2 * i)
 }
 
+// A small letter whose capital stands 20 hex below it.
+fn small_by_20(u: u16) -> bool
+    ensures { λ r. ⌜ r ≡ smallBy20 u ⌝ }
+{
+    ((0x61 <= u) & (u <= 0x7A))
+        | ((0xE0 <= u) & (u <= 0xFE) & (u != 0xF7))
+        | ((0x3B1 <= u) & (u <= 0x3C9) & (u != 0x3C2))
+        | ((0x430 <= u) & (u <= 0x44F))
+}
+
+// One whose capital stands 50 hex below it.
+fn small_by_50(u: u16) -> bool
+    ensures { λ r. ⌜ r ≡ smallBy50 u ⌝ }
+{
+    (0x450 <= u) & (u <= 0x45F)
+}
+
 // The unit that a unit counts as.
 pub fn fold(u: u16) -> u16
     ensures { λ r. ⌜ r ≡ folded u ⌝ }
 {
-    if u < 0x61 {
-        return u;
+    if small_by_20(u) {
+        return u - 0x20;
     }
-    if 0x7A < u {
-        return u;
+    if small_by_50(u) {
+        return u - 0x50;
     }
-    u - 0x20
+    if u == 0xFF {
+        return 0x178;
+    }
+    u
 }
 
 pub fn legal_unit(u: u16) -> bool
@@ -51,6 +71,24 @@ pub fn legal_unit(u: u16) -> bool
 }
 
 // ---- order
+
+// Two units in their order. Only units that differ are folded.
+fn compare_units(u: u16, w: u16) -> Order
+    ensures { λ r. ⌜ r ≡ unitOrdering u w ⌝ }
+{
+    if u == w {
+        return Order::Same;
+    }
+    let x = fold(u);
+    let y = fold(w);
+    if x < y {
+        return Order::Less;
+    }
+    if y < x {
+        return Order::More;
+    }
+    Order::Same
+}
 
 // The name of the entry at p to that of the entry at q.
 pub fn compare(img: &[u8], p: usize, q: usize) -> Order
@@ -68,15 +106,17 @@ pub fn compare(img: &[u8], p: usize, q: usize) -> Order
     }
     let mut i: usize = 0;
     while i < n {
-        let x = fold(name_unit(img, p, i));
-        let y = fold(name_unit(img, q, i));
-        if x < y {
-            return Order::Less;
+        match compare_units(name_unit(img, p, i), name_unit(img, q, i)) {
+            Order::Less => {
+                return Order::Less;
+            }
+            Order::Same => {
+                i += 1;
+            }
+            Order::More => {
+                return Order::More;
+            }
         }
-        if y < x {
-            return Order::More;
-        }
-        i += 1;
     }
     Order::Same
 }
@@ -96,15 +136,17 @@ pub fn compare_name(want: &[u16], img: &[u8], q: usize) -> Order
     }
     let mut i: usize = 0;
     while i < n {
-        let x = fold(want[i]);
-        let y = fold(name_unit(img, q, i));
-        if x < y {
-            return Order::Less;
+        match compare_units(want[i], name_unit(img, q, i)) {
+            Order::Less => {
+                return Order::Less;
+            }
+            Order::Same => {
+                i += 1;
+            }
+            Order::More => {
+                return Order::More;
+            }
         }
-        if y < x {
-            return Order::More;
-        }
-        i += 1;
     }
     Order::Same
 }

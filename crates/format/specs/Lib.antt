@@ -5,8 +5,10 @@
 --   Rules    groups 10 to 18, and the verdict
 --   Calls    what each call answers, and what it leaves in every buffer
 --   History  what holds after any list of calls (demand 3)
+--   Claims   what else is claimed of these definitions
 pub mod Basics
 pub mod Layout
 pub mod Rules
 pub mod Calls
 pub mod History
+pub mod Claims

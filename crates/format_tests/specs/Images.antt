@@ -62,6 +62,16 @@ threeSiblings u =
     ++ entry (0x61 ∷ []) 2 1 NOSTREAM 3 NOSTREAM END 0
     ++ entry (u ∷ []) 2 0 NOSTREAM NOSTREAM NOSTREAM END 0)
 
+-- two empty streams, of one unit each: the first at the top of the tree, the other on its right
+unfoldable pub twoSiblings : ℕ → ℕ → Bytes
+twoSiblings u w =
+    header END 0
+    ++ cells (FATSECT ∷ END ∷ [])
+    ++ (rootEntry 1 END 0
+    ++ entry (u ∷ []) 2 1 NOSTREAM 2 NOSTREAM END 0
+    ++ entry (w ∷ []) 2 1 NOSTREAM NOSTREAM NOSTREAM END 0
+    ++ blank)
+
 -- A storage `Site` with the streams `log` (70 bytes, mini sectors 0 and 1) and `Jets` (10 bytes, mini sector 2), and five free mini sectors.
 -- Sector 0 is the FAT, 1 the directory, 2 the mini FAT, 3 the mini stream. What is no stream's byte is EE.
 unfoldable pub site : Bytes
@@ -117,5 +127,5 @@ smallAndLarge =
 
 -- all of these, opened at once
 unfoldable pub built : Unit {0}
-unfolding words header cells nameField entry blank rootEntry Site log LOG Jets gone below smallest withThird bare threeSiblings site large hollow smallAndLarge
+unfolding words header cells nameField entry blank rootEntry Site log LOG Jets gone below smallest withThird bare threeSiblings twoSiblings site large hollow smallAndLarge
 built = tt

@@ -5,6 +5,7 @@ pub mod Images
 pub mod Values
 pub mod Tables
 pub mod Verdicts
+pub mod Folding
 pub mod Finds
 pub mod Reads
 pub mod SmallLengths

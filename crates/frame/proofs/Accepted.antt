@@ -49,14 +49,18 @@ volume-passed v h =
       check-passed _ 18 _ (h .owners),
     )
 
-pub accepted-kept : (g : Geometry) (img : Bytes) → Accepted g img → ImageGroups g img
+-- whatever the work buffer
+pub verdict-kept : (g : Geometry) (img : Bytes) (work : ℕ) → verdict g img work ≡ 0 → ImageGroups g img
 unfolding verdict groups
-accepted-kept g img h =
+verdict-kept g img work h =
     let a = check-zero _ 1 _ (omega arith) h in
     let b = check-zero _ 2 _ (omega arith) (a .1) in
     let c = check-zero _ 10 _ (omega arith) (b .1) in
     let d = check-zero _ 11 _ (omega arith) (c .1) in
     record { allowed = a .0; header = c .0; tables = d .0; volume = volume-kept (volume g img) (d .1) }
+
+pub accepted-kept : (g : Geometry) (img : Bytes) → Accepted g img → ImageGroups g img
+accepted-kept g img h = verdict-kept g img (workNeed (length img)) h
 
 pub kept-accepted : (g : Geometry) (img : Bytes) → ImageGroups g img → Accepted g img
 unfolding verdict groups

@@ -26,3 +26,4 @@ pub mod SectorChange
 pub mod MiniChange
 pub mod Resizing
 pub mod Final
+pub mod FoldingPaths

@@ -5,15 +5,15 @@ use mathlib.Core.Logic.{_≢_, _⊎_, inl, inr}
 use mathlib.Core.Bool.{Bool, true, false, not, _&&_, _||_}
 use mathlib.Core.List.{List, [], _∷_, map}
 use native.Mathlib.Omega.{arith}
-use native.Mathlib.Decide.{decLt}
 use lib.Dec.{eqb, leb, ltb}
 use lib.ListN.{length, length-map}
-use borrow.Author.Tests.{eqb-false, ne-eqb, le-leb, lt-leb, ltb-true, lt-ltb, not-true}
+use borrow.Author.Tests.{leb-true, ltb-true, lt-ltb, eqb-true, eqb-false, ne-eqb, not-true}
 use Rattle.format.specs.Basics.Lists.{all}
-use Rattle.format.specs.Layout.Name.{Name, slash, illegal, legalUnit, legalName, fold, nameLess, nameEqual}
+use Rattle.format.specs.Layout.Name.{Name, slash, illegal, legalUnit, legalName, smallBy20, smallBy50, fold, nameLess, nameEqual}
 use Rattle.theory.proofs.Tests.{both, and-true-of, clash, neither}
 use Rattle.theory.proofs.NameOrder.{equal-same}
 use Rattle.theory.proofs.Trees.Names.{names-ordered}
+use Rattle.theory.proofs.SmallLetters.{by-20, by-50}
 
 pub equal-folded : (a b : Name) → nameEqual a b ≡ true → map fold a ≡ map fold b
 unfolding nameEqual
@@ -44,48 +44,65 @@ equal-not-two-above n a b c p l k = equal-lower-not-upper n a c p (names-ordered
 
 -- ---- legal names
 
-fold-cases : (u : ℕ) → ((0x61 ≤ u) × (u ≤ 0x7A) × (fold u ≡ u - 0x20)) ⊎ (((u < 0x61) ⊎ (0x7A < u)) × (fold u ≡ u))
-unfolding fold
-fold-cases u =
-    elim (decLt u 0x61) [
-      | yes p ↦ inr (inl p, rw (lt-leb 0x61 u p))
-      | no n ↦
-          elim (decLt 0x7A u) [
-            | yes p ↦ inr (inr p, rw (le-leb 0x61 u (omega arith), lt-leb u 0x7A p))
-            | no m ↦ inl (omega arith, omega arith, rw (le-leb 0x61 u (omega arith), le-leb u 0x7A (omega arith)))
-          ]
-    ]
+abbrev High : ℕ → Type 0
+High u = (0x80 ≤ u) × (u < 0x1_0000)
 
--- a unit that is not a letter is folded to from itself alone
-fold-keeps-other : (u w k : ℕ) → fold u ≡ fold w → w ≢ k → ((k < 0x41) ⊎ (0x7A < k) ⊎ ((0x5A < k) × (k < 0x61))) → u ≢ k
+-- what a unit is folded to: itself, a capital letter, or a unit from 80 hex on, as it is itself
+fold-cases : (u : ℕ) → (fold u ≡ u) ⊎ (((0x61 ≤ u) × (u ≤ 0x7A) × (fold u ≡ u - 0x20)) ⊎ (High u × High (fold u)))
+unfolding fold
+fold-cases u = first (smallBy20 u) refl
+  where
+    last : (t : Bool) → smallBy20 u ≡ false → smallBy50 u ≡ false → eqb u 0xFF ≡ t
+        → (fold u ≡ u) ⊎ (((0x61 ≤ u) × (u ≤ 0x7A) × (fold u ≡ u - 0x20)) ⊎ (High u × High (fold u)))
+    last true h k e = let f : fold u ≡ 0x178 = rw (h, k, e) in let k : u ≡ 0xFF = eqb-true u 0xFF e in inr (inr ((omega (arith, k), omega (arith, k)), (omega (arith, f), omega (arith, f))))
+    last false h k e = inl (rw (h, k, e))
+
+    second : (t : Bool) → smallBy20 u ≡ false → smallBy50 u ≡ t
+        → (fold u ≡ u) ⊎ (((0x61 ≤ u) × (u ≤ 0x7A) × (fold u ≡ u - 0x20)) ⊎ (High u × High (fold u)))
+    second true h k =
+        let f : fold u ≡ u - 0x50 = rw (h, k) in
+        let b = by-50 u k in
+        inr (inr ((omega (arith, b .0), omega (arith, b .1)), (omega (arith, f, b .0), omega (arith, f, b .1))))
+    second false h k = last (eqb u 0xFF) h k refl
+
+    first : (t : Bool) → smallBy20 u ≡ t
+        → (fold u ≡ u) ⊎ (((0x61 ≤ u) × (u ≤ 0x7A) × (fold u ≡ u - 0x20)) ⊎ (High u × High (fold u)))
+    first true h =
+        let f : fold u ≡ u - 0x20 = rw h in
+        elim (by-20 u h) [
+          | inl a ↦ inr (inl (a .0, a .1, f))
+          | inr b ↦ inr (inr ((omega (arith, b .0), omega (arith, b .1)), (omega (arith, f, b .0), omega (arith, f, b .1))))
+        ]
+    first false h = second (smallBy50 u) h refl
+
+-- a unit below 80 hex that is not a letter is folded to from itself alone
+fold-keeps-other : (u w k : ℕ) → fold u ≡ fold w → w ≢ k → ((k < 0x41) ⊎ ((0x5A < k) × (k < 0x61))) → u ≢ k
 fold-keeps-other u w k e h p z =
     elim (fold-cases u) [
-      | inl a ↦ not-small-letter p (a .0) (a .1) z
-      | inr a ↦
+      | inl a ↦
           elim (fold-cases w) [
-            | inl b ↦ not-capital p (b .0) (b .1) (omega (arith, a .1, b .2))
-            | inr b ↦ h (omega (arith, a .1, b .1))
+            | inl b ↦ h (omega (arith, a, b))
+            | inr (inl b) ↦ other p (λ l. omega (arith, a, b .0, b .1, b .2)) (λ l m. omega (arith, a, b .0, b .1, b .2))
+            | inr (inr b) ↦ other p (λ l. omega (arith, a, b .1 .0)) (λ l m. omega (arith, a, b .1 .0))
           ]
+      | inr (inl a) ↦ other p (λ l. omega (arith, a .0)) (λ l m. omega (arith, a .0))
+      | inr (inr a) ↦ other p (λ l. omega (arith, a .0 .0)) (λ l m. omega (arith, a .0 .0))
     ]
   where
-    not-small-letter : ((k < 0x41) ⊎ (0x7A < k) ⊎ ((0x5A < k) × (k < 0x61))) → 0x61 ≤ u → u ≤ 0x7A → u ≡ k → ⊥
-    not-small-letter (inl p) a b e = omega arith
-    not-small-letter (inr (inl p)) a b e = omega arith
-    not-small-letter (inr (inr p)) a b e = omega (arith, p .0, p .1)
-
-    not-capital : ((k < 0x41) ⊎ (0x7A < k) ⊎ ((0x5A < k) × (k < 0x61))) → 0x61 ≤ w → w ≤ 0x7A → k ≡ w - 0x20 → ⊥
-    not-capital (inl p) a b e = omega arith
-    not-capital (inr (inl p)) a b e = omega arith
-    not-capital (inr (inr p)) a b e = omega (arith, p .0, p .1)
+    other : {A : Type 0} → ((k < 0x41) ⊎ ((0x5A < k) × (k < 0x61))) → (k < 0x41 → A) → (0x5A < k → k < 0x61 → A) → A
+    other (inl q) f g = f q
+    other (inr q) f g = g (q .0) (q .1)
 
 fold-low : (u w : ℕ) → fold u ≡ fold w → w < 0x1_0000 → u < 0x1_0000
 fold-low u w e h =
     elim (fold-cases u) [
-      | inl a ↦ omega (arith, a .1)
-      | inr a ↦
+      | inr (inl a) ↦ omega (arith, a .1)
+      | inr (inr a) ↦ a .0 .1
+      | inl a ↦
           elim (fold-cases w) [
-            | inl b ↦ omega (arith, a .1, b .1, b .2, e)
-            | inr b ↦ omega (arith, a .1, b .1, e, h)
+            | inl b ↦ omega (arith, a, b, e, h)
+            | inr (inl b) ↦ omega (arith, a, b .1, b .2, e)
+            | inr (inr b) ↦ omega (arith, a, b .1 .1, e)
           ]
     ]
 
@@ -101,7 +118,7 @@ legal-unit u w e h =
     let b2 = neither (eqb w slash) (eqb w 0x5C) (b3 .0) in
     let c0 = ne-eqb u 0 (fold-keeps-other u w 0 e (eqb-false w 0 a) (inl (omega arith))) in
     let c1 = ne-eqb u slash (fold-keeps-other u w slash e (eqb-false w slash (b2 .0)) (inl (omega arith))) in
-    let c2 = ne-eqb u 0x5C (fold-keeps-other u w 0x5C e (eqb-false w 0x5C (b2 .1)) (inr (inr (omega arith, omega arith)))) in
+    let c2 = ne-eqb u 0x5C (fold-keeps-other u w 0x5C e (eqb-false w 0x5C (b2 .1)) (inr (omega arith, omega arith))) in
     let c3 = ne-eqb u 0x3A (fold-keeps-other u w 0x3A e (eqb-false w 0x3A (b3 .1)) (inl (omega arith))) in
     let c4 = ne-eqb u 0x21 (fold-keeps-other u w 0x21 e (eqb-false w 0x21 (b4 .1)) (inl (omega arith))) in
     rw (lt-ltb u 0x1_0000 (fold-low u w e (ltb-true w 0x1_0000 (r .0))), c0, c1, c2, c3, c4)

@@ -26,3 +26,5 @@ pub mod Refusals
 pub mod NameOrder
 pub mod NameCompare
 pub mod Trees
+pub mod SmallLetters
+pub mod Folding

@@ -28,9 +28,22 @@ legalName n = leb 1 (length n) && leb (length n) 31 && all legalUnit n
 
 -- ---- order and equality
 
--- the unit that a unit counts as: a small letter a to z as the capital
+-- a small letter whose capital stands 20 hex below it: a to z; of Latin 1, but for the division sign; Greek, but for the final sigma;
+-- Cyrillic
+unfoldable pub smallBy20 : ℕ → Bool
+smallBy20 u =
+    (leb 0x61 u && leb u 0x7A)
+    || (leb 0xE0 u && leb u 0xFE && not (eqb u 0xF7))
+    || (leb 0x3B1 u && leb u 0x3C9 && not (eqb u 0x3C2))
+    || (leb 0x430 u && leb u 0x44F)
+
+-- one whose capital stands 50 hex below it: the other Cyrillic ones
+unfoldable pub smallBy50 : ℕ → Bool
+smallBy50 u = leb 0x450 u && leb u 0x45F
+
+-- the unit that a unit counts as: a small letter as the capital
 unfoldable pub fold : ℕ → ℕ
-fold u = cond (leb 0x61 u && leb u 0x7A) (u - 0x20) u
+fold u = cond (smallBy20 u) (u - 0x20) (cond (smallBy50 u) (u - 0x50) (cond (eqb u 0xFF) 0x178 u))
 
 -- unit by unit: the first that differs decides
 unfoldable pub unitsLess : List ℕ → List ℕ → Bool

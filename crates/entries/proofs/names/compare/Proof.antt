@@ -1,5 +1,6 @@
 use borrow.Author.Needs.{needs}
 use native.Mathlib.Omega.{arith}
+use mathlib.Core.Path.{refl}
 use Prim.Native.Nat.{_-_, _<_}
 use lib.ListN.{length}
 use Rattle.format.specs.Layout.Name.{Name, fold}
@@ -7,7 +8,7 @@ use Rattle.format.specs.Layout.Entry.{name}
 use Rattle.theory.proofs.NameCompare.{Comparing, Turn, shorter-less, comparing-start, comparing-end, turn-less, turn-more, turn-on}
 use Rattle.entries.specs.Entry.{entryAt}
 use Rattle.entries.proofs.NameLaws.{unit-inside, unit-folded}
-use Rattle.entries.proofs.Orderings.{is-less, is-same, is-more}
+use Rattle.entries.proofs.Orderings.{is-less, is-same, is-more, unit-told}
 use Rattle.entries.proofs.names.compare.Statement.{statement}
 use Rattle.entries.proofs.names.compare.Tie as tie
 
@@ -33,16 +34,17 @@ within c =
     let h : c .before .loop .i < length (one (counted c)) = omega (arith, c .loop-test .taken, counted c .before .name-units .ensures) in
     (h, omega (arith, h, c .before .loop .inv .long))
 
-abbrev going : tie.After-fold2 Inv-loop μ-loop → tie.In-loop Inv-loop μ-loop
-going c = c .before .before .before .before
+abbrev going : tie.After-compare-units Inv-loop μ-loop → tie.In-loop Inv-loop μ-loop
+going c = c .before .before .before
 
-turn : (c : tie.After-fold2 Inv-loop μ-loop) → Turn fold (one (counted (going c))) (two (counted (going c))) (going c .before .loop .i) (c .before .before .fold .result) (c .fold2 .result)
+turn : (c : tie.After-compare-units Inv-loop μ-loop)
+    → Turn fold (one (counted (going c))) (two (counted (going c))) (going c .before .loop .i) (fold (c .before .before .name-unit .result)) (fold (c .before .name-unit2 .result))
 turn c =
     record {
       so-far = going c .before .loop .inv;
       inside = within (going c) .0;
-      one = unit-folded _ _ _ _ (within (going c) .0) (c .before .before .before .name-unit .ensures) (c .before .before .fold .ensures);
-      two = unit-folded _ _ _ _ (within (going c) .1) (c .before .name-unit2 .ensures) (c .fold2 .ensures);
+      one = unit-folded _ _ _ _ (within (going c) .0) (c .before .before .name-unit .ensures) refl;
+      two = unit-folded _ _ _ _ (within (going c) .1) (c .before .name-unit2 .ensures) refl;
     }
 
 pub compare-spec : {M : Type 1} → statement M
@@ -55,12 +57,16 @@ compare-spec =
     (λ c. is-more _ _ (shorter-less fold (two (c .before .before)) (one (c .before .before)) (omega (arith, c .if2 .taken, c .before .before .before .name-units .ensures, c .before .before .name-units2 .ensures))))  -- returns-2
     (λ c. comparing-start fold (one (c .before .before)) (two (c .before .before)) (omega (arith, c .if2 .left, c .before .if1 .left, c .before .before .before .name-units .ensures, c .before .before .name-units2 .ensures)))  -- loop-holds
     (λ c κs. unit-inside (counted c .before .before .before .pre .0) _ (within c .0))  -- name-unit-requires
-    (λ c κs. search needs)  -- fold-requires
-    (λ c κs. unit-inside (counted (c .before .before) .before .before .before .pre .1) _ (within (c .before .before) .1))  -- name-unit-requires-2
-    (λ c κs. search needs)  -- fold-requires-2
-    (λ c. is-less _ _ (turn-less (turn (c .before)) (c .if3 .taken)))  -- returns-3
-    (λ c. is-more _ _ (turn-more (turn (c .before .before)) (c .if4 .taken)))  -- returns-4
+    (λ c κs. unit-inside (counted (c .before) .before .before .before .pre .1) _ (within (c .before) .1))  -- name-unit-requires-2
+    (λ c κs. search needs)  -- compare-units-requires
+    (λ c. search needs)  -- enum-told
+    (λ c. is-less _ _ (turn-less (turn (c .before .before)) (unit-told _ _ (c .before .before .compare-units .ensures) (c .enum-told .given .1))))  -- returns-3
+    (λ c. search needs)  -- enum-told-2
     (λ c. search needs)  -- add-i
     (λ c. search needs)  -- loop-less
-    (λ c. turn-on (turn (c .before .before)) (c .if4 .left) (c .before .if3 .left))  -- loop-again
+    (λ c.
+    let e = unit-told _ _ (c .before .before .compare-units .ensures) (c .enum-told2 .given .1) in
+    turn-on (turn (c .before .before)) (omega (arith, e)) (omega (arith, e)))  -- loop-again
+    (λ c. search needs)  -- enum-told-3
+    (λ c. is-more _ _ (turn-more (turn (c .before .before)) (unit-told _ _ (c .before .before .compare-units .ensures) (c .enum-told3 .given .1))))  -- returns-4
     (λ c. is-same _ _ (comparing-end (c .before .loop .inv) (omega (arith, c .loop-test .left, c .before .before .before .before .before .name-units .ensures)))))  -- returns-5

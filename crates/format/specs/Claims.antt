@@ -1,0 +1,3 @@
+-- What the definitions are claimed to give, beside demand 3.
+pub mod Folding
+pub mod FoldingPaths
