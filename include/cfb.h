@@ -10,7 +10,8 @@
  * as they were, and every count, entry, type and size is 0.
  *
  * A path is given in 16-bit units (UTF-16, in the machine's byte order) with their number, and no zero behind them. Its names
- * are parted by '/', with none at either end; the empty path is the root. Small and capital letters a to z are the same.
+ * are parted by '/', with none at either end; the empty path is the root. Small and capital letters are the same: a to z,
+ * U+00E0 to U+00FF but U+00F7, U+03B1 to U+03C9 but U+03C2, U+0430 to U+045F, and their capitals. No other units are.
  *
  * cfb_opened.h has the same calls on an image that is validated once for all of them, and asks something of the caller for it.
  */

@@ -1,11 +1,12 @@
 #!/usr/bin/env python3
 """Writes the calls that the program `calls_run` makes, and the lines that it must print.
 
-Every answer stands here, or for edits in `edit_cases.py`, as 01 and 02 give it; values and bytes come from the plan of the image and from the edits made,
+Every answer stands here, or in `edit_cases.py` and `letter_cases.py`, as 01 and 02 give it; values and bytes come from the plan of the image and from the edits made,
 and images after edits from `edits.py`. Nothing is asked of the library. `groups.py` says how a call is laid out and what is printed of it."""
 import os
 import struct
 import edit_cases
+import letter_cases
 from groups import FIND, LIST, OVERWRITE, READ, SET_LENGTH, VALIDATE, Group
 from images import END, byte, entry, image, put, root
 from plans import Plan, text
@@ -25,11 +26,11 @@ g = Group(plan)
 # ---- find: the root, storages, streams, letters of either case, a name of 31 units
 for path in ["", "Site", "Site/log", "Site/Jets", "Site/deep", "Site/deep/x", "Site/deep/Deeper", "Site/deep/Deeper/" + "a" * 31, "empty", "Void", "edge", "whole", "Ärger", "t\x01 ~\x7f"]:
     g.finds(path)
-for path, spelled in [("site/LOG", "Site/log"), ("SITE/jEtS", "Site/Jets"), ("SITE/DEEP/X", "Site/deep/x"), ("site/deep/deeper/" + "A" * 31, "Site/deep/Deeper/" + "a" * 31), ("EMPTY", "empty"), ("ÄRGER", "Ärger")]:
+for path, spelled in [("site/LOG", "Site/log"), ("SITE/jEtS", "Site/Jets"), ("SITE/DEEP/X", "Site/deep/x"), ("site/deep/deeper/" + "A" * 31, "Site/deep/Deeper/" + "a" * 31), ("EMPTY", "empty"), ("ÄRGER", "Ärger"), ("ärger", "Ärger")]:
     g.finds(path, spelled)
 
-# ---- 21: names that are not there; only a-z are taken as A-Z
-for path in ["gone", "Site/gone", "Site/deep/gone", "Void/gone", "lo", "log", "Site/lo", "Site/logs", "Site/lof", "Site/deep/y", "ärger", "Site ", "{ite", "Site/deep/Deeper/" + "a" * 30, "Root Entry"]:
+# ---- 21: names that are not there
+for path in ["gone", "Site/gone", "Site/deep/gone", "Void/gone", "lo", "log", "Site/lo", "Site/logs", "Site/lof", "Site/deep/y", "Arger", "¤rger", "Site ", "{ite", "Site/deep/Deeper/" + "a" * 30, "Root Entry"]:
     g.find(path, 21)
 # ---- 22: below a stream; 21 and 22 go by the first name that fails
 for path, number in [("Site/log/x", 22), ("empty/x", 22), ("edge/gone", 22), ("Site/LOG/gone/x", 22), ("gone/empty/x", 21), ("empty/gone/x", 22), ("Site/gone/log", 21), ("whole/whole/whole", 22)]:
@@ -102,7 +103,7 @@ broken = [(one[:1535], 1), (b"", 1), (byte(one, 0, 0), 10), (byte(one, 44, 0), 1
           (byte(one, 1024 + 76, 9), 15), (put(one, (60, 0)), 16), (put(one, (1024 + 128 + 116, 0)), 17), (put(one, (512 + 4 * 2, END)), 18)]
 # a stream and a storage that have the exclamation mark in their names
 broken += [(image(3, [0], [], [1], [root(1), entry("!", 2)]), 14), (image(3, [0], [], [1], [root(1), entry("s!", 1)]), 14)]
-groups = [g, s] + edit_cases.groups()
+groups = [g, s] + edit_cases.groups() + letter_cases.groups()
 for img, number in broken:
     b = Group(img=img)
     b.call(VALIDATE, number)

@@ -3,19 +3,11 @@
 A storage is a dict from names to objects, a stream is its bytes."""
 import random
 from images import END, NONE, entry, root, volume
-
-
-def order(name):
-    """The order of siblings (01, group 15): by units, then unit by unit with a-z taken as A-Z."""
-    units = name.encode("utf-16-le")
-    units = [units[i] + 256 * units[i + 1] for i in range(0, len(units), 2)]
-    return len(units), [u - 32 if 97 <= u <= 122 else u for u in units]
+from letters import order, units
 
 
 def printed(name):
-    units = name.encode("utf-16-le")
-    units = [units[i] + 256 * units[i + 1] for i in range(0, len(units), 2)]
-    return "".join(chr(u) if 0x20 <= u <= 0x7E else "\\%04X" % u for u in units)
+    return "".join(chr(u) if 0x20 <= u <= 0x7E else "\\%04X" % u for u in units(name))
 
 
 def text(seed, count):

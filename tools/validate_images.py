@@ -3,6 +3,7 @@
 
 The numbers are those that 01 and 02 give, rule by rule."""
 from images import DIFSECT, END, FATSECT, FREE, NONE, byte, entry, image, put, root, volume, with_entries, write
+from letters import BESIDE, ENDS, IN_ORDER, OTHERS, OUT_OF_PLAIN_ORDER, order, respelled
 
 STORAGE, STREAM, ROOT = 1, 2, 5
 RED, BLACK = 0, 1
@@ -47,6 +48,19 @@ def spine(n, name=lambda i: "n%05d" % i, last=NONE):
     return with_entries([root(1)] + [stream(name(i), right=i + 1 if i < n else last) for i in range(1, n + 1)])
 
 
+def in_a_row(names, left=False):
+    """A tree that is all right sides, or all left sides, with these names in this order."""
+    if left:
+        return with_entries([root(len(names))] + [stream(name, left=i if i else NONE) for i, name in enumerate(names)])
+    return spine(len(names), lambda i: names[i - 1])
+
+
+def around(number, unit):
+    """The unit at the beginning, in the middle or at the end of a name of 31 units."""
+    before = (0, 15, 30)[number % 3]
+    return "n" * before + unit + "n" * (30 - before)
+
+
 rising = ["aaa", "bbb", "ccc", "ddd", "eee", "fff", "ggg"]
 
 
@@ -83,6 +97,8 @@ tables = [
     # the lowest number is given
     (byte(put(small, (44, 0)), 0, 0), 10), (put(small, (508, 1), (520, END)), 11), (put(small, (520, END), (48, END)), 12),
 ]
+# each unit of the pairs that are different once, in order
+unlike = sorted({order(u)[1][0]: u for pair in BESIDE + OTHERS for u in pair}.values(), key=order)
 directories = [
     # accepted: no object; one; a storage in a storage; a balanced tree; a tree all to one side
     (with_entries([root()]), 0), (one(stream("log")), 0), (siblings(storage("Site", child=2), storage("Jets", child=3), stream("log")), 0),
@@ -118,6 +134,14 @@ directories = [
     (siblings(stream("log", right=2), stream("LOG")), 15), (siblings(stream("log", right=2), stream("Jets")), 0),
     (siblings(stream("Jets", right=2), stream("log")), 15), (siblings(stream("a_b", right=2), stream("aab")), 15),
     (siblings(stream("aab", right=2), stream("a_b")), 0), (siblings(stream("AAB", left=2), stream("aaa")), 0),
+    # group 15: a small letter and its capital (W-211) at each end of each range, in names of one unit and of 31, one on either side
+    *[(in_a_row([small, capital]), 15) for small, capital in ENDS], *[(in_a_row([around(i, capital), around(i, small)], True), 15) for i, (small, capital) in enumerate(ENDS)],
+    # group 15: words that are equal, words that are not, and pairs that are in order by their plain units only
+    (in_a_row(["\u0401\u043b\u043a\u0430", "\u0451\u041b\u041a\u0410"]), 15), (in_a_row(["\u039f\u03b4\u03cc\u03c2", "\u03bf\u0394\u03cc\u03c2"]), 15),
+    (in_a_row(["\u03bf\u03b4\u03cc\u03c3", "\u039f\u0394\u03cc\u03c2"]), 0),
+    *[(in_a_row([second, first]), 15) for first, second in OUT_OF_PLAIN_ORDER],
+    # group 15: the ends, what is left out and the units beside them in one tree, spelled in both ways, and pairs that only another folding makes equal
+    (in_a_row(IN_ORDER), 0), (in_a_row([respelled(name) for name in IN_ORDER], True), 0), (in_a_row(unlike), 0),
     # group 15: order broken deep in a side, though each node is right with the two below it
     (seven(["aaa", "bbb", "eee", "ddd", "ddf", "fff", "ggg"]), 15), (seven(["aaa", "bbb", "ccc", "ddd", "ccd", "fff", "ggg"]), 15),
     (seven(["aaa", "bbb", "ccc", "ddd", "eee", "fff", "eff"]), 15), (spine(100, lambda i: "n%05d" % (i if i < 100 else 98)), 15),

@@ -3,7 +3,8 @@
 //! An image is a whole file in memory, a multiple of 512 bytes from 1,536 to 67,108,864. The caller lends it, with a work
 //! buffer of at least [`work_need`] numbers, which may hold anything and may be used again. A path is a slice of UTF-16
 //! units, with names parted by `/` and none at either end; the empty path is the root. [`path()`] makes one. Small and
-//! capital letters a to z are the same.
+//! capital letters are the same: a to z, U+00E0 to U+00FF but U+00F7, U+03B1 to U+03C9 but U+03C2, U+0430 to U+045F, and
+//! their capitals. No other units are.
 //!
 //! Every call validates the whole image first, and refuses it as [`validate`] does. Only [`overwrite`] and [`set_len`]
 //! change it. After a refusal the image and an out buffer are as they were. The work buffer is as it was after

@@ -2,7 +2,7 @@
 
 use crate::images::Sample;
 use crate::images::layout::Node;
-use crate::images::write::is_large;
+use crate::images::write::{self, is_large};
 use crate::number::*;
 use crate::random::Random;
 
@@ -19,6 +19,13 @@ pub const SIZE: usize = 120;
 /// A break that is one number at one place.
 pub fn put(s: &mut Sample, at: usize, value: u32) -> Option<()> {
     s.put(at, value);
+    Some(())
+}
+
+/// Another name for an object.
+pub fn rename(s: &mut Sample, entry: u32, name: &[u16]) -> Option<()> {
+    let at = s.layout.entry(entry);
+    write::name(&mut s.image, at, name);
     Some(())
 }
 

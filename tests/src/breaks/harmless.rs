@@ -3,6 +3,8 @@
 use super::edit::*;
 use super::{Break, rule};
 use crate::images::Sample;
+use crate::images::layout::Node;
+use crate::images::letters::{self, OUT_OF_PLAIN_ORDER, UNLIKE};
 use crate::images::names::{self, Alphabet, BESIDE, REFUSED};
 use crate::images::write;
 use crate::number::*;
@@ -40,6 +42,8 @@ pub const CHANGES: &[Break] = &[
         in_entry(s, r, e, 80, 116)
     }),
     rule(0, "harmless: case of a name", other_case),
+    rule(0, "harmless: two names in order by their capitals alone", capitals_in_order),
+    rule(0, "harmless: two names that another folding makes equal", unlike),
     rule(0, "harmless: a unit beside one that no name has", beside_refused),
     rule(0, "harmless: all entries black", all_black),
     rule(0, "harmless: size within the last unit", size_within),
@@ -81,11 +85,44 @@ fn behind_name(s: &mut Sample, r: &mut Random) -> Option<()> {
 
 fn other_case(s: &mut Sample, r: &mut Random) -> Option<()> {
     let node = s.object(r)?;
-    let at = s.layout.entry(node.entry);
-    for (i, &unit) in node.name.iter().enumerate() {
-        if unit < 128 && (unit as u8).is_ascii_alphabetic() && r.one_in(2) {
-            put_u16(&mut s.image, at + 2 * i, unit ^ 0x20);
-        }
+    let name = names::respelled(&node.name, || r.one_in(2));
+    rename(s, node.entry, &name)
+}
+
+fn capitals_in_order(s: &mut Sample, r: &mut Random) -> Option<()> {
+    let (first, last) = two_alone(s, r)?;
+    let row = r.pick(&OUT_OF_PLAIN_ORDER);
+    let (one, other) = r.pick(row);
+    differ_in_a_unit(s, r, [first, last], [one, other])
+}
+
+fn unlike(s: &mut Sample, r: &mut Random) -> Option<()> {
+    let (first, last) = two_alone(s, r)?;
+    let (one, other) = r.pick(&UNLIKE);
+    let units = if letters::capital(one) < letters::capital(other) { [one, other] } else { [other, one] };
+    differ_in_a_unit(s, r, [first, last], units)
+}
+
+/// Two objects in a storage that has no others, in their order.
+fn two_alone(s: &Sample, r: &mut Random) -> Option<(u32, u32)> {
+    let leaf = |entry: u32| s.node_of(entry).is_some_and(|node| [node.links.left, node.links.right] == [NOSTREAM; 2]);
+    let pair = |node: &Node| match (node.links.left, node.links.right) {
+        (left, NOSTREAM) if leaf(left) => Some((left, node.entry)),
+        (NOSTREAM, right) if leaf(right) => Some((node.entry, right)),
+        _ => None,
+    };
+    let pairs: Vec<(u32, u32)> = s.layout.nodes.iter().filter(|node| node.links.top).filter_map(pair).collect();
+    r.some(&pairs).copied()
+}
+
+/// Both get the same name but for one unit, at its beginning, at its end or anywhere in it.
+fn differ_in_a_unit(s: &mut Sample, r: &mut Random, entries: [u32; 2], units: [u16; 2]) -> Option<()> {
+    let mut name = names::random(r, Alphabet::Northern);
+    let any = r.index(name.len());
+    let at = r.pick(&[0, name.len() - 1, any]);
+    for (entry, unit) in entries.into_iter().zip(units) {
+        name[at] = unit;
+        rename(s, entry, &name)?;
     }
     Some(())
 }

@@ -4,7 +4,8 @@ use super::edit::*;
 use super::{Break, rule};
 use crate::images::Sample;
 use crate::images::layout::Node;
-use crate::images::write;
+use crate::images::letters::{self, OUT_OF_PLAIN_ORDER};
+use crate::images::names;
 use crate::number::*;
 use crate::random::Random;
 
@@ -25,9 +26,15 @@ pub const BREAKS: &[Break] = &[
     rule(15, "tree: left and right exchanged", exchanged_sides),
     rule(15, "tree: names of two siblings exchanged", exchanged_names),
     rule(15, "tree: names equal but for case", equal_names),
+    rule(15, "tree: names equal but for the case of one letter", equal_letters),
     rule(15, "tree: in order with its parent but not above it", order_above),
     rule(15, "tree: ordered by letters before length", letters_first),
-    rule(15, "tree: a-z taken as themselves", unfolded_order),
+    rule(15, "tree: a-z taken as themselves", |s, r| unfolded_order(s, r, 0)),
+    rule(15, "tree: 00E0-00FE taken as themselves", |s, r| unfolded_order(s, r, 1)),
+    rule(15, "tree: 00FF taken as itself", |s, r| unfolded_order(s, r, 2)),
+    rule(15, "tree: 03B1-03C9 taken as themselves", |s, r| unfolded_order(s, r, 3)),
+    rule(15, "tree: 0430-044F taken as themselves", |s, r| unfolded_order(s, r, 4)),
+    rule(15, "tree: 0450-045F taken as themselves", |s, r| unfolded_order(s, r, 5)),
 ];
 
 /// The places of all links that group 15 judges.
@@ -134,12 +141,6 @@ fn exchanged_sides(s: &mut Sample, r: &mut Random) -> Option<()> {
     Some(())
 }
 
-fn rename(s: &mut Sample, entry: u32, name: &[u16]) -> Option<()> {
-    let at = s.layout.entry(entry);
-    write::name(&mut s.image, at, name);
-    Some(())
-}
-
 /// Two different objects in the same storage.
 fn two_siblings(s: &Sample, r: &mut Random) -> Option<(Node, Node)> {
     let one = s.object(r)?;
@@ -157,10 +158,22 @@ fn exchanged_names(s: &mut Sample, r: &mut Random) -> Option<()> {
 
 fn equal_names(s: &mut Sample, r: &mut Random) -> Option<()> {
     let (one, other) = two_siblings(s, r)?;
-    let case = |&unit: &u16| {
-        if u8::try_from(unit).is_ok_and(|b| b.is_ascii_alphabetic()) { unit ^ 0x20 } else { unit }
-    };
-    rename(s, one.entry, &other.name.iter().map(case).collect::<Vec<_>>())
+    let all = r.one_in(2);
+    let name = names::respelled(&other.name, || all || r.one_in(2));
+    rename(s, one.entry, &name)
+}
+
+/// The only difference is that of a small letter and its capital, of any range.
+fn equal_letters(s: &mut Sample, r: &mut Random) -> Option<()> {
+    let (one, other) = two_siblings(s, r)?;
+    let pairs: Vec<(u16, u16)> = if r.one_in(2) { letters::ends().collect() } else { letters::pairs().collect() };
+    let (small, capital) = r.pick(&pairs);
+    let mut name = other.name.clone();
+    let at = r.index(name.len());
+    name[at] = small;
+    rename(s, one.entry, &name)?;
+    name[at] = capital;
+    rename(s, other.entry, &name)
 }
 
 /// A left side's right side gets a name above the node's own, or the mirror of that.
@@ -182,10 +195,11 @@ fn letters_first(s: &mut Sample, r: &mut Random) -> Option<()> {
     rename(s, node.links.left, &[0x41, 0x41])
 }
 
-/// In the order of the plain units `_` comes before `a`; folded it comes after.
-fn unfolded_order(s: &mut Sample, r: &mut Random) -> Option<()> {
+/// A node and its left side are in the order of the plain units, as `a` is behind `_`, and not in that of their capitals.
+fn unfolded_order(s: &mut Sample, r: &mut Random, range: usize) -> Option<()> {
     let node = s.node(r, |node| node.links.left != NOSTREAM)?;
+    let (first, last) = r.pick(OUT_OF_PLAIN_ORDER[range]);
     let (_, stem) = node.name.split_last()?;
-    rename(s, node.entry, &[stem, &[0x61]].concat())?;
-    rename(s, node.links.left, &[stem, &[0x5F]].concat())
+    rename(s, node.entry, &[stem, &[first]].concat())?;
+    rename(s, node.links.left, &[stem, &[last]].concat())
 }

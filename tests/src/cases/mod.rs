@@ -4,6 +4,7 @@ pub mod calls;
 pub mod deep;
 pub mod filled;
 pub mod fixed;
+pub mod folding;
 pub mod large;
 pub mod lists;
 pub mod mutate;

@@ -24,7 +24,7 @@ pub fn cases() -> Vec<Case> {
 }
 
 /// Names with each of these units: alone, at the beginning, in the middle and at the end, also of a name of 31 units.
-fn with(units: &[u16]) -> Vec<Vec<u16>> {
+pub fn with(units: &[u16]) -> Vec<Vec<u16>> {
     let mut all = Vec::new();
     for &unit in units {
         all.push(vec![unit]);
@@ -105,7 +105,7 @@ fn paths(cases: &mut Vec<Case>) {
 }
 
 /// Each call that takes a path; on a stream of at least two bytes all are done.
-fn calls(path: &[u16]) -> [Call; 4] {
+pub fn calls(path: &[u16]) -> [Call; 4] {
     let path = || path.to_vec();
     [
         Call::Find { path: path() },
@@ -115,11 +115,11 @@ fn calls(path: &[u16]) -> [Call; 4] {
     ]
 }
 
-fn on(sample: &Sample, call: Call, expected: u32) -> Case {
+pub fn on(sample: &Sample, call: Call, expected: u32) -> Case {
     let work_len = work_needed(sample.image.len());
     Case { call, ..Case::new("names", sample.image.clone(), work_len, Some(expected)) }
 }
 
-fn with_rows(sample: &Sample, call: Call, expected: u32) -> Case {
+pub fn with_rows(sample: &Sample, call: Call, expected: u32) -> Case {
     Case { model: Some(Rc::new(Model::of(sample))), ..on(sample, call, expected) }
 }

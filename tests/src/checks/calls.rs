@@ -74,8 +74,9 @@ fn reads_of_the_papers() {
 #[test]
 fn cases_of_the_papers() {
     let mut tally = Tally::new();
-    for (number, case) in papers::cases().iter().chain(&cases::names::cases()).enumerate() {
-        assert!(tally.run(&format!("case {number}"), case).is_some());
+    let of_names = cases::names::cases().into_iter().chain(cases::folding::cases());
+    for (number, case) in papers::cases().into_iter().chain(of_names).enumerate() {
+        assert!(tally.run(&format!("case {number}"), &case).is_some());
     }
 }
 

@@ -5,10 +5,11 @@ mod plain_owners;
 mod plain_tree;
 mod samples;
 
+use crate::images::letters::{self, IN_ORDER};
 use crate::images::{Sample, names, names::Alphabet, plan::*};
 use crate::number::*;
 use crate::random::Random;
-use crate::volume::{Volume, chains::Chains, length_allowed, tables::difat_needed, validate, work_needed};
+use crate::volume::{Volume, chains::Chains, entry::fold, length_allowed, tables::difat_needed, validate, work_needed};
 use std::cmp::Ordering;
 use std::collections::HashSet;
 
@@ -64,6 +65,66 @@ fn order_of_the_papers() {
     assert_eq!(order("Jets", "log"), Ordering::Greater);
     assert_eq!(order("LOG", "log"), Ordering::Equal);
     assert_eq!(order("a_b", "aab"), Ordering::Greater);
+    assert_eq!(order("Œ", "ÿ"), Ordering::Less);
+    assert_eq!(order("ŸрЁ", "ÿРё"), Ordering::Equal);
+    assert_eq!(order("ς", "σ"), Ordering::Greater);
+}
+
+/// W-211 at each end of each range, at what is left out, and beside those.
+#[test]
+fn folding_of_the_papers() {
+    let folded = [
+        (0x61, 0x41),
+        (0x7A, 0x5A),
+        (0xE0, 0xC0),
+        (0xF6, 0xD6),
+        (0xF8, 0xD8),
+        (0xFE, 0xDE),
+        (0xFF, 0x178),
+        (0x3B1, 0x391),
+        (0x3C1, 0x3A1),
+        (0x3C3, 0x3A3),
+        (0x3C9, 0x3A9),
+        (0x430, 0x410),
+        (0x44F, 0x42F),
+        (0x450, 0x400),
+        (0x45F, 0x40F),
+    ];
+    for (small, capital) in folded {
+        assert_eq!((fold(small), fold(capital)), (capital, capital), "{small:04X}");
+    }
+    assert_eq!(letters::ends().collect::<HashSet<_>>(), HashSet::from(folded));
+    let kept = [0, 0x60, 0x7B, 0xDF, 0xF7, 0x100, 0x177, 0x179, 0x3B0, 0x3C2, 0x3CA, 0x3FF, 0x42F, 0x460, 0xFFFF];
+    assert_eq!(kept.map(fold), kept);
+}
+
+/// The plain table of pairs, and Unicode's capitals: a folded unit is the only one that Unicode gives.
+#[test]
+fn folding_of_every_unit() {
+    let changed = (0..=u16::MAX).filter(|&unit| fold(unit) != unit);
+    assert_eq!(changed.clone().count(), 26 + 30 + 1 + 24 + 32 + 16);
+    for unit in changed {
+        let letter = char::from_u32(unit as u32).expect("no surrogate");
+        let capital = char::from_u32(fold(unit) as u32).expect("no surrogate");
+        assert!(letter.to_uppercase().eq([capital]), "{unit:04X}");
+    }
+    let mut alike = vec![Vec::new(); 0x1_0000];
+    for unit in 0..=u16::MAX {
+        assert_eq!((fold(unit), fold(fold(unit))), (letters::capital(unit), fold(unit)), "{unit:04X}");
+        alike[fold(unit) as usize].push(unit);
+    }
+    for unit in 0..=u16::MAX {
+        let others: Vec<u16> = alike[fold(unit) as usize].iter().copied().filter(|&other| other != unit).collect();
+        assert_eq!(others, letters::other_case(unit).into_iter().collect::<Vec<u16>>(), "{unit:04X}");
+    }
+}
+
+/// Names of units below 00E0 are in the order of 01, which folds a-z alone.
+#[test]
+fn folding_below_the_first_new_letter() {
+    for unit in 0..0xE0u8 {
+        assert_eq!(fold(unit as u16), unit.to_ascii_uppercase() as u16);
+    }
 }
 
 /// Units that are refused occur in no random name, those beside `!` do.
@@ -76,6 +137,10 @@ fn names_of_random_images() {
         assert!(!units.contains(&unit), "{unit}");
     }
     assert!(units.contains(&0x20) && units.contains(&0x22));
+    let northern = IN_ORDER.into_iter().chain(letters::pairs().flat_map(|(small, capital)| [small, capital]));
+    for unit in northern {
+        assert!(units.contains(&unit), "{unit:04X}");
+    }
 }
 
 #[test]

@@ -50,16 +50,16 @@ fn name(r: &mut Random) -> Vec<u16> {
 
 /// Letters in the other case, which mean the same.
 fn recased(path: &[u16], r: &mut Random) -> Vec<u16> {
-    let letter = |unit: u16| u8::try_from(unit).is_ok_and(|byte| byte.is_ascii_alphabetic());
-    path.iter().map(|&unit| if letter(unit) && r.one_in(2) { unit ^ 0x20 } else { unit }).collect()
+    names::respelled(path, || r.one_in(2))
 }
 
-/// One unit a little off: signs and letters outside ASCII too, which have no other case.
+/// One unit a little off, often by as much as a letter is from its capital: whether or not it is a letter, and one of those.
 fn changed(path: &[u16], r: &mut Random) -> Vec<u16> {
     let mut path = path.to_vec();
     let at = r.index(path.len());
     if let Some(unit) = path.get_mut(at) {
-        *unit ^= r.pick(&[0x20, 0x20, 0x20, 1, 0x100, 0x8000]);
+        let far = r.pick(&[0x20, 0x20, 0x20, 0x50, 0x79, 1, 0x100, 0x8000]);
+        *unit = r.pick(&[unit.wrapping_add(far), unit.wrapping_sub(far), *unit ^ far]);
     }
     path
 }

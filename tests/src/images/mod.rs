@@ -1,6 +1,7 @@
 //! Valid images: a plan of what an image holds, its layout in sectors and entries, and its bytes.
 
 pub mod layout;
+pub mod letters;
 pub mod names;
 pub mod places;
 pub mod plan;

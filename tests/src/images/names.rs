@@ -1,13 +1,16 @@
 //! Names: their order as the papers state it, and random ones.
 
+use super::letters::{self, IN_ORDER};
 use crate::random::Random;
 
-/// What names are ordered by: unit count, then the units with a-z taken as A-Z.
+/// What names are ordered by: unit count, then the units with small letters taken as capitals.
 pub fn key(name: &[u16]) -> (usize, Vec<u16>) {
-    let upper = |&u: &u16| {
-        if u >= b'a' as u16 && u <= b'z' as u16 { u - 32 } else { u }
-    };
-    (name.len(), name.iter().map(upper).collect())
+    (name.len(), name.iter().map(|&unit| letters::capital(unit)).collect())
+}
+
+/// The name spelled otherwise: each letter in the other case, or only some.
+pub fn respelled(name: &[u16], mut which: impl FnMut() -> bool) -> Vec<u16> {
+    name.iter().map(|&unit| letters::other_case(unit).filter(|_| which()).unwrap_or(unit)).collect()
 }
 
 /// A name of 1 to 31 units, none of which is refused.
@@ -26,22 +29,25 @@ pub enum Alphabet {
     /// Letters of both cases and the signs between and around them, so that many names nearly agree.
     Close,
     Printable,
-    /// Letters outside ASCII, of both cases.
+    /// Letters of both cases, and the units around them.
     Northern,
+    /// The same from the ends of their ranges alone, so that many names nearly agree.
+    Ends,
     Any,
 }
 
 impl Alphabet {
-    pub const ALL: [Alphabet; 4] = [Alphabet::Close, Alphabet::Printable, Alphabet::Northern, Alphabet::Any];
+    pub const ALL: [Alphabet; 5] =
+        [Alphabet::Close, Alphabet::Printable, Alphabet::Northern, Alphabet::Ends, Alphabet::Any];
 
     fn unit(self, random: &mut Random) -> u16 {
         let close: Vec<u16> = "aAbBzZ@[_`{~".encode_utf16().collect();
-        let northern: Vec<u16> = "éÉøØÿŸßσςΣжЖёЁ÷×aZ".encode_utf16().collect();
         loop {
             let unit = match self {
                 Alphabet::Close => random.pick(&close),
                 Alphabet::Printable => random.between(0x20, 0x7E) as u16,
-                Alphabet::Northern => random.pick(&northern),
+                Alphabet::Northern => northern(random),
+                Alphabet::Ends => either_case(random.pick(&IN_ORDER), random),
                 Alphabet::Any => random.word() as u16,
             };
             if !refused(unit) {
@@ -49,6 +55,18 @@ impl Alphabet {
             }
         }
     }
+}
+
+/// A letter, seldom a unit near one.
+fn northern(random: &mut Random) -> u16 {
+    let letters: Vec<(u16, u16)> = letters::pairs().collect();
+    let (small, _) = random.pick(&letters);
+    let near = random.pick(&[0, 0, 0, 0, 0, 0, 1, u16::MAX]);
+    either_case(small.wrapping_add(near), random)
+}
+
+fn either_case(unit: u16, random: &mut Random) -> u16 {
+    letters::other_case(unit).filter(|_| random.one_in(2)).unwrap_or(unit)
 }
 
 /// The units that no name has.

@@ -110,7 +110,13 @@ impl Entry<'_> {
     }
 }
 
-/// a-z are taken as A-Z.
+/// Small letters are taken as capitals (W-211); every other unit stands for itself.
 pub fn fold(unit: u16) -> u16 {
-    if (0x61..=0x7A).contains(&unit) { unit - 0x20 } else { unit }
+    match unit {
+        0x00F7 | 0x03C2 => unit,
+        0x0061..=0x007A | 0x00E0..=0x00FE | 0x03B1..=0x03C9 | 0x0430..=0x044F => unit - 0x20,
+        0x0450..=0x045F => unit - 0x50,
+        0x00FF => 0x0178,
+        _ => unit,
+    }
 }

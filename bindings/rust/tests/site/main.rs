@@ -2,6 +2,7 @@
 //! mini sector free. What holds for any image is tried on samples/nested.cfb too.
 
 mod edits;
+mod letters;
 mod objects;
 mod opened;
 mod queries;

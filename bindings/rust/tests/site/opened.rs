@@ -10,7 +10,7 @@ use gyomrelas::{find, list, overwrite, path, read, set_len, validate, work_need,
 const SAMPLES: [&str; 2] = ["site.cfb", "nested.cfb"];
 
 /// Paths that lead somewhere in one of the samples, and paths that are refused for each reason.
-const PATHS: [&str; 21] = [
+const PATHS: [&str; 25] = [
     "",
     "Site",
     "Site/log",
@@ -18,6 +18,10 @@ const PATHS: [&str; 21] = [
     "note",
     "Pumps",
     "Pumps/Süd",
+    "pUMPS/SÜD",
+    "Pumps/Sud",
+    "Pumps/S×d",
+    "Pumps/süD/x",
     "Pumps/Nord",
     "Pumps/Nord/gauge",
     "pumps/nord/VALVE",

@@ -7,8 +7,8 @@ use gyomrelas::{find, list, overwrite, path, read, set_len, validate, work_need,
 const FAT: usize = 512;
 const MINI_FAT: usize = 11 * 512;
 const ROOT: usize = 4 * 512;
-const SITE: usize = ROOT + 128;
-const LOG: usize = ROOT + 2 * 128;
+pub const SITE: usize = ROOT + 128;
+pub const LOG: usize = ROOT + 2 * 128;
 pub const JETS: usize = ROOT + 3 * 128;
 
 #[test]
