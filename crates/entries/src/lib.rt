@@ -3,11 +3,14 @@ ghost use mathlib.Core.Path.{_≡_};
 ghost use Prim.Native.Nat.{_+_, _≤_};
 ghost use lib.ListN.{length};
 ghost use Rattle.format.specs.Basics.Bytes.{byteAt, u16at, u32at, part, allZero};
-ghost use Rattle.format.specs.Layout.Entry.{nameBytes, kind as kindOf, colour as colourOf, start as startOf, size as sizeOf};
+ghost use Rattle.format.specs.Layout.Entry.{nameBytes, kind as kindOf, colour as colourOf, start as startOf, size as sizeAsRead};
+ghost use Rattle.format.specs.Layout.Geometry.{sizeWidth};
 ghost use Rattle.format.specs.Layout.Entry.{left as leftOf, right as rightOf, child as childOf};
+ghost use Rattle.kinds.specs.Sizes.{geometryOf};
 ghost use Rattle.entries.specs.Entry.{entryAt, Field};
 use kinds::EntryId;
 use kinds::EntryType;
+use kinds::Geometry;
 use kinds::MiniSector;
 use kinds::Sector;
 use le::all_zero;
@@ -99,10 +102,14 @@ pub fn start_mini(img: &[u8], p: usize) -> MiniSector
     MiniSector(word(img, p, 116))
 }
 
-pub fn size(img: &[u8], p: usize) -> u64
+// The size as read: in version 3 only its lower half counts.
+pub fn size(img: &[u8], p: usize, g: Geometry) -> u64
     requires { ⌜ p + 128 ≤ length (now img) ⌝ }
-    ensures { λ r. ⌜ r ≡ sizeOf (entryAt (now (img .entry)) p) ⌝ }
+    ensures { λ r. ⌜ r ≡ sizeAsRead (sizeWidth (geometryOf g)) (entryAt (now (img .entry)) p) ⌝ }
 {
+    if g.major == 3 {
+        return word(img, p, 120) as u64;
+    }
     u64_at(img, p + 120)
 }
 

@@ -95,7 +95,7 @@ fn common_fields(img: &[u8], p: usize) -> bool
     requires { ⌜ p + 128 ≤ length (now img) ⌝ }
     ensures { λ r. ⌜ r ≡ commonFields (entryAt (now (img .entry)) p) ⌝ }
 {
-    (colour(img, p) <= 1) & zeros(img, p, 124, 4)
+    colour(img, p) <= 1
 }
 
 // ---- all of it

@@ -17,6 +17,21 @@ use Rattle.format_tests.specs.Images.{Site, log, Jets, below, bare, site
 abbrev emptied : Bytes
 emptied = put32 (put32 (put32 site (miniCell 2) FREE) (inEntry 3 116) END) (inEntry 3 120) 0
 
+-- `site` with rubbish in the upper half of log's size
+abbrev unset : Bytes
+unset = put32 site (inEntry 2 124) 0xEEEE_EEEE
+
+-- ---- the upper half of the size
+
+-- a change to another length writes all eight bytes, one to the length as read writes none
+upper-half-written : edited (volume version3 unset) unset (setLength (below Site log) 65 []) ≡ put32 site (inEntry 2 120) 65
+unfolding opened built
+upper-half-written = refl
+
+upper-half-left : edited (volume version3 unset) unset (setLength (below Site log) 70 []) ≡ unset
+unfolding opened built
+upper-half-left = refl
+
 -- ---- shorter
 
 same-length : edited (volume version3 site) site (setLength (below Site log) 70 []) ≡ site

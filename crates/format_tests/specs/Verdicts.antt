@@ -144,9 +144,14 @@ exclamation-in-name : entryRules (directory version3 (putBytes bare (inEntry 2 0
 unfolding opened built
 exclamation-in-name = refl
 
-upper-size-bytes : entryRules (directory version3 (put32 bare (inEntry 2 124) 1)) ≡ false
+-- of a stream and of the root they are not looked at, of a storage they are zero
+upper-size-bytes : verdict version3 (put32 (put32 site (inEntry 0 124) 7) (inEntry 2 124) 1) 65 ≡ 0
 unfolding opened built
 upper-size-bytes = refl
+
+upper-size-bytes-of-storage : entryRules (directory version3 (put32 bare (inEntry 1 124) 1)) ≡ false
+unfolding opened built
+upper-size-bytes-of-storage = refl
 
 stream-with-child : entryRules (directory version3 (put32 bare (inEntry 2 76) 3)) ≡ false
 unfolding opened built

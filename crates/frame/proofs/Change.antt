@@ -11,13 +11,13 @@ use lib.ListN.{length, take}
 use borrow.Author.Tests.{ltb-true}
 use Rattle.format.specs.Basics.Lists.{count}
 use Rattle.format.specs.Basics.Bytes.{Bytes}
-use Rattle.format.specs.Layout.Geometry.{Geometry, sectorCount}
+use Rattle.format.specs.Layout.Geometry.{Geometry, sectorCount, sizeWidth}
 use Rattle.format.specs.Layout.Need.{cutoff, roundUp}
 use Rattle.format.specs.Layout.Chain.{units, startOf, freeBelow}
 use Rattle.format.specs.Layout.Space.{Space, unitsFor, laid, freeUnits, block}
 use Rattle.format.specs.Layout.Tables.{cellPlaceIn, fatSectors, fatCell, sectorSpace}
 use Rattle.format.specs.Layout.Entry.{size, start, nameBytes}
-use Rattle.format.specs.Layout.Directory.{entryCount}
+use Rattle.format.specs.Layout.Directory.{entryCount, sizeOf, directoryOf}
 use Rattle.format.specs.Rules.Entries.{entryRules, commonFields, entryRight, entryFields}
 use Rattle.format.specs.Layout.Volume.{Volume, volume, miniSpace, directorySectorsOf, miniFatSectors, directory}
 use Rattle.format.specs.Layout.Stream.{spaceFor, streamUnits, streamSize}
@@ -31,7 +31,7 @@ use Rattle.frame.proofs.Sound.{Sound, sound-of}
 use Rattle.frame.specs.Edits.{SameFields, Relinked, Refilled, MayResize}
 use Rattle.frame.proofs.Parts.{dirs-in, table-of, sector-units, mini-units, entry-is, entry-count-is}
 use Rattle.frame.proofs.Streams.{space-large, stream-in-sectors}
-use Rattle.frame.proofs.Entry.{stamped, stampedIn, fields-new, start-new, size-new, entry-length}
+use Rattle.frame.proofs.Entry.{stamped, stampedIn, fields-new, start-new, size-counts, size-new, entry-length}
 use Rattle.frame.proofs.Edited.{withCells, withData, withEntry}
 use lib.ListN.{length-append}
 use lib.Seq.{take-append-add}
@@ -155,9 +155,9 @@ module _ (g : Geometry) (z : Sized g) (img : Bytes) (e new : ℕ) (m : MayResize
   pub no-units : n ≡ 0 → us ≡ []
   unfolding streamUnits unitsFor streamSize units spaceFor
   no-units q =
-      let sp = spaceFor v (size (v .directory .entry e)) in
+      let sp = spaceFor v (streamSize v e) in
       ap (λ (k : ℕ). units (sp .cell) k (start (v .directory .entry e)))
-      (ap (λ (k : ℕ). roundUp k (sp .unit)) q ∙ round-zero (sp .unit) (unit-some (ltb (size (v .directory .entry e)) cutoff)))
+      (ap (λ (k : ℕ). roundUp k (sp .unit)) q ∙ round-zero (sp .unit) (unit-some (ltb (streamSize v e) cutoff)))
 
   -- the new length is a number of 32 bits: it is below the cutoff, or the image has room for it
   pub fits : new < 0x1_0000_0000
@@ -186,11 +186,12 @@ module _ (g : Geometry) (z : Sized g) (img : Bytes) (e new : ℕ) (m : MayResize
 
   -- what the written entry says
   pub entry-new : (w : Bytes) → startOf ws < 0x1_0000_0000 → volume g w .directory .entry e ≡ stamped (v .directory .entry e) (startOf ws) new
-      → SameFields (v .directory .entry e) (volume g w .directory .entry e) × (start (volume g w .directory .entry e) ≡ startOf ws) × (size (volume g w .directory .entry e) ≡ new)
+      → SameFields (v .directory .entry e) (volume g w .directory .entry e) × (start (volume g w .directory .entry e) ≡ startOf ws) × (streamSize (volume g w) e ≡ new)
+  unfolding streamSize sizeOf volume directory directoryOf
   entry-new w hs q =
       let b = v .directory .entry e in
       let l : length b ≡ 128 = ap length (entry-is g img e) ∙ entry-length g z (length img) dirs directory-table img e 0 0 entry-inside refl in (
         subst (λ (x : Bytes). SameFields b x) (sym q) (fields-new b (startOf ws) new l hs fits (entry-facts .1) (entry-facts .2)),
         ap start q ∙ start-new b (startOf ws) new l hs fits,
-        ap size q ∙ size-new b (startOf ws) new l hs fits,
+        ap (size (sizeWidth g)) q ∙ size-new b (startOf ws) new l hs fits (sizeWidth g) (size-counts g),
       )

@@ -1,23 +1,21 @@
 -- Start and size written into an entry.
 use mathlib.Core.Path.{_≡_, refl, ap, _∙_}
-use mathlib.Core.Logic.{_≢_}
+use mathlib.Core.Logic.{_≢_, _⊎_, inl, inr}
 use mathlib.Core.List.{List, [], _∷_, _++_}
 use mathlib.Core.Bool.{Bool, true, false, cond}
 use Prim.Native.Nat.{ℕ, suc, _+_, _-_, _*_, _/_, _≤_, _<_}
 use native.Mathlib.Nat.{add-zero, add-suc, suc-add, mod-eq-of-lt}
 use native.Mathlib.Omega.{arith}
-use lib.Dec.{ltb, leb}
+use lib.Dec.{eqb, ltb}
 use lib.ListN.{length, getD, take, drop, set, length-drop}
 use lib.Seq.{sets, length-sets, ext-getD, getD-take, getD-drop, length-take-le}
 use borrow.Author.Tests.{lt-ltb, ltb-true}
-use Rattle.format.specs.Basics.Lists.{all}
-use Rattle.format.specs.Basics.Bytes.{Bytes, byteAt, part, number, u16at, u32at, u64at, le16, le32, le64, putBytes, put32, put64, allZero, isZero}
-use Rattle.format.specs.Layout.Geometry.{Geometry, placeIn, entriesIn, entryBytes}
+use Rattle.format.specs.Basics.Bytes.{Bytes, byteAt, part, number, u16at, u32at, le16, le32, le64, putBytes, put32, put64}
+use Rattle.format.specs.Layout.Geometry.{Geometry, sizeWidth, placeIn, entriesIn, entryBytes}
 use Rattle.format.specs.Layout.Entry.{nameBytes, name, kind, colour, left, right, child, clsid, created, modified, start, size, nameUnit}
 use Rattle.format.specs.Layout.Directory.{entryIn, entryPlace, entryCount}
 use Rattle.format.specs.Rules.Entries.{nameFields, streamFields, commonFields}
 use Rattle.theory.proofs.Sets.{getD-sets-in, getD-sets-out}
-use Rattle.theory.proofs.Tests.{both}
 use Rattle.frame.specs.Kept.{Sized, Kept, Off, Table}
 use Rattle.frame.specs.Edits.{SameFields}
 use Rattle.theory.proofs.Bytes.{part-same, number-same, number-put, number-le32, number-le64, length-le32, length-le64}
@@ -100,18 +98,26 @@ number-put8 : (b : Bytes) (n : ℕ) → length b ≡ 128 → number (part (sets 
 unfolding le64 le32 le16
 number-put8 b n l = number-put b 120 (le64 n) (omega arith)
 
-zeros4 : allZero (0 ∷ 0 ∷ 0 ∷ 0 ∷ []) ≡ true
-unfolding allZero isZero all
-zeros4 = refl
-
-high-of : (b : Bytes) (n : ℕ) → length b ≡ 128 → n < 0x1_0000_0000 → part (sets b 120 (le64 n)) 124 4 ≡ 0 ∷ 0 ∷ 0 ∷ 0 ∷ []
+-- the lower half of eight bytes that are written
+low-of : (b : Bytes) (n : ℕ) → length b ≡ 128 → n < 0x1_0000_0000 → number (part (sets b 120 (le64 n)) 120 4) ≡ n
 unfolding le64 le32 le16
-high-of b n l h =
-    let q : n / 0x1_0000_0000 ≡ 0 = omega arith in
+low-of b n l h =
     let c = sets b 120 (le32 n) in
     let k : length c ≡ 128 = length-sets b 120 (le32 n) ∙ l in
-    ap (λ (x : Bytes). part x 124 4) (sets-append b 120 (le32 n) (le32 (n / 0x1_0000_0000)) ∙ ap (λ (x : ℕ). sets c 124 (le32 x)) q)
-    ∙ part-put c 124 (0 ∷ 0 ∷ 0 ∷ 0 ∷ []) (omega arith)
+    ap (λ (x : Bytes). number (part x 120 4)) (sets-append b 120 (le32 n) (le32 (n / 0x1_0000_0000)))
+    ∙ number-same (sets c 124 (le32 (n / 0x1_0000_0000))) c 120 120 4 (λ i q. getD-sets-out c 124 (le32 (n / 0x1_0000_0000)) (120 + i) 0 (λ k c e. omega arith))
+    ∙ number-put b 120 (le32 n) (omega arith)
+    ∙ number-le32 n
+    ∙ mod-eq-of-lt h
+
+-- as many bytes of a size count as the version says: four or eight
+pub size-counts : (g : Geometry) → (sizeWidth g ≡ 4) ⊎ (sizeWidth g ≡ 8)
+unfolding sizeWidth
+size-counts g = go (eqb (g .major) 3)
+  where
+    go : (t : Bool) → (cond {A = ℕ} t 4 8 ≡ 4) ⊎ (cond {A = ℕ} t 4 8 ≡ 8)
+    go true = inl refl
+    go false = inr refl
 
 module _ (b : Bytes) (s n : ℕ) where
   -- the bytes below 116
@@ -180,19 +186,14 @@ module _ (b : Bytes) (s n : ℕ) where
         put4 : number (part (sets b 116 (le32 s)) 116 4) ≡ number (le32 s)
         put4 = number-put4 b s l
 
-    pub size-new : size (stamped b s n) ≡ n
-    unfolding size u64at stamped
-    size-new = number-put8 (sets b 116 (le32 s)) n (length-sets b 116 (le32 s) ∙ l) ∙ number-le64 n (omega arith)
-
-    high : part (stamped b s n) 124 4 ≡ 0 ∷ 0 ∷ 0 ∷ 0 ∷ []
-    unfolding stamped
-    high = high-of (sets b 116 (le32 s)) n (length-sets b 116 (le32 s) ∙ l) hn
+    pub size-new : (c : ℕ) → (c ≡ 4) ⊎ (c ≡ 8) → size c (stamped b s n) ≡ n
+    unfolding size stamped
+    size-new c (inl q) = rw q (low-of (sets b 116 (le32 s)) n (length-sets b 116 (le32 s) ∙ l) hn)
+    size-new c (inr q) = rw q (number-put8 (sets b 116 (le32 s)) n (length-sets b 116 (le32 s) ∙ l) ∙ number-le64 n (omega arith))
 
     common-new : commonFields b ≡ true → commonFields (stamped b s n) ≡ true
     unfolding commonFields
-    common-new h =
-        let q = both (leb (colour b) 1) (allZero (part b 124 4)) h in
-        rw (colour-low, q .0, high) zeros4
+    common-new h = rw colour-low h
 
     pub fields-new : nameBytes b ≤ 64 → commonFields b ≡ true → SameFields b (stamped b s n)
     fields-new h c =

@@ -13,8 +13,8 @@ use Rattle.format.specs.Layout.Need.{roundUp}
 use Rattle.format.specs.Layout.Chain.{END}
 use Rattle.format.specs.Layout.Space.{unitsFor, chainFor}
 use Rattle.format.specs.Layout.Tables.{sectorSpace}
-use Rattle.format.specs.Layout.Entry.{isStream, size, start}
-use Rattle.format.specs.Layout.Volume.{Volume, volume, root, systemSectors, miniSpace, directory}
+use Rattle.format.specs.Layout.Entry.{isStream, start}
+use Rattle.format.specs.Layout.Volume.{Volume, volume, systemSectors, miniSpace, directory, rootSize}
 use Rattle.format.specs.Layout.Stream.{spaceFor, streamUnits, streamSize}
 use Rattle.format.specs.Rules.Streams.{streamChain, streamRules, streamRight}
 use Rattle.format.specs.Rules.Owners.{ownedSectors, ownedMinis, ownersIn, ownerRules}
@@ -43,15 +43,15 @@ module _ {g : Geometry} {img : Bytes} (pos : 0 < g .sectorBytes) (ok : ImageGrou
   N = vol .sectors .limit
 
   mini-limit-end : vol .minis .limit ≤ END
-  unfolding volume sectorSpace miniSpace root directory miniBytes
+  unfolding volume sectorSpace miniSpace rootSize miniBytes
   mini-limit-end =
       let c = (mini-stream-chain pos ok) in
-      let n = roundUp (size (root vol)) (vol .sectors .unit) in
+      let n = roundUp (rootSize vol) (vol .sectors .unit) in
       let a = linked-short f N (sector-limit pos ok) (vol .miniStream) (c .linked) in
       let k : n ≤ N = omega (arith, c .long) in
       let b = mul-le-mul-right (vol .sectors .unit) k in
-      let e = round-enough (size (root vol)) (vol .sectors .unit) (unit-pos) in
-      omega (arith, (bounded pos ok), (sector-bytes pos ok), mini-limit, unit-is, div-le-self (size (root vol)) 64, unit-bytes)
+      let e = round-enough (rootSize vol) (vol .sectors .unit) (unit-pos) in
+      omega (arith, (bounded pos ok), (sector-bytes pos ok), mini-limit, unit-is, div-le-self (rootSize vol) 64, unit-bytes)
     where
       unit-pos : 0 < vol .sectors .unit
       unit-pos = pos
@@ -62,7 +62,7 @@ module _ {g : Geometry} {img : Bytes} (pos : 0 < g .sectorBytes) (ok : ImageGrou
       unit-bytes : N * vol .sectors .unit ≡ N * g .sectorBytes
       unit-bytes = refl
 
-      mini-limit : vol .minis .limit ≡ size (root vol) / 64
+      mini-limit : vol .minis .limit ≡ rootSize vol / 64
       mini-limit = refl
 
   stream-chain : (i : ℕ) → i < vol .directory .count → isStream (vol .directory .entry i) ≡ true

@@ -10,9 +10,9 @@ use Rattle.format.specs.Layout.Geometry.{miniBytes}
 use Rattle.format.specs.Layout.Need.{roundUp}
 use Rattle.format.specs.Layout.Chain.{chain}
 use Rattle.format.specs.Layout.Space.{Space, chainFor}
-use Rattle.format.specs.Layout.Entry.{isStream, size, start}
+use Rattle.format.specs.Layout.Entry.{isStream, start}
 use Rattle.format.specs.Layout.Directory.{directorySectors}
-use Rattle.format.specs.Layout.Volume.{Volume, root, systemSectors, directory}
+use Rattle.format.specs.Layout.Volume.{Volume, systemSectors, directory, rootSize}
 use Rattle.format.specs.Layout.Stream.{spaceFor, streamUnits, streamSize}
 use Rattle.format.specs.Rules.Directory.{someChain, directoryRules}
 use Rattle.format.specs.Rules.Mini.{miniRules, miniFatChain, miniStreamChain, miniCellRight}
@@ -32,7 +32,7 @@ mini-chains : (v : Volume) → Good v → (miniFatChain v ≡ true) × (miniStre
 unfolding miniFatChain miniStreamChain chainFor
 mini-chains v h = (
   chain-of (v .sectors) _ _ _ (h .miniFat),
-  and-true-of (eqb (size (root v) % miniBytes) 0) _ (h .rootSize) (chain-of (v .sectors) _ _ _ (h .miniStream)),
+  and-true-of (eqb (rootSize v % miniBytes) 0) _ (h .rootSize) (chain-of (v .sectors) _ _ _ (h .miniStream)),
 )
 
 mini-cells : (v : Volume) → Good v → allBelow (v .minis .limit) (miniCellRight (v .minis)) ≡ true
@@ -58,6 +58,6 @@ good-groups v h =
     stream-ok : (i : ℕ) (st : Bool) → (st ≡ true →
         Chain (spaceOf v (sideOf v i)) (streamUnits v i) (start (v .directory .entry i))
         (roundUp (streamSize v i) (spaceOf v (sideOf v i) .unit))) →
-        (not st || streamChain v (v .directory .entry i)) ≡ true
+        (not st || streamChain v i) ≡ true
     stream-ok i true k = chain-of (spaceOf v (sideOf v i)) _ _ _ (k refl)
     stream-ok i false k = refl

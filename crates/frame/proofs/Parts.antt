@@ -9,7 +9,7 @@ use lib.Dec.{eqb}
 use lib.ListN.{length, getD}
 use Rattle.format.specs.Basics.Lists.{count}
 use Rattle.format.specs.Basics.Bytes.{Bytes, part}
-use Rattle.format.specs.Layout.Geometry.{Geometry, placeIn, cellsIn, miniBytes, sectorCount}
+use Rattle.format.specs.Layout.Geometry.{Geometry, placeIn, cellsIn, miniBytes, sectorCount, sizeWidth}
 use Rattle.format.specs.Layout.Need.{roundUp}
 use Rattle.format.specs.Layout.Header.{fatCount, miniFatCount, directoryStart, miniFatStart}
 use Rattle.format.specs.Layout.Chain.{FATSECT, DIFSECT}
@@ -17,7 +17,7 @@ use Rattle.format.specs.Layout.Space.{unitsFor, block}
 use Rattle.format.specs.Layout.Tables.{cellIn, fatSectors, difatSectors, fatCells, fatCell, sectorSpace}
 use Rattle.format.specs.Rules.Tables.{tableCounts, difatEnds, difatRest, tableSectors, tableMarks, tableRules, markRight}
 use Rattle.format.specs.Layout.Entry.{size, start}
-use Rattle.format.specs.Layout.Directory.{directorySectors, directoryOf, entryIn, entryCount}
+use Rattle.format.specs.Layout.Directory.{directorySectors, directoryOf, entryIn, entryCount, sizeOf}
 use Rattle.format.specs.Layout.Volume.{volume, systemSectors, miniSpace, miniCells, directorySectorsOf, miniFatSectors, miniStreamSectors, directory, root}
 use Rattle.theory.proofs.Counts.{count-at}
 use Rattle.theory.proofs.Tests.{below-ext}
@@ -108,8 +108,8 @@ module _ (g : Geometry) (z : Sized g) (img : Bytes) (A : Sound g img) where
   unfolding volume miniSpace miniStreamSectors unitsFor sectorSpace miniBytes root
   mini-index m h =
       let r = directory g img .entry 0 in
-      let R = roundUp (size r) (g .sectorBytes) in
-      let a = round-enough (size r) (g .sectorBytes) sector-some in
+      let R = roundUp (sizeOf (directory g img) 0) (g .sectorBytes) in
+      let a = round-enough (sizeOf (directory g img) 0) (g .sectorBytes) sector-some in
       let b = A .rootSize in
       let c : g .sectorBytes * R ≡ g .sectorBytes / 64 * R * 64 = omega (arith, ap (λ (n : ℕ). n * R) minis-in-sector) in
       rw (length-units (fatCell g img) R (start r)) (omega (arith, a, b, c, h, mul-comm (g .sectorBytes) R))
@@ -184,11 +184,15 @@ module _ (g : Geometry) (z : Sized g) (T : List ℕ) (a b : Bytes) (x : Kept g (
         rw (kept-miniFatCount g z T a b x, kept-miniFatStart g z T a b x)
         (units-agree (fatCell g a) (fatCell g b) (miniFatCount a) (miniFatStart a) (λ s q. cells s (omega arith)))
 
+    kept-size : sizeOf (directory g b) 0 ≡ sizeOf (directory g a) 0
+    unfolding sizeOf directory directoryOf
+    kept-size = ap (size (sizeWidth g)) kept-root
+
     pub kept-miniStream : miniStreamSectors g b ≡ miniStreamSectors g a
     unfolding miniStreamSectors unitsFor sectorSpace
     kept-miniStream =
-        rw kept-root
-        (units-agree (fatCell g a) (fatCell g b) (roundUp (size (directory g a .entry 0)) (g .sectorBytes)) (start (directory g a .entry 0)) (λ s q. cells s (omega arith)))
+        rw (kept-size, kept-root)
+        (units-agree (fatCell g a) (fatCell g b) (roundUp (sizeOf (directory g a) 0) (g .sectorBytes)) (start (directory g a .entry 0)) (λ s q. cells s (omega arith)))
 
     pub kept-parts : SameParts (volume g a) (volume g b)
     unfolding volume sectorSpace miniSpace miniCells directory directoryOf
@@ -203,10 +207,11 @@ module _ (g : Geometry) (z : Sized g) (T : List ℕ) (a b : Bytes) (x : Kept g (
           miniFatStart = kept-miniFatStart g z T a b x;
           miniFatCount = kept-miniFatCount g z T a b x;
           entryCount = ap (entryCount g) kept-dirs;
+          sizeWidth = refl;
           sectorLimit = kept-sectorCount g z T a b x;
           sectorCells = kept-fatCells g z T a b x;
           sectorUnit = refl;
-          miniLimit = ap (λ (e : Bytes). size e / miniBytes) kept-root;
+          miniLimit = ap (λ (n : ℕ). n / miniBytes) kept-size;
           miniCells = ap (λ (n : ℕ). cellsIn g * n) (kept-miniFatCount g z T a b x);
           miniUnit = refl;
         }

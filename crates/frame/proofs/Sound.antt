@@ -15,9 +15,8 @@ use Rattle.format.specs.Layout.Header.{fatCount, difatCount}
 use Rattle.format.specs.Layout.Chain.{FREE, FATSECT, DIFSECT}
 use Rattle.format.specs.Layout.Tables.{fatSectors, difatSectors, fatCells, fatCell, sectorSpace}
 use Rattle.format.specs.Rules.Tables.{difatNeed, tableCounts, difatEnds, difatRest, tableSectors, tableMarks, tableRules}
-use Rattle.format.specs.Layout.Entry.{size}
 use Rattle.format.specs.Layout.Directory.{directorySectors}
-use Rattle.format.specs.Layout.Volume.{Volume, volume, systemSectors, root, miniSpace, miniCells}
+use Rattle.format.specs.Layout.Volume.{Volume, volume, systemSectors, miniSpace, miniCells, rootSize}
 use Rattle.theory.proofs.Counts.{count-append}
 use Rattle.theory.proofs.Tests.{both}
 use Rattle.frame.specs.Kept.{Sized}
@@ -45,7 +44,7 @@ pub record Sound (g : Geometry) (img : Bytes) : Type 0 where
   pub once : (s : ℕ) → count s (systemSectors (volume g img)) ≤ 1
   pub below : (s : ℕ) → 0 < count s (systemSectors (volume g img)) → s < sectorCount g img
   pub allocated : (s : ℕ) → 0 < count s (systemSectors (volume g img)) → fatCell g img s ≢ FREE
-  pub rootSize : size (root (volume g img)) % 64 ≡ 0
+  pub rootSize : rootSize (volume g img) % 64 ≡ 0
   pub miniEnough : volume g img .minis .limit ≤ miniCells g img
 
 module _ (g : Geometry) (z : Sized g) (img : Bytes) (G : ImageGroups g img) where
@@ -90,6 +89,6 @@ module _ (g : Geometry) (z : Sized g) (img : Bytes) (G : ImageGroups g img) wher
         once = λ s. omega (arith, good .owned false .single s);
         below = good .owned false .within;
         allocated = good .owned false .system;
-        rootSize = eqb-true (size (root v) % 64) 0 (good .rootSize);
+        rootSize = eqb-true (rootSize v % 64) 0 (good .rootSize);
         miniEnough = leb-true (v .minis .limit) (miniCells g img) (good .miniTable);
       }

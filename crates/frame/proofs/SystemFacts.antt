@@ -17,9 +17,9 @@ use Rattle.format.specs.Layout.Need.{roundUp}
 use Rattle.format.specs.Layout.Chain.{FREE, FATSECT, DIFSECT, chain, END, startOf}
 use Rattle.format.specs.Layout.Space.{unitsFor, chainFor}
 use Rattle.format.specs.Layout.Tables.{fatSectors, difatSectors, sectorSpace}
-use Rattle.format.specs.Layout.Entry.{size, start}
+use Rattle.format.specs.Layout.Entry.{start}
 use Rattle.format.specs.Layout.Directory.{directorySectors}
-use Rattle.format.specs.Layout.Volume.{Volume, volume, root, systemSectors, miniFatSectors, miniStreamSectors, directorySectorsOf, directory}
+use Rattle.format.specs.Layout.Volume.{Volume, volume, root, systemSectors, miniFatSectors, miniStreamSectors, directorySectorsOf, directory, rootSize}
 use Rattle.format.specs.Rules.Cells.{plainCell, restFree}
 use Rattle.format.specs.Rules.Tables.{tableRules, tableCounts, difatEnds, difatRest, tableSectors, tableMarks, isSector, markRight}
 use Rattle.format.specs.Rules.Directory.{someChain, directoryRules}
@@ -98,11 +98,11 @@ module _ {g : Geometry} {img : Bytes} (pos : 0 < g .sectorBytes) (ok : ImageGrou
   pub mini-rest : restFree (vol .minis) ≡ true
   mini-rest = mini-parts .4
 
-  mini-stream-parts : (eqb (size (root vol) % miniBytes) 0 ≡ true) × (chainFor (vol .sectors) (size (root vol)) (start (root vol)) ≡ true)
+  mini-stream-parts : (eqb (rootSize vol % miniBytes) 0 ≡ true) × (chainFor (vol .sectors) (rootSize vol) (start (root vol)) ≡ true)
   unfolding miniStreamChain
-  mini-stream-parts = both (eqb (size (root vol) % miniBytes) 0) (chainFor (vol .sectors) (size (root vol)) (start (root vol))) (mini-parts .1)
+  mini-stream-parts = both (eqb (rootSize vol % miniBytes) 0) (chainFor (vol .sectors) (rootSize vol) (start (root vol))) (mini-parts .1)
 
-  pub root-size : eqb (size (root vol) % miniBytes) 0 ≡ true
+  pub root-size : eqb (rootSize vol % miniBytes) 0 ≡ true
   root-size = mini-stream-parts .0
 
   pub mini-fat-chain : Chain (vol .sectors) (vol .miniFat) (vol .miniFatStart) (vol .miniFatCount)
@@ -111,10 +111,10 @@ module _ {g : Geometry} {img : Bytes} (pos : 0 < g .sectorBytes) (ok : ImageGrou
       let c = chain-linked f N (vol .miniFatCount) (vol .miniFatStart) (mini-parts .0) in
       record { linked = c .0; head = c .1; long = length-units f (vol .miniFatCount) (vol .miniFatStart) }
 
-  pub mini-stream-chain : Chain (vol .sectors) (vol .miniStream) (start (root vol)) (roundUp (size (root vol)) (vol .sectors .unit))
-  unfolding volume miniStreamSectors root chainFor unitsFor
+  pub mini-stream-chain : Chain (vol .sectors) (vol .miniStream) (start (root vol)) (roundUp (rootSize vol) (vol .sectors .unit))
+  unfolding volume miniStreamSectors root rootSize chainFor unitsFor
   mini-stream-chain =
-      let n = roundUp (size (root vol)) (vol .sectors .unit) in
+      let n = roundUp (rootSize vol) (vol .sectors .unit) in
       let c = chain-linked f N n (start (root vol)) (mini-stream-parts .1) in
       record { linked = c .0; head = c .1; long = length-units f n (start (root vol)) }
 

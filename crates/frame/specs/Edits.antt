@@ -47,6 +47,7 @@ pub record SameParts (v w : Volume) : Type 0 where
   pub miniFatStart : w .miniFatStart ≡ v .miniFatStart
   pub miniFatCount : w .miniFatCount ≡ v .miniFatCount
   pub entryCount : w .directory .count ≡ v .directory .count
+  pub sizeWidth : w .directory .sizeWidth ≡ v .directory .sizeWidth
   pub sectorLimit : w .sectors .limit ≡ v .sectors .limit
   pub sectorCells : w .sectors .cells ≡ v .sectors .cells
   pub sectorUnit : w .sectors .unit ≡ v .sectors .unit
@@ -100,7 +101,7 @@ pub record IsResized (g : Geometry) (img : Bytes) (e new m : ℕ) (img′ : Byte
   pub others : (i : ℕ) → i ≢ e → volume g img′ .directory .entry i ≡ volume g img .directory .entry i
   pub fields : SameFields (volume g img .directory .entry e) (volume g img′ .directory .entry e)
   pub start : start (volume g img′ .directory .entry e) ≡ startOf (newUnits (volume g img) e new)
-  pub size : size (volume g img′ .directory .entry e) ≡ new
+  pub size : streamSize (volume g img′) e ≡ new
   pub sectorCells : Relinked (volume g img .sectors) (volume g img′ .sectors)
       (inSectors m (streamUnits (volume g img) e)) (inSectors m (newUnits (volume g img) e new))
   pub miniCells : Relinked (volume g img .minis) (volume g img′ .minis)

@@ -9,8 +9,8 @@ use Rattle.format.specs.Basics.Lists.{listBelow}
 use Rattle.format.specs.Layout.Need.{cutoff, roundUp}
 use Rattle.format.specs.Layout.Geometry.{miniBytes}
 use Rattle.format.specs.Layout.Space.{Space}
-use Rattle.format.specs.Layout.Entry.{start, size, isStream}
-use Rattle.format.specs.Layout.Volume.{Volume, systemSectors, root}
+use Rattle.format.specs.Layout.Entry.{start, isStream}
+use Rattle.format.specs.Layout.Volume.{Volume, systemSectors, root, rootSize}
 use Rattle.format.specs.Layout.Stream.{streamUnits, streamSize}
 use Rattle.format.specs.Layout.Chain.{END, startOf}
 use Rattle.format.specs.Rules.Cells.{plainCell, restFree, cellRules}
@@ -55,8 +55,8 @@ pub record Good (v : Volume) : Type 0 where
   pub directoryLong : leb 1 (length (v .directorySectors)) ≡ true
   -- 16
   pub miniFat : Chain (v .sectors) (v .miniFat) (v .miniFatStart) (v .miniFatCount)
-  pub miniStream : Chain (v .sectors) (v .miniStream) (start (root v)) (roundUp (size (root v)) (v .sectors .unit))
-  pub rootSize : eqb (size (root v) % miniBytes) 0 ≡ true
+  pub miniStream : Chain (v .sectors) (v .miniStream) (start (root v)) (roundUp (rootSize v) (v .sectors .unit))
+  pub rootSize : eqb (rootSize v % miniBytes) 0 ≡ true
   pub miniTable : leb (v .minis .limit) (v .minis .cells) ≡ true
   pub miniCells : (m : ℕ) → m < v .minis .limit → plainCell (v .minis) (v .minis .cell m) ≡ true
   pub miniRest : restFree (v .minis) ≡ true

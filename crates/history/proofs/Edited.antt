@@ -13,7 +13,8 @@ use Rattle.format.specs.Basics.Bytes.{Bytes}
 use Rattle.format.specs.Layout.Need.{cutoff, roundUp}
 use Rattle.format.specs.Layout.Chain.{FREE, END, startOf}
 use Rattle.format.specs.Layout.Entry.{name, kind, colour, left, right, child, isStream, size, start}
-use Rattle.format.specs.Layout.Volume.{Volume, root, systemSectors}
+use Rattle.format.specs.Layout.Directory.{sizeOf}
+use Rattle.format.specs.Layout.Volume.{Volume, root, rootSize, systemSectors}
 use Rattle.format.specs.Layout.Stream.{streamUnits, streamSize}
 use Rattle.format.specs.Rules.Cells.{plainCell, restFree, cellRules, tableMark, spareCellFree, fatCellRight}
 use Rattle.format.specs.Rules.Entries.{entryRules, entryFields, entryRight}
@@ -133,6 +134,10 @@ module _ {v w : Volume} {img img′ : Bytes} {e new : ℕ} {ws : Bool → List �
   unfolding root
   root-same = x .others 0 (λ z. not-root (sym z))
 
+  root-size-same : rootSize w ≡ rootSize v
+  unfolding rootSize sizeOf root
+  root-size-same = ap₂ size (x .parts .sizeWidth) root-same
+
   streams-after : (i : ℕ) → i < w .directory .count → isStream (w .directory .entry i) ≡ true
       → Chain (spaceOf w (sideOf w i)) (streamUnits w i) (start (w .directory .entry i))
       (roundUp (streamSize w i) (spaceOf w (sideOf w i) .unit))
@@ -170,14 +175,14 @@ module _ {v w : Volume} {img img′ : Bytes} {e new : ℕ} {ws : Bool → List �
         miniFat = rw (x .parts .miniFat, x .parts .miniFatStart, x .parts .miniFatCount)
             (system-chain-stays (v .miniFat) (v .miniFatStart) (v .miniFatCount) (λ t q. omega (arith, counts-in-system t .1)) (o .miniFat));
         miniStream =
-            let k = system-chain-stays (v .miniStream) (start (root v)) (roundUp (size (root v)) (v .sectors .unit)) (λ t q. omega (arith, counts-in-system t .2))
+            let k = system-chain-stays (v .miniStream) (start (root v)) (roundUp (rootSize v) (v .sectors .unit)) (λ t q. omega (arith, counts-in-system t .2))
             (o .miniStream) in
             record {
               linked = subst (λ us. Linked (w .sectors .cell) (w .sectors .limit) us) (sym (x .parts .miniStream)) (k .linked);
               head = ap startOf (x .parts .miniStream) ∙ k .head ∙ sym (ap start root-same);
-              long = ap length (x .parts .miniStream) ∙ k .long ∙ sym (ap₂ roundUp (ap size root-same) (x .parts .sectorUnit));
+              long = ap length (x .parts .miniStream) ∙ k .long ∙ sym (ap₂ roundUp root-size-same (x .parts .sectorUnit));
             };
-        rootSize = rw root-same (o .rootSize);
+        rootSize = rw root-size-same (o .rootSize);
         miniTable = rw (x .parts .miniLimit, x .parts .miniCells) (o .miniTable);
         miniCells = mini-cells-after;
         miniRest = rest-kept true (o .miniRest);

@@ -1,6 +1,6 @@
 -- The units of every stream after an accepted edit: the edited stream has its new ones, and every other stream keeps its own.
 use Prim.Native.Nat.{ℕ, _<_}
-use mathlib.Core.Path.{_≡_, refl, sym, ap, _∙_, subst}
+use mathlib.Core.Path.{_≡_, refl, sym, ap, ap₂, _∙_, subst}
 use mathlib.Core.Logic.{_≢_}
 use mathlib.Core.Bool.{Bool, true, false, not, cond, _&&_, Bool·beq}
 use mathlib.Core.List.{List, []}
@@ -10,6 +10,7 @@ use lib.ListN.{length, getD, set, length-set}
 use lib.Seq.{getD-set-same, getD-set-other}
 use Rattle.format.specs.Basics.Lists.{listBelow, count}
 use Rattle.format.specs.Basics.Bytes.{Bytes}
+use Rattle.format.specs.Layout.Directory.{sizeOf}
 use Rattle.format.specs.Layout.Need.{cutoff, roundUp}
 use Rattle.format.specs.Layout.Chain.{units, startOf}
 use Rattle.format.specs.Layout.Space.{unitsFor}
@@ -111,8 +112,8 @@ module _ {v w : Volume} {img img′ : Bytes} {e new : ℕ} {ws : Bool → List �
       (units-self v i st) (other-linked (sideOf v i) i h z)
 
   pub size-other : (i : ℕ) → i ≢ e → streamSize w i ≡ streamSize v i
-  unfolding streamSize
-  size-other i z = ap size (x .others i z)
+  unfolding streamSize sizeOf
+  size-other i z = ap₂ size (x .parts .sizeWidth) (x .others i z)
 
   pub units-other : (i : ℕ) → i < v .directory .count → i ≢ e → isStream (v .directory .entry i) ≡ true → streamUnits w i ≡ streamUnits v i
   units-other i h z st =

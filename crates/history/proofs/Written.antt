@@ -1,12 +1,13 @@
 -- An overwrite is a `Changed` of the volume with the same units and length, and it puts its bytes into the stream's.
 use Prim.Native.Nat.{ℕ, _*_, _<_}
-use mathlib.Core.Path.{_≡_, refl, sym, ap, _∙_}
+use mathlib.Core.Path.{_≡_, refl, sym, ap, ap₂, _∙_}
 use mathlib.Core.Bool.{Bool, true, false, not, cond, Bool·beq}
 use mathlib.Core.List.{List, []}
 use lib.Dec.{ltb}
 use lib.ListN.{length, take}
 use lib.Seq.{sets, length-sets}
 use Rattle.format.specs.Basics.Bytes.{Bytes, putBytes}
+use Rattle.format.specs.Layout.Directory.{sizeOf}
 use Rattle.format.specs.Layout.Geometry.{Geometry}
 use Rattle.format.specs.Layout.Need.{cutoff}
 use Rattle.format.specs.Layout.Space.{laid, block}
@@ -104,8 +105,8 @@ module _ (g : Geometry) (pos : 0 < g .sectorBytes) (fr : Frame g) (img : Bytes) 
     here-units = units-in side ∙ ap (λ t. cond t units []) (beq-self side)
 
     same-size : streamSize (volume g after) e ≡ len
-    unfolding streamSize
-    same-size = ap size (wrote .entries e)
+    unfolding streamSize sizeOf
+    same-size = ap₂ size (wrote .kept .parts .sizeWidth) (wrote .entries e)
 
     pub write-changed : Changed v (volume g after) img after e len (λ b. unitsOf v b e) contentIn
     write-changed =

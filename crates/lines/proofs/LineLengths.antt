@@ -1,7 +1,7 @@
 -- How long a line is, and its parts.
 use mathlib.Core.Path.{_≡_, refl, ap, _∙_}
 use mathlib.Core.Bool.{Bool, true, false, cond}
-use mathlib.Core.List.{[], _∷_, _++_, append-assoc}
+use mathlib.Core.List.{[], _∷_, _++_}
 use Prim.Native.Nat.{ℕ, zero, suc, _+_, _≤_, _<_}
 use native.Mathlib.Omega.{arith}
 use lib.ListN.{length, take, length-append}
@@ -9,37 +9,36 @@ use lib.Seq.{length-take-le}
 use Rattle.format.specs.Basics.Bytes.{Bytes}
 use Rattle.format.specs.Layout.Name.{slash}
 use Rattle.format.specs.Layout.Entry.{name, size, isStream}
-use Rattle.format.specs.Calls.Text.{newline, space, decimal, printName}
-use Rattle.format.specs.Calls.Listing.{line}
+use Rattle.format.specs.Calls.Text.{space, decimal, printName}
 use Rattle.entries.specs.Entry.{entryAt, NamedAt}
 use Rattle.text.proofs.Decimals.{decimal-most}
 use Rattle.text.proofs.Units.{name-most}
 use Rattle.text.proofs.Names.{units-most}
-use Rattle.lines.specs.Lines.{head, before, beforeLength, lineLength}
+use Rattle.lines.specs.Lines.{head, before, beforeLength, lineText, lineLength}
 
 -- ---- what stands before the path
 
-pub head-stream : (e : Bytes) → isStream e ≡ true → head e ≡ ((0x46 ∷ space ∷ []) ++ decimal (size e)) ++ (space ∷ [])
+pub head-stream : (width : ℕ) (e : Bytes) → isStream e ≡ true → head width e ≡ ((0x46 ∷ space ∷ []) ++ decimal (size width e)) ++ (space ∷ [])
 unfolding head
-head-stream e h = rw h
+head-stream width e h = rw h
 
-pub head-storage : (e : Bytes) → isStream e ≡ false → head e ≡ 0x44 ∷ space ∷ 0x30 ∷ space ∷ []
+pub head-storage : (width : ℕ) (e : Bytes) → isStream e ≡ false → head width e ≡ 0x44 ∷ space ∷ 0x30 ∷ space ∷ []
 unfolding head
-head-storage e h = rw h
+head-storage width e h = rw h
 
-pub stream-length : (e : Bytes) → isStream e ≡ true → length (head e) ≡ length (decimal (size e)) + 3
-stream-length e h =
-    ap length (head-stream e h)
-    ∙ omega (arith, length-append ((0x46 ∷ space ∷ []) ++ decimal (size e)) (space ∷ []), length-append (0x46 ∷ space ∷ []) (decimal (size e)))
+pub stream-length : (width : ℕ) (e : Bytes) → isStream e ≡ true → length (head width e) ≡ length (decimal (size width e)) + 3
+stream-length width e h =
+    ap length (head-stream width e h)
+    ∙ omega (arith, length-append ((0x46 ∷ space ∷ []) ++ decimal (size width e)) (space ∷ []), length-append (0x46 ∷ space ∷ []) (decimal (size width e)))
 
-pub storage-length : (e : Bytes) → isStream e ≡ false → length (head e) ≡ 4
-storage-length e h = ap length (head-storage e h)
+pub storage-length : (width : ℕ) (e : Bytes) → isStream e ≡ false → length (head width e) ≡ 4
+storage-length width e h = ap length (head-storage width e h)
 
-pub head-most : (e : Bytes) → length (head e) ≤ 23
+pub head-most : (width : ℕ) (e : Bytes) → length (head width e) ≤ 23
 unfolding head
-head-most e =
-    let d = decimal (size e) in
-    go (isStream e) d (decimal-most (size e))
+head-most width e =
+    let d = decimal (size width e) in
+    go (isStream e) d (decimal-most (size width e))
   where
     go : (b : Bool) (d : Bytes) → length d ≤ 20 → length (cond b (0x46 ∷ space ∷ d) (0x44 ∷ space ∷ 0x30 ∷ []) ++ (space ∷ [])) ≤ 23
     go true d h = omega (arith, length-append (0x46 ∷ space ∷ d) (space ∷ []))
@@ -77,34 +76,30 @@ before-most (suc n) = omega arith
 
 -- ---- the line
 
-pub line-parts : (e path : Bytes) → line e path ≡ head e ++ path ++ (newline ∷ [])
-unfolding line head
-line-parts e path = simp append-assoc
+pub length-line : (width : ℕ) (e path : Bytes) → length (lineText width e path) ≡ length (head width e) + length path + 1
+length-line width e path = simp length-append
 
-pub length-line : (e path : Bytes) → length (line e path) ≡ length (head e) + length path + 1
-length-line e path = ap length (line-parts e path) ∙ simp length-append
-
-pub length-parts : (e : Bytes) (parent : ℕ) → lineLength e parent ≡ length (head e) + beforeLength parent + length (printName (name e)) + 1
+pub length-parts : (width : ℕ) (e : Bytes) (parent : ℕ) → lineLength width e parent ≡ length (head width e) + beforeLength parent + length (printName (name e)) + 1
 unfolding lineLength
-length-parts e parent = omega arith
+length-parts width e parent = omega arith
 
 -- of a path that goes on behind the parent's
-pub line-length : (e : Bytes) (parent : ℕ) (text : Bytes) → parent ≤ length text
-    → length (line e (before parent text ++ printName (name e))) ≡ lineLength e parent
+pub line-length : (width : ℕ) (e : Bytes) (parent : ℕ) (text : Bytes) → parent ≤ length text
+    → length (lineText width e (before parent text ++ printName (name e))) ≡ lineLength width e parent
 unfolding lineLength
-line-length e parent text h =
-    omega (arith, length-line e (before parent text ++ printName (name e)), length-append (before parent text) (printName (name e)), before-length parent text h)
+line-length width e parent text h =
+    omega (arith, length-line width e (before parent text ++ printName (name e)), length-append (before parent text) (printName (name e)), before-length parent text h)
 
-pub line-none : (e : Bytes) (parent : ℕ) → parent ≡ 0 → lineLength e parent ≡ length (head e) + length (printName (name e)) + 1
+pub line-none : (width : ℕ) (e : Bytes) (parent : ℕ) → parent ≡ 0 → lineLength width e parent ≡ length (head width e) + length (printName (name e)) + 1
 unfolding lineLength
-line-none e parent h = omega (arith, none-length parent h)
+line-none width e parent h = omega (arith, none-length parent h)
 
-pub line-some : (e : Bytes) (parent : ℕ) → 0 < parent → lineLength e parent ≡ length (head e) + length (printName (name e)) + 1 + parent + 1
+pub line-some : (width : ℕ) (e : Bytes) (parent : ℕ) → 0 < parent → lineLength width e parent ≡ length (head width e) + length (printName (name e)) + 1 + parent + 1
 unfolding lineLength
-line-some e parent h = omega (arith, some-length parent h)
+line-some width e parent h = omega (arith, some-length parent h)
 
-pub line-most : {img : Bytes} {p : ℕ} (parent : ℕ) → NamedAt img p → lineLength (entryAt img p) parent ≤ parent + 180
+pub line-most : (width : ℕ) {img : Bytes} {p : ℕ} (parent : ℕ) → NamedAt img p → lineLength width (entryAt img p) parent ≤ parent + 180
 unfolding lineLength
-line-most {img} {p} parent n =
+line-most width {img} {p} parent n =
     let e = entryAt img p in
-    omega (arith, head-most e, before-most parent, name-most (name e), units-most n)
+    omega (arith, head-most width e, before-most parent, name-most (name e), units-most n)

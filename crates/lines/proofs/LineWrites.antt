@@ -13,12 +13,11 @@ use Rattle.format.specs.Layout.Name.{slash}
 use Rattle.format.specs.Layout.Entry.{name, size, isStream}
 use Rattle.format.specs.Calls.Read.{over}
 use Rattle.format.specs.Calls.Text.{newline, space, decimal, printName}
-use Rattle.format.specs.Calls.Listing.{line}
 use Rattle.theory.proofs.ByteTests.{length-part}
 use Rattle.text.proofs.Over.{over-length, over-sets, over-lent}
 use Rattle.text.proofs.Filled.{Filled, over-set, filled-start, filled-lent, filled-behind, filled-set, filled-end, filled-kept}
-use Rattle.lines.specs.Lines.{head, before, beforeLength, lineLength, putAt, beforePut, linePut}
-use Rattle.lines.proofs.LineLengths.{head-stream, head-storage, stream-length, storage-length, before-length, none-before, none-length, some-before, some-length, line-parts, length-parts, line-length}
+use Rattle.lines.specs.Lines.{head, before, beforeLength, lineText, lineLength, putAt, beforePut, linePut}
+use Rattle.lines.proofs.LineLengths.{head-stream, head-storage, stream-length, storage-length, before-length, none-before, none-length, some-before, some-length, length-parts, line-length}
 
 -- one byte more copied from a place to a later one
 pub copied-more : (out : Bytes) (from to i : ℕ) → from + i < to → to + i < length out
@@ -41,24 +40,24 @@ abbrev pub started : Bytes → Bytes
 started out = set (set out 0 0x46) 1 space
 
 -- those of a stream
-module _ (e out : Bytes) (h : isStream e ≡ true) (b : length (head e) ≤ length out) where
-  pub put-size : {n : ℕ} {new : Bytes} → n ≡ size e → new ≡ over (decimal n) (take (length (started out) - 2) (drop 2 (started out)))
-      → take 2 (started out) ++ (new ++ drop (length (started out) - 2) (drop 2 (started out))) ≡ over ((0x46 ∷ space ∷ []) ++ decimal (size e)) out
+module _ (width : ℕ) (e out : Bytes) (h : isStream e ≡ true) (b : length (head width e) ≤ length out) where
+  pub put-size : {n : ℕ} {new : Bytes} → n ≡ size width e → new ≡ over (decimal n) (take (length (started out) - 2) (drop 2 (started out)))
+      → take 2 (started out) ++ (new ++ drop (length (started out) - 2) (drop 2 (started out))) ≡ over ((0x46 ∷ space ∷ []) ++ decimal (size width e)) out
   put-size {new = new} s q =
-      over-lent (0x46 ∷ space ∷ []) (decimal (size e)) out (started out) 2 {new = new} (over-sets (0x46 ∷ space ∷ []) out (omega (arith, stream-length e h))) refl (rw (← s) q)
+      over-lent (0x46 ∷ space ∷ []) (decimal (size width e)) out (started out) 2 {new = new} (over-sets (0x46 ∷ space ∷ []) out (omega (arith, stream-length width e h))) refl (rw (← s) q)
 
-  pub size-length : length (over ((0x46 ∷ space ∷ []) ++ decimal (size e)) out) ≡ length out
+  pub size-length : length (over ((0x46 ∷ space ∷ []) ++ decimal (size width e)) out) ≡ length out
   size-length =
-      let new = (0x46 ∷ space ∷ []) ++ decimal (size e) in
-      over-length new out (omega (arith, stream-length e h, length-append (0x46 ∷ space ∷ []) (decimal (size e))))
+      let new = (0x46 ∷ space ∷ []) ++ decimal (size width e) in
+      over-length new out (omega (arith, stream-length width e h, length-append (0x46 ∷ space ∷ []) (decimal (size width e))))
 
-  pub put-stream : {k : ℕ} → k ≡ length (decimal (size e)) → set (over ((0x46 ∷ space ∷ []) ++ decimal (size e)) out) (2 + k) space ≡ over (head e) out
+  pub put-stream : {k : ℕ} → k ≡ length (decimal (size width e)) → set (over ((0x46 ∷ space ∷ []) ++ decimal (size width e)) out) (2 + k) space ≡ over (head width e) out
   put-stream q =
-      rw (head-stream e h)
-      (over-set ((0x46 ∷ space ∷ []) ++ decimal (size e)) out space (omega (arith, length-append (0x46 ∷ space ∷ []) (decimal (size e)))) (omega (arith, stream-length e h)))
+      rw (head-stream width e h)
+      (over-set ((0x46 ∷ space ∷ []) ++ decimal (size width e)) out space (omega (arith, length-append (0x46 ∷ space ∷ []) (decimal (size width e)))) (omega (arith, stream-length width e h)))
 
-pub put-storage : (e out : Bytes) → isStream e ≡ false → length (head e) ≤ length out → set (set (set (set out 0 0x44) 1 space) 2 0x30) 3 space ≡ over (head e) out
-put-storage e out h b = rw (head-storage e h) (over-sets (0x44 ∷ space ∷ 0x30 ∷ space ∷ []) out (omega (arith, storage-length e h)))
+pub put-storage : (width : ℕ) (e out : Bytes) → isStream e ≡ false → length (head width e) ≤ length out → set (set (set (set out 0 0x44) 1 space) 2 0x30) 3 space ≡ over (head width e) out
+put-storage width e out h b = rw (head-storage width e h) (over-sets (0x44 ∷ space ∷ 0x30 ∷ space ∷ []) out (omega (arith, storage-length width e h)))
 
 -- ---- what stands in a path before the name
 
@@ -90,40 +89,40 @@ before-same zero s t e = refl
 before-same (suc n) s t e = ap (λ (l : Bytes). l ++ (slash ∷ [])) e
 
 -- the bytes before the name
-abbrev pub nameless : Bytes → Bytes → ℕ → ℕ → ℕ → Bytes
-nameless out e at from parent = take at out ++ head e ++ before parent (drop from out)
+abbrev pub nameless : ℕ → Bytes → Bytes → ℕ → ℕ → ℕ → Bytes
+nameless width out e at from parent = take at out ++ head width e ++ before parent (drop from out)
 
 -- the head, what is before the name, the name, and the end of the line
-module _ (out e : Bytes) (at from parent : ℕ) (h : from + parent ≤ at) (b : at + lineLength e parent ≤ length out) where
+module _ (width : ℕ) (out e : Bytes) (at from parent : ℕ) (h : from + parent ≤ at) (b : at + lineLength width e parent ≤ length out) where
   path-before : length (before parent (drop from out)) ≡ beforeLength parent
   path-before = before-length parent (drop from out) (omega (arith, length-drop from out))
 
-  pub line-head : {n : ℕ} {new : Bytes} → n ≡ length (head e) → new ≡ over (head e) (take (length out - at) (drop at out))
-      → Filled out (take at out ++ head e) (take at out ++ (new ++ drop (length out - at) (drop at out))) (at + n)
-  line-head {n} {new} l q = filled-lent (filled-start out at (omega arith)) (head e) {new = new} (omega (arith, length-parts e parent)) l q
+  pub line-head : {n : ℕ} {new : Bytes} → n ≡ length (head width e) → new ≡ over (head width e) (take (length out - at) (drop at out))
+      → Filled out (take at out ++ head width e) (take at out ++ (new ++ drop (length out - at) (drop at out))) (at + n)
+  line-head {n} {new} l q = filled-lent (filled-start out at (omega arith)) (head width e) {new = new} (omega (arith, length-parts width e parent)) l q
 
-  pub line-before : {now new : Bytes} {k n : ℕ} → Filled out (take at out ++ head e) now k → n ≡ beforeLength parent
+  pub line-before : {now new : Bytes} {k n : ℕ} → Filled out (take at out ++ head width e) now k → n ≡ beforeLength parent
       → new ≡ beforePut k from parent now
-      → Filled out (nameless out e at from parent) new (k + n)
+      → Filled out (nameless width out e at from parent) new (k + n)
   line-before {now} {new} {k} {n} w l q =
-      let s = before-same parent (drop from now) (drop from out) (filled-kept at (head e) w (omega arith) from parent h) in
+      let s = before-same parent (drop from now) (drop from out) (filled-kept at (head width e) w (omega arith) from parent h) in
       filled-behind w (before parent (drop from out)) {new = new}
-      (omega (arith, length-parts e parent, path-before, w .count, length-append (take at out) (head e), length-take-le at out (omega arith))) (l ∙ sym path-before) (rw (l, ← s) q)
+      (omega (arith, length-parts width e parent, path-before, w .count, length-append (take at out) (head width e), length-take-le at out (omega arith))) (l ∙ sym path-before) (rw (l, ← s) q)
 
-  name-place : {now : Bytes} {k : ℕ} → Filled out (nameless out e at from parent) now k → k ≡ at + length (head e) + beforeLength parent
+  name-place : {now : Bytes} {k : ℕ} → Filled out (nameless width out e at from parent) now k → k ≡ at + length (head width e) + beforeLength parent
   name-place w =
-      omega (arith, w .count, path-before, length-append (take at out ++ head e) (before parent (drop from out)), length-append (take at out) (head e), length-take-le at out (omega arith))
+      omega (arith, w .count, path-before, length-append (take at out ++ head width e) (before parent (drop from out)), length-append (take at out) (head width e), length-take-le at out (omega arith))
 
-  pub name-room : {now : Bytes} {k : ℕ} → Filled out (nameless out e at from parent) now k → k + length (printName (name e)) < length out
-  name-room w = omega (arith, name-place w, length-parts e parent)
+  pub name-room : {now : Bytes} {k : ℕ} → Filled out (nameless width out e at from parent) now k → k + length (printName (name e)) < length out
+  name-room w = omega (arith, name-place w, length-parts width e parent)
 
-  pub line-name : {now new : Bytes} {k n : ℕ} → Filled out (nameless out e at from parent) now k → n ≡ length (printName (name e)) → new ≡ over (printName (name e)) (take (length now - k) (drop k now))
-      → Filled out (nameless out e at from parent ++ printName (name e)) (take k now ++ (new ++ drop (length now - k) (drop k now))) (k + n)
+  pub line-name : {now new : Bytes} {k n : ℕ} → Filled out (nameless width out e at from parent) now k → n ≡ length (printName (name e)) → new ≡ over (printName (name e)) (take (length now - k) (drop k now))
+      → Filled out (nameless width out e at from parent ++ printName (name e)) (take k now ++ (new ++ drop (length now - k) (drop k now))) (k + n)
   line-name {new = new} w l q = filled-lent w (printName (name e)) {new = new} (omega (arith, name-room w)) l q
 
-  pub line-end : {now : Bytes} {k : ℕ} → Filled out (nameless out e at from parent ++ printName (name e)) now k → k < length out
-      → set now k newline ≡ linePut e at from parent out
+  pub line-end : {now : Bytes} {k : ℕ} → Filled out (nameless width out e at from parent ++ printName (name e)) now k → k < length out
+      → set now k newline ≡ linePut width e at from parent out
   line-end {now} {k} w r =
       let p = before parent (drop from out) ++ printName (name e) in
-      let s : Filled out (take at out ++ line e p) (set now k newline) (k + 1) = rw (line-parts e p) (simp append-assoc (simp append-assoc at (filled-set w newline r))) in
-      filled-end at (line e p) s (omega arith) (sym (line-length e parent (drop from out) (omega (arith, length-drop from out))))
+      let s : Filled out (take at out ++ lineText width e p) (set now k newline) (k + 1) = simp append-assoc (simp append-assoc at (filled-set w newline r)) in
+      filled-end at (lineText width e p) s (omega arith) (sym (line-length width e parent (drop from out) (omega (arith, length-drop from out))))

@@ -5,9 +5,10 @@ ghost use lib.ListN.{length};
 ghost use Rattle.format.specs.Basics.Bytes.{part};
 ghost use Rattle.format.specs.Calls.Read.{over};
 ghost use Rattle.entries.specs.Entry.{entryAt, NamedAt};
-ghost use Rattle.lines.specs.Lines.{head, beforeLength, lineLength, putAt, beforePut, linePut};
+ghost use Rattle.lines.specs.Lines.{widthOf, head, beforeLength, lineLength, putAt, beforePut, linePut};
 use entries::entry_type;
 use entries::size;
+use kinds::Geometry;
 use text::decimal_length;
 use text::name_length;
 use text::put_decimal;
@@ -16,23 +17,23 @@ use text::put_name;
 // ---- lengths
 
 // How many bytes a line of the entry at p has before its path: `F SIZE ` or `D 0 `.
-fn head_length(img: &[u8], p: usize) -> usize
+fn head_length(img: &[u8], p: usize, g: Geometry) -> usize
     requires { ⌜ p + 128 ≤ length (now img) ⌝ }
-    ensures { λ r. ⌜ r ≡ length (head (entryAt (now (img .entry)) p)) ⌝ }
+    ensures { λ r. ⌜ r ≡ length (head (widthOf g) (entryAt (now (img .entry)) p)) ⌝ }
 {
     if entry_type(img, p).is_stream() {
-        return decimal_length(size(img, p)) + 3;
+        return decimal_length(size(img, p, g)) + 3;
     }
     4
 }
 
 // How many bytes the line of the entry at p has, if its parent's path has so many; 0 is the root's.
-pub fn line_length(img: &[u8], p: usize, parent: usize) -> usize
+pub fn line_length(img: &[u8], p: usize, g: Geometry, parent: usize) -> usize
     requires { ⌜ NamedAt (now img) p ⌝ }
     requires { ⌜ parent < 0x1_0000_0000 ⌝ }
-    ensures { λ r. ⌜ r ≡ lineLength (entryAt (now (img .entry)) p) parent ⌝ }
+    ensures { λ r. ⌜ r ≡ lineLength (widthOf g) (entryAt (now (img .entry)) p) parent ⌝ }
 {
-    let n = head_length(img, p) + name_length(img, p) + 1;
+    let n = head_length(img, p, g) + name_length(img, p) + 1;
     if parent == 0 {
         return n;
     }
@@ -42,16 +43,16 @@ pub fn line_length(img: &[u8], p: usize, parent: usize) -> usize
 // ---- writing
 
 // Writes what stands in a line before the path, and returns how many bytes it takes.
-fn put_head(out: &mut [u8], img: &[u8], p: usize) -> usize
+fn put_head(out: &mut [u8], img: &[u8], p: usize, g: Geometry) -> usize
     requires { ⌜ p + 128 ≤ length (now img) ⌝ }
-    requires { ⌜ length (head (entryAt (now img) p)) ≤ length (now out) ⌝ }
-    ensures count { λ r. ⌜ r ≡ length (head (entryAt (now (img .entry)) p)) ⌝ }
-    ensures written { λ _. ⌜ now (out .exit) ≡ over (head (entryAt (now (img .entry)) p)) (now (out .entry)) ⌝ }
+    requires { ⌜ length (head (widthOf g) (entryAt (now img) p)) ≤ length (now out) ⌝ }
+    ensures count { λ r. ⌜ r ≡ length (head (widthOf g) (entryAt (now (img .entry)) p)) ⌝ }
+    ensures written { λ _. ⌜ now (out .exit) ≡ over (head (widthOf g) (entryAt (now (img .entry)) p)) (now (out .entry)) ⌝ }
 {
     if entry_type(img, p).is_stream() {
         out[0] = 0x46;
         out[1] = 0x20;
-        let n = put_decimal(&mut out[2..], size(img, p));
+        let n = put_decimal(&mut out[2..], size(img, p, g));
         out[2 + n] = 0x20;
         return n + 3;
     }
@@ -97,16 +98,17 @@ pub fn put_line(
     at: usize,
     img: &[u8],
     p: usize,
+    g: Geometry,
     from: usize,
     parent: usize,
 ) -> usize
     requires { ⌜ NamedAt (now img) p ⌝ }
     requires { ⌜ from + parent ≤ at ⌝ }
-    requires { ⌜ at + lineLength (entryAt (now img) p) parent ≤ length (now out) ⌝ }
-    ensures path { λ r. ⌜ r ≡ at + length (head (entryAt (now (img .entry)) p)) ⌝ }
-    ensures written { λ _. ⌜ now (out .exit) ≡ linePut (entryAt (now (img .entry)) p) at from parent (now (out .entry)) ⌝ }
+    requires { ⌜ at + lineLength (widthOf g) (entryAt (now img) p) parent ≤ length (now out) ⌝ }
+    ensures path { λ r. ⌜ r ≡ at + length (head (widthOf g) (entryAt (now (img .entry)) p)) ⌝ }
+    ensures written { λ _. ⌜ now (out .exit) ≡ linePut (widthOf g) (entryAt (now (img .entry)) p) at from parent (now (out .entry)) ⌝ }
 {
-    let start = at + put_head(&mut out[at..], img, p);
+    let start = at + put_head(&mut out[at..], img, p, g);
     let end = start + put_before(out, start, from, parent);
     let n = put_name(&mut out[end..], img, p);
     out[end + n] = 0x0A;

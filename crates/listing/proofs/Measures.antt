@@ -15,7 +15,7 @@ use Rattle.tables.specs.Work.{Wrote}
 use Rattle.entries.specs.Entry.{entryAt}
 use Rattle.directory.specs.Listed.{countOf, entriesOf, placeOf}
 use Rattle.directory.specs.declared.Directory.{Directory as Where}
-use Rattle.lines.specs.Lines.{lineLength}
+use Rattle.lines.specs.Lines.{widthOf, lineLength}
 use Rattle.listing.specs.declared.Measured.{Measured}
 use Rattle.listing.specs.declared.Measured.the-variants.{TooLong, Fits}
 use Rattle.listing.specs.Walks.{pairs, entryOn, parentOn, turnedAt, measured, measureOf}
@@ -67,7 +67,7 @@ module _ {d : Where} {img : Bytes} {most : ℕ} {w₀ w : List ℕ} {n objects b
       q ∙ rw (b, z .1, listing-length e)
 
   -- a turn adds the line of the entry at byte i
-  module _ (h : 0 < n) (i : ℕ) (q : i ≡ placeOf d w (entryOn w (n - 1))) {k : ℕ} (l : k ≡ lineLength (entryAt img i) (parentOn w (n - 1))) where
+  module _ (h : 0 < n) (i : ℕ) (q : i ≡ placeOf d w (entryOn w (n - 1))) {k : ℕ} (l : k ≡ lineLength (widthOf (d .geometry)) (entryAt img i) (parentOn w (n - 1))) where
     pub measuring-long : most - bytes < k → TooLong ≡ measureOf most e
     measuring-long b =
         measured-long most (length (entries (forest e))) (length (listing e))

@@ -40,7 +40,7 @@ module _ (e : Directory) where
   unfoldable pub toCome : Bytes → List (ℕ × ℕ) → Bytes
   toCome t [] = []
   toCome t (p ∷ ps) =
-      line (e .entry (p .0)) (pathOf t (p .0) (p .1))
+      line e (p .0) (pathOf t (p .0) (p .1))
       ++ (lines e (pathOf t (p .0) (p .1) ++ (slash ∷ [])) (at e (childOf e (p .0))) ++ (lines e (before (p .1) t) (at e (rightOf e (p .0))) ++ toCome t ps))
 
   -- and how many they are
@@ -176,10 +176,10 @@ module _ {e : Directory} (rules : entryRules e ≡ true) (ok : shapeOk e ≡ tru
   }
 
   -- the listing is long enough for x's line
-  pub line-room : length done + length (line (e .entry x) path) ≤ length (lines e [] (whole e))
+  pub line-room : length done + length (line e x path) ≤ length (lines e [] (whole e))
   unfolding toCome
   line-room =
-      let l = line (e .entry x) path in
+      let l = line e x path in
       let r = lines e (path ++ (slash ∷ [])) (at e (childOf e x)) ++ (lines e (before n t) (at e (rightOf e x)) ++ toCome e t ps) in
       omega (arith, ap length (w .same), length-append done (l ++ r), length-append l r)
 
@@ -198,15 +198,15 @@ module _ {e : Directory} (rules : entryRules e ≡ true) (ok : shapeOk e ≡ tru
       come-spine e (childOf e x) (s .below-sound) path (pathLength e x n) b
       ∙ rw (come-spine e (rightOf e x) (s .right-sound) path n ps, come-front e n path t path-kept ps (w .stands .2), before-front n n path t (omega arith) path-kept, before-whole (pathLength e x n) path l (omega (arith, path-more .0, l)))
 
-  pub walk-more : Walked e path (done ++ line (e .entry x) path) (k + 1) (turned e x n ps)
+  pub walk-more : Walked e path (done ++ line e x path) (k + 1) (turned e x n ps)
   unfolding turned toCome
   walk-more =
       let s = standing e x top-stands in
       let right = stand-spine e (rightOf e x) (s .right-sound) (parts .2) n n ps (omega arith) (w .stands .2) in
       let b = spine n (at e (rightOf e x)) ++ ps in
       record {
-        same = append-assoc done (line (e .entry x) path) (toCome e path (turned e x n ps))
-            ∙ ap (λ (r : Bytes). done ++ (line (e .entry x) path ++ r)) rest-same
+        same = append-assoc done (line e x path) (toCome e path (turned e x n ps))
+            ∙ ap (λ (r : Bytes). done ++ (line e x path ++ r)) rest-same
             ∙ w .same;
         count = omega (arith, come, count-spine e (childOf e x) (s .below-sound) (pathLength e x n) b, count-spine e (rightOf e x) (s .right-sound) n ps);
         stands = stand-spine e (childOf e x) (s .below-sound) (parts .1) (length path) (pathLength e x n) b (omega (arith, path-long))

@@ -2,12 +2,13 @@
 use Prim.Native.Nat.{ℕ, _+_, _-_, _*_, _≤_, _<_}
 use mathlib.Core.Path.{_≡_, ap, sym, _∙_, subst}
 use mathlib.Core.Bool.{true}
-use mathlib.Core.List.{List, [], _∷_, _++_}
+use mathlib.Core.List.{List, [], _∷_, _++_, append-assoc}
 use native.Mathlib.Omega.{arith}
 use lib.ListN.{length}
 use Rattle.format.specs.Basics.Bytes.{Bytes}
-use Rattle.format.specs.Layout.Directory.{Directory}
+use Rattle.format.specs.Layout.Directory.{Directory, directoryOf, sizeOf}
 use Rattle.format.specs.Layout.Tree.{entries}
+use Rattle.format.specs.Layout.Volume.{directory}
 use Rattle.format.specs.Rules.Entries.{entryRules}
 use Rattle.format.specs.Rules.Trees.{treeRules}
 use Rattle.format.specs.Calls.Listing.{line, lines}
@@ -20,12 +21,17 @@ use Rattle.entries.specs.Entry.{entryAt, NamedAt}
 use Rattle.directory.specs.Listed.{countOf, entriesOf, placeOf, DirectoryListed}
 use Rattle.directory.specs.declared.Directory.{Directory as Where}
 use Rattle.directory.proofs.Places.{directory-kept, count-is, entry-is}
-use Rattle.lines.specs.Lines.{lineLength}
+use Rattle.lines.specs.Lines.{widthOf, head, lineText, lineLength}
 use Rattle.listing.specs.Walks.{pairs, entryOn, parentOn, spine, turnedAt, Turning}
 use Rattle.lines.proofs.LineLengths.{line-length}
 use Rattle.listing.proofs.Stack.{pairs-long, pairs-top}
 use Rattle.listing.proofs.Turns.{turn-named, turn-inside}
 use Rattle.listing.proofs.Walked.{Walked, pathOf, countCome, walk-start, walk-end, walk-more, top-turning, top-parent, line-room}
+
+-- a line of the listing is the text that is written for it
+pub line-text : (d : Where) (img : Bytes) (x : ℕ) (path : Bytes) → line (entriesOf d img) x path ≡ lineText (widthOf (d .geometry)) (entriesOf d img .entry x) path
+unfolding line head sizeOf directory directoryOf
+line-text d img x path = simp append-assoc
 
 -- what both walks are lent
 pub record ListingLent (d : Where) (img : Bytes) (w : List ℕ) : Type 0 where
@@ -114,11 +120,11 @@ module _ {d : Where} {img : Bytes} {w₀ w : List ℕ} {n k : ℕ} {t done : Byt
     pub walks-entry : (i : ℕ) → i ≡ placeOf d w x → entryAt img i ≡ e (s .lent) .entry x
     walks-entry i q = ap (λ (j : ℕ). entryAt img j) q ∙ sym (entry-is (s .lent .listed) x (walks-turning .stands .inside))
 
-    pub walks-line : (i : ℕ) → i ≡ placeOf d w x → lineLength (entryAt img i) p ≡ length (line (e (s .lent) .entry x) path)
+    pub walks-line : (i : ℕ) → i ≡ placeOf d w x → lineLength (widthOf (d .geometry)) (entryAt img i) p ≡ length (line (e (s .lent)) x path)
     unfolding pathOf
-    walks-line i q = rw (walks-entry i q) (sym (line-length (e (s .lent) .entry x) p t walks-parent))
+    walks-line i q = rw (walks-entry i q, line-text d img x path) (sym (line-length (widthOf (d .geometry)) (e (s .lent) .entry x) p t walks-parent))
 
-    pub walks-room : length done + length (line (e (s .lent) .entry x) path) ≤ length (lines (e (s .lent)) [] (whole (e (s .lent))))
+    pub walks-room : length done + length (line (e (s .lent)) x path) ≤ length (lines (e (s .lent)) [] (whole (e (s .lent))))
     walks-room = line-room (s .lent .rules) (shape (s .lent)) popped
 
     pub walks-count : k < countOf d
@@ -126,11 +132,11 @@ module _ {d : Where} {img : Bytes} {w₀ w : List ℕ} {n k : ℕ} {t done : Byt
     walks-count = omega (arith, popped .count, objects-few (s .lent))
 
     module _ {w′ : List ℕ} (n′ : ℕ) (q : pairs w′ n′ ≡ turnedAt (e (s .lent)) w (n - 1)) (r : Wrote w w′ 0 (2 * countOf d)) where
-      pub walks-more : Walks d img w₀ w′ n′ (k + 1) path (done ++ line (e (s .lent) .entry x) path)
+      pub walks-more : Walks d img w₀ w′ n′ (k + 1) path (done ++ line (e (s .lent)) x path)
       walks-more = record {
         lent = lent-kept (s .lent) r;
         wrote = wrote-two (s .wrote) r;
-        walk = subst (Walked (e (s .lent)) path (done ++ line (e (s .lent) .entry x) path) (k + 1)) (sym q) (walk-more (s .lent .rules) (shape (s .lent)) popped);
+        walk = subst (Walked (e (s .lent)) path (done ++ line (e (s .lent)) x path) (k + 1)) (sym q) (walk-more (s .lent .rules) (shape (s .lent)) popped);
       }
 
       -- the loop's measure

@@ -18,14 +18,14 @@ use Rattle.tables.specs.Work.{Wrote}
 use Rattle.entries.specs.Entry.{entryAt}
 use Rattle.directory.specs.Listed.{countOf, entriesOf, placeOf}
 use Rattle.directory.specs.declared.Directory.{Directory as Where}
-use Rattle.lines.specs.Lines.{head, before, lineLength, linePut}
+use Rattle.lines.specs.Lines.{widthOf, head, before, lineLength, linePut}
 use Rattle.listing.specs.Walks.{pairs, entryOn, parentOn, turnedAt}
-use Rattle.lines.proofs.LineLengths.{line-parts, length-line}
+use Rattle.lines.proofs.LineLengths.{length-line}
 use Rattle.text.proofs.Filled.{Filled, filled-behind, filled-length}
 use Rattle.listing.proofs.Prints.{before-front}
 use Rattle.listing.proofs.Walked.{pathOf}
 use Rattle.listing.proofs.Measures.{listing-length}
-use Rattle.listing.proofs.Walks.{Walks, walks-end, walks-room, walks-line, walks-entry, walks-parent, walks-more, path}
+use Rattle.listing.proofs.Walks.{Walks, line-text, walks-end, walks-room, walks-line, walks-entry, walks-parent, walks-more, path}
 
 -- ---- the loop
 
@@ -75,12 +75,14 @@ module _ (e : Directory) (out : Bytes) {objects : ℕ} (o : objects ≡ length (
   room-kept q = rw (q, over-length (firstLine objects) out first-room) room
 
 -- a path in its line, behind what was written before
-path-here : (a e t rest : Bytes) → take (length t) (drop (length a + length (head e)) ((a ++ line e t) ++ rest)) ≡ t
-path-here a e t rest =
-    let f = a ++ head e in
+path-here : (d : Where) (img : Bytes) (x : ℕ) (a t rest : Bytes)
+    → take (length t) (drop (length a + length (head (widthOf (d .geometry)) (entriesOf d img .entry x))) ((a ++ line (entriesOf d img) x t) ++ rest)) ≡ t
+path-here d img x a t rest =
+    let h = head (widthOf (d .geometry)) (entriesOf d img .entry x) in
+    let f = a ++ h in
     let b = (newline ∷ []) ++ rest in
-    let s : (a ++ line e t) ++ rest ≡ f ++ (t ++ b) = rw (line-parts e t) (simp append-assoc) in
-    let l : length a + length (head e) ≡ length f = sym (length-append a (head e)) in
+    let s : (a ++ line (entriesOf d img) x t) ++ rest ≡ f ++ (t ++ b) = rw (line-text d img x t) (simp append-assoc) in
+    let l : length a + length h ≡ length f = sym (length-append a h) in
     rw (s, l, drop-append-seam f (t ++ b)) (take-append-seam t b)
 
 module _ {d : Where} {img : Bytes} {objects : ℕ} {out₀ : Bytes} {w₀ w : List ℕ} {n : ℕ} {out : Bytes} {at from : ℕ}
@@ -108,11 +110,11 @@ module _ {d : Where} {img : Bytes} {objects : ℕ} {out₀ : Bytes} {w₀ w : Li
     pub line-behind : from + p ≤ at
     line-behind = omega (arith, m .behind, walks-parent (m .walks) h)
 
-    all-room : at + length (line (e .entry x) (path (m .walks) h)) ≤ length out₀
+    all-room : at + length (line e x (path (m .walks) h)) ≤ length out₀
     all-room =
         omega (arith, room, ap length whole-is, length-append (firstLine objects) (lines e [] (whole e)), length-append (firstLine objects) (m .done), m .placed .count, walks-room (m .walks) h)
 
-    pub line-fits : at + lineLength (entryAt img i) p ≤ length out
+    pub line-fits : at + lineLength (widthOf (d .geometry)) (entryAt img i) p ≤ length out
     line-fits = omega (arith, all-room, walks-line (m .walks) h i q, filled-length (m .placed))
 
     -- the parent's path is read from the last line's
@@ -121,11 +123,11 @@ module _ {d : Where} {img : Bytes} {objects : ℕ} {out₀ : Bytes} {w₀ w : Li
     text-here =
         rw (walks-entry (m .walks) h i q, before-front p (length (m .text)) (drop from out) (m .text) (walks-parent (m .walks) h) (m .here ∙ sym (take-length (m .text))))
 
-    module _ {out′ : Bytes} {from′ : ℕ} (ef : from′ ≡ at + length (head (entryAt img i)))
-        (eo : out′ ≡ linePut (entryAt img i) at from p out)
-        {k : ℕ} (ek : k ≡ lineLength (entryAt img i) p) where
+    module _ {out′ : Bytes} {from′ : ℕ} (ef : from′ ≡ at + length (head (widthOf (d .geometry)) (entryAt img i)))
+        (eo : out′ ≡ linePut (widthOf (d .geometry)) (entryAt img i) at from p out)
+        {k : ℕ} (ek : k ≡ lineLength (widthOf (d .geometry)) (entryAt img i) p) where
       abbrev l : Bytes
-      l = line (e .entry x) (path (m .walks) h)
+      l = line e x (path (m .walks) h)
 
       kl : k ≡ length l
       kl = ek ∙ walks-line (m .walks) h i q
@@ -133,7 +135,7 @@ module _ {d : Where} {img : Bytes} {objects : ℕ} {out₀ : Bytes} {w₀ w : Li
       line-placed : Filled out₀ ((firstLine objects ++ m .done) ++ l) out′ (at + k)
       line-placed =
           filled-behind (m .placed) l all-room kl
-          (eo ∙ rw (text-here, ← ek, walks-entry (m .walks) h i q))
+          (eo ∙ rw (text-here, ← ek, walks-entry (m .walks) h i q, line-text d img x (path (m .walks) h)))
 
       pub writing-more : {w′ : List ℕ} (n′ : ℕ) → pairs w′ n′ ≡ turnedAt e w (n - 1) → Wrote w w′ 0 (2 * countOf d)
           → Writing d img objects out₀ w₀ w′ n′ out′ (at + k) from′
@@ -141,13 +143,13 @@ module _ {d : Where} {img : Bytes} {objects : ℕ} {out₀ : Bytes} {w₀ w : Li
       writing-more n′ s r =
           let v = walks-more (m .walks) h n′ s r in
           let a = firstLine objects ++ m .done in
-          let f : from′ ≡ length a + length (head (e .entry x)) = rw (← m .placed .count, ← walks-entry (m .walks) h i q) ef in
+          let f : from′ ≡ length a + length (head (widthOf (d .geometry)) (e .entry x)) = rw (← m .placed .count, ← walks-entry (m .walks) h i q) ef in
           record {
             count = _;
             text = path (m .walks) h;
             done = m .done ++ l;
             walks = v;
             placed = rw (← append-assoc (firstLine objects) (m .done) l) line-placed;
-            here = rw (line-placed .bytes, f) (path-here a (e .entry x) (path (m .walks) h) (drop (length (a ++ l)) out₀));
-            behind = omega (arith, f, kl, m .placed .count, length-line (e .entry x) (path (m .walks) h));
+            here = rw (line-placed .bytes, f) (path-here d img x a (path (m .walks) h) (drop (length (a ++ l)) out₀));
+            behind = omega (arith, f, kl, m .placed .count, ap length (line-text d img x (path (m .walks) h)), length-line (widthOf (d .geometry)) (e .entry x) (path (m .walks) h));
           }

@@ -143,7 +143,7 @@ pub fn measure(img: &[u8], work: &mut [u32], d: Directory, most: usize) -> Measu
     while n > 0 {
         n -= 1;
         let q = pair_at(work, n);
-        let k = line_length(img, place(work, d, q.entry), q.parent as usize);
+        let k = line_length(img, place(work, d, q.entry), d.geometry, q.parent as usize);
         if most - bytes < k {
             return Measured::TooLong;
         }
@@ -186,8 +186,8 @@ pub fn write(img: &[u8], work: &mut [u32], d: Directory, objects: usize, out: &m
         let q = pair_at(work, n);
         let p = place(work, d, q.entry);
         let parent = q.parent as usize;
-        from = put_line(out, at, img, p, from, parent);
-        at += line_length(img, p, parent);
+        from = put_line(out, at, img, p, d.geometry, from, parent);
+        at += line_length(img, p, d.geometry, parent);
         n = turn(img, work, d, n);
     }
 }

@@ -12,7 +12,8 @@ use Rattle.format.specs.Layout.Need.{cutoff, roundUp}
 use Rattle.format.specs.Layout.Geometry.{Geometry, miniBytes, sectorCount}
 use Rattle.format.specs.Layout.Tables.{fatCell, sectorSpace}
 use Rattle.format.specs.Layout.Space.{Space, chainFor, unitsFor}
-use Rattle.format.specs.Layout.Entry.{isStream, size, start}
+use Rattle.format.specs.Layout.Entry.{isStream, start}
+use Rattle.format.specs.Layout.Directory.{sizeOf}
 use Rattle.format.specs.Layout.Volume.{Volume, volume, directory, miniSpace}
 use Rattle.format.specs.Layout.Stream.{spaceFor, streamSize, streamUnits}
 use Rattle.format.specs.Rules.Owners.{ownSectors, ownMinis}
@@ -78,7 +79,7 @@ not-walked sp n s b h c = rw h (marked-none sp _ c)
 
 -- ---- one entry e of an image: whether it is a stream, and its size, as they were read
 
-module _ (g : Geometry) (img : Bytes) (x : ℕ) {e : Bytes} (b : Bool) (n : ℕ) (h : e ≡ volume g img .directory .entry x) (hb : b ≡ isStream e) (hn : n ≡ size e) where
+module _ (g : Geometry) (img : Bytes) (x : ℕ) {e : Bytes} (b : Bool) (n : ℕ) (h : e ≡ volume g img .directory .entry x) (hb : b ≡ isStream e) (hn : n ≡ sizeOf (volume g img .directory) x) where
   pub large-walked : (s : ℕ) {w w′ : List ℕ} {a : Marked} → s ≡ start e → (b && leb 4096 n) ≡ true → sectorCount g img ≤ END
       → ChainWalked (fatCell g img) (sectorCount g img) (roundUp n (g .sectorBytes)) s w w′ a
       → ChainsMarked (sectorSpace g img) (largeRight (volume g img) x) (ownSectors (volume g img) x) w w′ a

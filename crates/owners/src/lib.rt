@@ -43,7 +43,7 @@ fn mark_large(img: &[u8], work: &mut [u32], t: Tables, d: Directory, x: EntryId)
     ensures { λ r. ⌜ LargeMarked t (now (img .entry)) (x .0) (now (work .entry)) (now (work .exit)) r ⌝ }
 {
     let p = place(work, d, x);
-    let n = size(img, p);
+    let n = size(img, p, t.geometry);
     if entry_type(img, p).is_stream() & (CUTOFF <= n) {
         return mark_bytes(img, work, t, start_sector(img, p), n);
     }
@@ -100,7 +100,7 @@ fn mark_small(img: &[u8], work: &mut [u32], t: Minis, d: Directory, x: EntryId) 
     ensures { λ r. ⌜ SmallMarked t (now (img .entry)) (x .0) (now (work .entry)) (now (work .exit)) r ⌝ }
 {
     let p = place(work, d, x);
-    let n = size(img, p);
+    let n = size(img, p, t.geometry);
     if entry_type(img, p).is_stream() & (n < CUTOFF) {
         return minis::mark_bytes(img, work, t, start_mini(img, p), n);
     }

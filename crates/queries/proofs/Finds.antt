@@ -5,7 +5,9 @@ use mathlib.Core.Bool.{true}
 use mathlib.Core.List.{List, []}
 use Rattle.format.specs.Basics.Bytes.{Bytes}
 use Rattle.format.specs.Layout.Geometry.{Geometry}
-use Rattle.format.specs.Layout.Entry.{kind, size}
+use Rattle.format.specs.Layout.Entry.{kind}
+use Rattle.format.specs.Layout.Directory.{sizeOf}
+use Rattle.format.specs.Layout.Stream.{streamSize}
 use Rattle.format.specs.Layout.Directory.{Directory}
 use Rattle.format.specs.Layout.Volume.{Volume, volume, directory}
 use Rattle.format.specs.Rules.Entries.{entryRules}
@@ -64,13 +66,13 @@ module _ {v : Opened} {img : Bytes} {w : List ℕ} (o : Open v img w) where
     says = subst (λ d. foundOf d r ≡ resolve d path) (same-entries o) e
 
     pub find-found : {x : EntryId} (y : Object) → r ≡ At x → x .0 < entriesOf (v .directory) img .count
-        → (y .id ≡ x) × ((y .«entry_type» .0 ≡ kind (entriesOf (v .directory) img .entry (x .0))) × (y .size ≡ size (entriesOf (v .directory) img .entry (x .0))))
+        → (y .id ≡ x) × ((y .«entry_type» .0 ≡ kind (entriesOf (v .directory) img .entry (x .0))) × (y .size ≡ sizeOf (entriesOf (v .directory) img) (x .0)))
         → FindRight (volume g img) path (Entry y)
     find-found {x} y k l z =
         let q = same-entries o in
         let i : y .id .0 ≡ x .0 = ap (λ (u : EntryId). u .0) (z .0) in
         rw i
-        (subst (λ u. foundOf (volume g img .directory) u ≡ resolve (volume g img .directory) path) k says, (subst (λ d. x .0 < d .count) q l, (z .1 .0 ∙ ap (λ d. kind (d .entry (x .0))) q, z .1 .1 ∙ ap (λ d. size (d .entry (x .0))) q)))
+        (subst (λ u. foundOf (volume g img .directory) u ≡ resolve (volume g img .directory) path) k says, (subst (λ d. x .0 < d .count) q l, (z .1 .0 ∙ ap (λ d. kind (d .entry (x .0))) q, z .1 .1 ∙ ap (λ d. sizeOf d (x .0)) q)))
 
     pub find-refused : {a : Refusal} → r ≡ Stopped a → FindRight (volume g img) path (Refused a)
     find-refused {a} k = subst (λ u. foundOf (volume g img .directory) u ≡ resolve (volume g img .directory) path) k says
@@ -80,7 +82,7 @@ found-inside e r {x} i k = subst (λ u. Inside e u) k i
 
 -- the reply that it stands for
 pub find-says : (g : Geometry) (v : Volume) (path : Path) (f : Find) → FindRight v path f → findReply f ≡ replyIn g v (find path [])
-unfolding foundReply
+unfolding foundReply streamSize
 find-says g v path (Entry e) h =
     ap₂ (λ k s. record { number = 0; entry = e .id .0; type = k; size = s; count = 0 }) (h .1 .1 .0) (h .1 .1 .1) ∙ found-reply v path g (e .id .0) (h .0)
 find-says g v path (Refused a) h = refused-reply v path g a h

@@ -9,7 +9,8 @@ use lib.ListN.{length, drop}
 use borrow.Author.Tests.{ne-eqb}
 use Rattle.format.specs.Basics.Bytes.{Bytes, part}
 use Rattle.format.specs.Layout.Geometry.{Geometry}
-use Rattle.format.specs.Layout.Entry.{isStream, kind, size}
+use Rattle.format.specs.Layout.Entry.{isStream, kind}
+use Rattle.format.specs.Layout.Directory.{sizeOf}
 use Rattle.format.specs.Layout.Volume.{Volume}
 use Rattle.format.specs.Layout.Stream.{streamSize, contents}
 use Rattle.format.specs.Calls.Paths.{Path}
@@ -50,7 +51,7 @@ module _ (g : Geometry) (v : Volume) (img : Bytes) (path : Path) (offset : ℕ) 
 
       size-is : streamSize v (target v path) ≡ e .size
       unfolding streamSize
-      size-is = ap (λ x. size (v .directory .entry x)) (there .1) ∙ sym (h .1 .1 .1)
+      size-is = ap (sizeOf (v .directory)) (there .1) ∙ sym (h .1 .1 .1)
 
       pub read-beyond : e .size < offset → (plain 24 ≡ replyIn g v call) × (out ≡ outIn g v img call)
       read-beyond l = read-refused v path g offset out img Beyond (answer-beyond v path g offset out (there .0) (omega (arith, size-is)))

@@ -1,7 +1,8 @@
 // Finds: the entry that a path leads to, with its type and size.
 ghost use mathlib.Core.Path.{_≡_};
 ghost use Prim.Native.Nat.{_<_};
-ghost use Rattle.format.specs.Layout.Entry.{kind as kindOf, size as sizeOf};
+ghost use Rattle.format.specs.Layout.Entry.{kind as kindOf};
+ghost use Rattle.format.specs.Layout.Directory.{sizeOf};
 ghost use Rattle.directory.specs.Listed.{entriesOf, DirectoryListed};
 ghost use Rattle.spaces.specs.Spaces.{volumeIn};
 ghost use Rattle.queries.specs.Inside.{Open, FindRight};
@@ -34,13 +35,13 @@ fn object_at(img: &[u8], work: &[u32], d: Directory, x: EntryId) -> Object
     requires { ⌜ x .0 < entriesOf d (now img) .count ⌝ }
     ensures { λ r. ⌜ r .id ≡ x ⌝ }
     ensures { λ r. ⌜ r .«entry_type» .0 ≡ kindOf (entriesOf d (now (img .entry)) .entry (x .0)) ⌝ }
-    ensures { λ r. ⌜ r .size ≡ sizeOf (entriesOf d (now (img .entry)) .entry (x .0)) ⌝ }
+    ensures { λ r. ⌜ r .size ≡ sizeOf (entriesOf d (now (img .entry))) (x .0) ⌝ }
 {
     let p = place(work, d, x);
     Object {
         id: x,
         entry_type: entry_type(img, p),
-        size: size(img, p),
+        size: size(img, p, d.geometry),
     }
 }
 

@@ -9,7 +9,8 @@ use lib.ListN.{length, getD}
 use Rattle.format.specs.Basics.Bytes.{Bytes}
 use Rattle.format.specs.Layout.Geometry.{Geometry, sectorCount, sectorPlace, placeIn, cellsIn, miniBytes}
 use Rattle.format.specs.Layout.Need.{roundUp}
-use Rattle.format.specs.Layout.Entry.{size, start}
+use Rattle.format.specs.Layout.Entry.{start}
+use Rattle.format.specs.Layout.Directory.{sizeOf}
 use Rattle.format.specs.Layout.Tables.{fatCell, sectorSpace}
 use Rattle.format.specs.Layout.Volume.{volume, directory, miniSpace, miniStreamSectors}
 use Rattle.format.specs.Rules.Mini.{miniStreamChain}
@@ -61,11 +62,11 @@ module _ {g : Geometry} {img : Bytes} (z : ImageSized g img) where
     -- every mini sector lies in the mini stream
     mini-index : (m : ℕ) → m < miniSpace g img .limit → m < g .sectorBytes / 64 * length (miniStreamSectors g img)
     mini-index m l =
-        let r = directory g img .entry 0 in
-        let k = roundUp (size r) (g .sectorBytes) in
-        let a = round-enough (size r) (g .sectorBytes) bytes-some in
+        let n = sizeOf (directory g img) 0 in
+        let k = roundUp n (g .sectorBytes) in
+        let a = round-enough n (g .sectorBytes) bytes-some in
         let b : k * g .sectorBytes ≡ g .sectorBytes / 64 * k * 64 = ap (λ n. k * n) minis-in-sector ∙ omega (arith, mul-comm k (g .sectorBytes / 64)) in
-        rw (stream-is g img, length-units (fatCell g img) k (start r)) (omega (arith, a, b, l, units-are g img))
+        rw (stream-is g img, length-units (fatCell g img) k (start (directory g img .entry 0))) (omega (arith, a, b, l, units-are g img))
 
     pub mini-sector : (m : ℕ) → m < miniSpace g img .limit → 64 * m / g .sectorBytes < length (miniStreamSectors g img)
     mini-sector m l = thing-index (g .sectorBytes) 64 (g .sectorBytes / 64) minis-in-sector bytes-some _ m (mini-index m l)

@@ -8,14 +8,15 @@ use lib.Dec.{eqb}
 use lib.ListN.{length}
 use borrow.Author.Tests.{eq-eqb, ne-eqb}
 use Rattle.format.specs.Basics.Bytes.{Bytes}
-use Rattle.format.specs.Layout.Geometry.{Geometry, sectorCount, miniBytes}
+use Rattle.format.specs.Layout.Geometry.{Geometry, sizeWidth, sectorCount, miniBytes}
 use Rattle.format.specs.Layout.Need.{roundUp}
 use Rattle.format.specs.Layout.Chain.{chain, units}
 use Rattle.format.specs.Layout.Space.{chainFor, unitsFor}
 use Rattle.format.specs.Layout.Header.{directoryStart, miniFatStart, miniFatCount}
 use Rattle.format.specs.Layout.Entry.{size, start}
 use Rattle.format.specs.Layout.Tables.{fatCell, sectorSpace}
-use Rattle.format.specs.Layout.Volume.{volume, root, directory, directorySectorsOf, miniFatSectors, miniStreamSectors}
+use Rattle.format.specs.Layout.Directory.{directoryOf, sizeOf}
+use Rattle.format.specs.Layout.Volume.{volume, root, rootSize, directory, directorySectorsOf, miniFatSectors, miniStreamSectors}
 use Rattle.format.specs.Rules.Directory.{directoryRules}
 use Rattle.format.specs.Rules.Mini.{miniFatChain, miniStreamChain}
 use Rattle.kinds.specs.declared.Geometry.{Geometry as Sizes}
@@ -46,6 +47,12 @@ pub root-read : {d : Directory} {img : Bytes} {w : List ℕ} (s : Sizes) (p : �
 unfolding volume
 root-read s p l e q = entry-read s 0 p l e (root-inside l) q
 
+-- and its size
+pub size-read : (g : Geometry) (img : Bytes) (x : ℕ) {e : Bytes} {n : ℕ} → n ≡ size (sizeWidth g) e → e ≡ volume g img .directory .entry x
+    → n ≡ sizeOf (volume g img .directory) x
+unfolding sizeOf volume directory directoryOf
+size-read g img x h e = h ∙ ap (size (sizeWidth g)) e
+
 -- the lists stay where only marks change
 pub sector-lists-kept : {t : Tables} {d : Directory} {img : Bytes} {w w′ : List ℕ} → SectorLists t d img w → Wrote w w′ 0 (sectorCountOf t img) → SectorLists t d img w′
 sector-lists-kept l r =
@@ -75,16 +82,16 @@ module _ {g : Geometry} {img : Bytes} {w w′ : List ℕ} {a : Marked} (z : Imag
     unfolding miniFatChain volume sectorSpace miniFatSectors
     mini-fat-marked k l = rw (k, l) at sectors-marked
 
-    pub mini-stream-marked : (e : Bytes) → e ≡ directory g img .entry 0 → size e % 64 ≡ 0 → n ≡ roundUp (size e) (g .sectorBytes) → s ≡ start e
+    pub mini-stream-marked : (z : ℕ) → z ≡ sizeOf (directory g img) 0 → z % 64 ≡ 0 → n ≡ roundUp z (g .sectorBytes) → s ≡ start (directory g img .entry 0)
         → ChainsMarked (sectorSpace g img) (miniStreamChain (volume g img)) (miniStreamSectors g img) w w′ a
-    unfolding miniStreamChain volume root chainFor sectorSpace miniStreamSectors unitsFor miniBytes
+    unfolding miniStreamChain volume root rootSize chainFor sectorSpace miniStreamSectors unitsFor miniBytes
     mini-stream-marked b d h k l =
-        let x : eqb (size (directory g img .entry 0) % 64) 0 ≡ true = rw (← d) (eq-eqb (size b % 64) 0 h) in
+        let x : eqb (sizeOf (directory g img) 0 % 64) 0 ≡ true = rw (← d) (eq-eqb (b % 64) 0 h) in
         rw x (rw (k, l, d) at sectors-marked)
 
 -- the root's size is not of whole mini sectors
-pub size-odd : (g : Geometry) (img e : Bytes) → e ≡ directory g img .entry 0 → 0 < size e % 64 → miniStreamChain (volume g img) ≡ false
-unfolding miniStreamChain volume root miniBytes
+pub size-odd : (g : Geometry) (img : Bytes) (z : ℕ) → z ≡ sizeOf (directory g img) 0 → 0 < z % 64 → miniStreamChain (volume g img) ≡ false
+unfolding miniStreamChain volume rootSize miniBytes
 size-odd g img b d h =
-    let x : eqb (size (directory g img .entry 0) % 64) 0 ≡ false = rw (← d) (ne-eqb (size b % 64) 0 (omega arith)) in
+    let x : eqb (sizeOf (directory g img) 0 % 64) 0 ≡ false = rw (← d) (ne-eqb (b % 64) 0 (omega arith)) in
     rw x

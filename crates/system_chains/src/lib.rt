@@ -51,7 +51,7 @@ fn mark_mini_stream(img: &[u8], work: &mut [u32], t: Tables, d: Directory) -> Ma
         (miniStreamSectors (geometryOf (t .geometry)) (now (img .entry))) (now (work .entry)) (now (work .exit)) r ⌝ }
 {
     let p = place(work, d, EntryId::ROOT);
-    let n = size(img, p);
+    let n = size(img, p, t.geometry);
     if 0 < n % (MiniSector::BYTES as u64) {
         return Marked::Broken;
     }

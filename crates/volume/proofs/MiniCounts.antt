@@ -13,9 +13,10 @@ use Rattle.format.specs.Layout.Need.{roundUp}
 use Rattle.format.specs.Layout.Chain.{chain}
 use Rattle.format.specs.Layout.Space.{chainFor}
 use Rattle.format.specs.Layout.Header.{miniFatStart, miniFatCount}
-use Rattle.format.specs.Layout.Entry.{size, start}
+use Rattle.format.specs.Layout.Entry.{start}
+use Rattle.format.specs.Layout.Directory.{sizeOf}
 use Rattle.format.specs.Layout.Tables.{fatCell, sectorSpace}
-use Rattle.format.specs.Layout.Volume.{volume, root, directory, miniSpace, miniCells}
+use Rattle.format.specs.Layout.Volume.{volume, root, rootSize, directory, miniSpace, miniCells}
 use Rattle.format.specs.Rules.Mini.{miniFatChain, miniStreamChain}
 use Rattle.theory.proofs.Tests.{both}
 use Rattle.theory.proofs.Chains.{chain-short}
@@ -26,7 +27,7 @@ use Rattle.minis.specs.Listed.{MiniCounts, cellsRight}
 use Rattle.volume.specs.Passed.{miniCellRules}
 
 module _ (g : Geometry) (img : Bytes) where
-  pub units-are : miniSpace g img .limit ≡ size (directory g img .entry 0) / 64
+  pub units-are : miniSpace g img .limit ≡ sizeOf (directory g img) 0 / 64
   unfolding miniSpace miniBytes
   units-are = refl
 
@@ -37,9 +38,9 @@ module _ (g : Geometry) (img : Bytes) where
   mini-fat-chain h = h
 
   pub mini-stream-chain : miniStreamChain (volume g img) ≡ true
-      → chain (fatCell g img) (sectorCount g img) (roundUp (size (directory g img .entry 0)) (g .sectorBytes)) (start (directory g img .entry 0)) ≡ true
-  unfolding miniStreamChain volume root chainFor sectorSpace
-  mini-stream-chain h = both (eqb (size (directory g img .entry 0) % miniBytes) 0) (chain (fatCell g img) (sectorCount g img) (roundUp (size (directory g img .entry 0)) (g .sectorBytes)) (start (directory g img .entry 0))) h .1
+      → chain (fatCell g img) (sectorCount g img) (roundUp (sizeOf (directory g img) 0) (g .sectorBytes)) (start (directory g img .entry 0)) ≡ true
+  unfolding miniStreamChain volume root rootSize chainFor sectorSpace
+  mini-stream-chain h = both (eqb (sizeOf (directory g img) 0 % miniBytes) 0) (chain (fatCell g img) (sectorCount g img) (roundUp (sizeOf (directory g img) 0) (g .sectorBytes)) (start (directory g img .entry 0))) h .1
 
   module _ (z : ImageSized g img) where
     pub table-short : miniFatChain (volume g img) ≡ true → miniFatCount img ≤ sectorCount g img
@@ -49,14 +50,14 @@ module _ (g : Geometry) (img : Bytes) where
     pub table-cells : miniFatChain (volume g img) ≡ true → 4 * (cellsIn g * miniFatCount img) ≤ length img
     table-cells h = cells-short z (miniFatCount img) (table-short h)
 
-    pub stream-short : miniStreamChain (volume g img) ≡ true → roundUp (size (directory g img .entry 0)) (g .sectorBytes) ≤ sectorCount g img
+    pub stream-short : miniStreamChain (volume g img) ≡ true → roundUp (sizeOf (directory g img) 0) (g .sectorBytes) ≤ sectorCount g img
     stream-short h = chain-short (fatCell g img) (sectorCount g img) (omega (arith, z .few)) _ _ (mini-stream-chain h)
 
     -- the mini sectors lie in the sectors of the mini stream
     pub minis-few : miniStreamChain (volume g img) ≡ true → miniSpace g img .limit ≤ 8 * (length img / 512)
     minis-few h =
         let w = z .wide in
-        let a = round-enough (size (directory g img .entry 0)) (g .sectorBytes) (omega arith) in
+        let a = round-enough (sizeOf (directory g img) 0) (g .sectorBytes) (omega arith) in
         let b = mul-le-mul-right (g .sectorBytes) (stream-short h) in
         let c = z .long ∙ add-mul (sectorCount g img) 1 (g .sectorBytes) in
         omega (arith, units-are, a, b, c, w)

@@ -10,7 +10,8 @@ use Rattle.format.specs.Layout.Geometry.{Geometry, sectorCount}
 use Rattle.format.specs.Layout.Need.{roundUp}
 use Rattle.format.specs.Layout.Chain.{chain, units}
 use Rattle.format.specs.Layout.Space.{unitsFor}
-use Rattle.format.specs.Layout.Entry.{size, start}
+use Rattle.format.specs.Layout.Entry.{start}
+use Rattle.format.specs.Layout.Directory.{sizeOf}
 use Rattle.format.specs.Layout.Tables.{fatCell, sectorSpace}
 use Rattle.format.specs.Layout.Volume.{directory, miniStreamSectors}
 use Rattle.theory.proofs.Chains.{length-units}
@@ -25,27 +26,24 @@ use Rattle.volume.specs.Opened.{Readied}
 use Rattle.volume.proofs.ListsKept.{lists-kept}
 use Rattle.volume.proofs.MiniCounts.{stream-short, mini-stream-chain}
 
-pub stream-is : (g : Geometry) (img : Bytes) → miniStreamSectors g img ≡ units (fatCell g img) (roundUp (size (directory g img .entry 0)) (g .sectorBytes)) (start (directory g img .entry 0))
+pub stream-is : (g : Geometry) (img : Bytes) → miniStreamSectors g img ≡ units (fatCell g img) (roundUp (sizeOf (directory g img) 0) (g .sectorBytes)) (start (directory g img .entry 0))
 unfolding miniStreamSectors unitsFor sectorSpace
 stream-is g img = refl
 
-module _ {t : Tables} {d : Directory} {m : Minis} {img : Bytes} {w : List ℕ} (l : ListsStand t d m img w) (n s : ℕ) {e : Bytes} (r : e ≡ directory (geometryOf (t .geometry)) img .entry 0)
-    (k : n ≡ roundUp (size e) (t .geometry .bytes)) (h : s ≡ start e) where
+module _ {t : Tables} {d : Directory} {m : Minis} {img : Bytes} {w : List ℕ} (l : ListsStand t d m img w) (n s : ℕ)
+    (k : n ≡ roundUp (sizeOf (directory (geometryOf (t .geometry)) img) 0) (t .geometry .bytes)) (h : s ≡ start (directory (geometryOf (t .geometry)) img .entry 0)) where
   abbrev g : Geometry
   g = geometryOf (t .geometry)
 
-  many : n ≡ roundUp (size (directory g img .entry 0)) (t .geometry .bytes)
-  many = k ∙ ap (λ x. roundUp (size x) (t .geometry .bytes)) r
-
   -- it fits before the mini FAT's list
   pub stream-fits : n ≤ m .list
-  stream-fits = omega (arith, many, stream-short g img (l .mini .fat .sized) (l .mini .stream), l .room)
+  stream-fits = omega (arith, k, stream-short g img (l .mini .fat .sized) (l .mini .stream), l .room)
 
   pub stream-chain : chain (fatCell g img) (sectorCount g img) n s ≡ true
-  stream-chain = rw (many, h, r) (mini-stream-chain g img (l .mini .stream))
+  stream-chain = rw (k, h) (mini-stream-chain g img (l .mini .stream))
 
   units-are : units (fatCell g img) n s ≡ miniStreamSectors g img
-  units-are = ap₂ (λ x y. units (fatCell g img) x y) many (h ∙ ap start r) ∙ sym (stream-is g img)
+  units-are = ap₂ (λ x y. units (fatCell g img) x y) k h ∙ sym (stream-is g img)
 
   pub stream-ready : {w′ : List ℕ} → Wrote w w′ (m .list - n) n → Holds w′ (m .list - n) n (unitAt (units (fatCell g img) n s))
       → Readied (record { tables = t; directory = d; minis = m; stream = m .list - n }) img w′
@@ -55,5 +53,5 @@ module _ {t : Tables} {d : Directory} {m : Minis} {img : Bytes} {w : List ℕ} (
         lists = lists-kept x l (omega (arith, stream-fits));
         stream = rw (z, ← units-are) y;
         before = omega arith;
-        room = omega (arith, many, stream-short g img (l .mini .fat .sized) (l .mini .stream), l .room);
+        room = omega (arith, k, stream-short g img (l .mini .fat .sized) (l .mini .stream), l .room);
       }

@@ -43,7 +43,7 @@ fn mini_table(img: &[u8], work: &mut [u32], t: Tables, d: Directory) -> MiniTabl
 {
     let g = t.geometry;
     let list = d.list;
-    let k = (size(img, place(work, d, EntryId::ROOT)) / (MiniSector::BYTES as u64)) as usize;
+    let k = (size(img, place(work, d, EntryId::ROOT), g) / (MiniSector::BYTES as u64)) as usize;
     let m = mini_fat_count(img) as usize;
     if g.cells() * m < k {
         return MiniTable::Wrong;

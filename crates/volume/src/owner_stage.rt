@@ -30,7 +30,7 @@ fn list_stream(img: &[u8], work: &mut [u32], t: Tables, d: Directory, m: Minis) 
     let g = t.geometry;
     let list = m.list;
     let p = place(work, d, EntryId::ROOT);
-    let n = units_for(size(img, p), g.bytes as u64) as usize;
+    let n = units_for(size(img, p, g), g.bytes as u64) as usize;
     let at = list - n;
     list_chain(img, work, t, start_sector(img, p), n, at);
     Volume {

@@ -9,5 +9,4 @@ common-fields-spec =
     tie.close
     (tie.spec
     (λ c κs. search needs)  -- colour-requires
-    (λ c κs. search needs)  -- zeros-requires
-    (λ c. rw (c .zeros .ensures, c .before .colour .ensures)))  -- returns
+    (λ c. rw (c .colour .ensures)))  -- returns

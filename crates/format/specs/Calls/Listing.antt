@@ -5,15 +5,15 @@ use mathlib.Core.List.{[], _∷_, _++_}
 use lib.ListN.{length}
 use Rattle.format.specs.Basics.Bytes.{Bytes}
 use Rattle.format.specs.Layout.Name.{slash}
-use Rattle.format.specs.Layout.Entry.{name, size, isStream}
-use Rattle.format.specs.Layout.Directory.{Directory}
+use Rattle.format.specs.Layout.Entry.{name, isStream}
+use Rattle.format.specs.Layout.Directory.{Directory, sizeOf}
 use Rattle.format.specs.Layout.Tree.{Forest, empty, broken, node, forest, entries}
 use Rattle.format.specs.Calls.Text.{newline, space, decimal, printName}
 
 -- `F SIZE` for a stream, `D 0` for a storage, and the path
-unfoldable pub line : Bytes → Bytes → Bytes
-line e path =
-    cond (isStream e) (0x46 ∷ space ∷ decimal (size e)) (0x44 ∷ space ∷ 0x30 ∷ [])
+unfoldable pub line : Directory → ℕ → Bytes → Bytes
+line d e path =
+    cond (isStream (d .entry e)) (0x46 ∷ space ∷ decimal (sizeOf d e)) (0x44 ∷ space ∷ 0x30 ∷ [])
     ++ (space ∷ path)
     ++ (newline ∷ [])
 
@@ -24,7 +24,7 @@ lines d before broken = []
 lines d before (node l e b r) =
     let path = before ++ printName (name (d .entry e)) in
     lines d before l
-    ++ line (d .entry e) path
+    ++ line d e path
     ++ lines d (path ++ (slash ∷ [])) b
     ++ lines d before r
 

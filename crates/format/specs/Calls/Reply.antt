@@ -3,7 +3,7 @@ use Prim.Native.Nat.{ℕ, zero, suc}
 use lib.ListN.{length}
 use Rattle.format.specs.Basics.Bytes.{Bytes}
 use Rattle.format.specs.Layout.Geometry.{Geometry}
-use Rattle.format.specs.Layout.Entry.{kind, size}
+use Rattle.format.specs.Layout.Entry.{kind}
 use Rattle.format.specs.Layout.Volume.{Volume, volume}
 use Rattle.format.specs.Layout.Stream.{streamSize}
 use Rattle.format.specs.Calls.Find.{resolve, entryOf}
@@ -27,7 +27,7 @@ unfoldable pub plain : ℕ → Reply
 plain n = record { number = n; entry = 0; type = 0; size = 0; count = 0 }
 
 unfoldable pub foundReply : Volume → ℕ → Reply
-foundReply v e = record { number = 0; entry = e; type = kind (v .directory .entry e); size = size (v .directory .entry e); count = 0 }
+foundReply v e = record { number = 0; entry = e; type = kind (v .directory .entry e); size = streamSize v e; count = 0 }
 
 unfoldable pub counted : ℕ → Reply
 counted n = record { number = 0; entry = 0; type = 0; size = 0; count = n }

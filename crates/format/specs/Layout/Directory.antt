@@ -5,15 +5,18 @@ use mathlib.Core.List.{List, []}
 use lib.Dec.{ltb}
 use lib.ListN.{length}
 use Rattle.format.specs.Basics.Bytes.{Bytes, part}
-use Rattle.format.specs.Layout.Geometry.{Geometry, entryBytes, placeIn, entriesIn}
+use Rattle.format.specs.Layout.Geometry.{Geometry, entryBytes, sizeWidth, placeIn, entriesIn}
 use Rattle.format.specs.Layout.Chain.{follow}
 use Rattle.format.specs.Layout.Space.{Space}
+use Rattle.format.specs.Layout.Entry.{size}
 
 pub record Directory : Type 0 where
   -- how many entries there are
   pub count : ℕ
   -- the bytes of each
   pub entry : ℕ → Bytes
+  -- how many bytes of a size count
+  pub sizeWidth : ℕ
 
 -- The sectors of the directory's chain, whose length no field gives. A chain holds no sector twice, so it has at most N of them.
 unfoldable pub directorySectors : Space → ℕ → List ℕ
@@ -30,4 +33,8 @@ unfoldable pub entryIn : Geometry → Bytes → List ℕ → ℕ → Bytes
 entryIn g img sectors i = cond (ltb i (entryCount g sectors)) (part img (entryPlace g sectors i) entryBytes) []
 
 unfoldable pub directoryOf : Geometry → Bytes → List ℕ → Directory
-directoryOf g img sectors = record { count = entryCount g sectors; entry = entryIn g img sectors }
+directoryOf g img sectors = record { count = entryCount g sectors; entry = entryIn g img sectors; sizeWidth = sizeWidth g }
+
+-- the size of entry i, as read
+unfoldable pub sizeOf : Directory → ℕ → ℕ
+sizeOf d i = size (d .sizeWidth) (d .entry i)

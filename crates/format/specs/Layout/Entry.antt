@@ -3,7 +3,7 @@ use Prim.Native.Nat.{ℕ, _-_, _*_, _/_}
 use mathlib.Core.Bool.{Bool}
 use lib.Dec.{eqb}
 use Rattle.format.specs.Basics.Lists.{listBelow}
-use Rattle.format.specs.Basics.Bytes.{Bytes, byteAt, u16at, u32at, u64at, part}
+use Rattle.format.specs.Basics.Bytes.{Bytes, byteAt, number, u16at, u32at, part}
 use Rattle.format.specs.Layout.Name.{Name}
 
 -- what left, right and child hold where they name no entry
@@ -76,6 +76,6 @@ sizeField = 120
 unfoldable pub start : Bytes → ℕ
 start e = u32at e startField
 
--- the size as read
-unfoldable pub size : Bytes → ℕ
-size e = u64at e sizeField
+-- the size as read, of which so many bytes count
+unfoldable pub size : ℕ → Bytes → ℕ
+size counted e = number (part e sizeField counted)

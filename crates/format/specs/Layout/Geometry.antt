@@ -1,6 +1,8 @@
 -- The sizes and places that the sector size fixes. Version 3 is the one geometry of today, and every definition takes it as an argument.
 use Prim.Native.Nat.{ℕ, _+_, _-_, _*_, _/_, _%_}
+use mathlib.Core.Bool.{cond}
 use mathlib.Core.List.{List}
+use lib.Dec.{eqb}
 use lib.ListN.{length, getD}
 use Rattle.format.specs.Basics.Bytes.{Bytes}
 
@@ -24,6 +26,12 @@ entryBytes = 128
 -- the DIFAT entries that stand in the header
 unfoldable pub headerDifat : ℕ
 headerDifat = 109
+
+-- ---- what the version decides
+
+-- how many of the eight bytes of a size count: in version 3, where old programs left the upper ones unset, the lower four
+unfoldable pub sizeWidth : Geometry → ℕ
+sizeWidth g = cond (eqb (g .major) 3) 4 8
 
 -- ---- what the sector size decides
 

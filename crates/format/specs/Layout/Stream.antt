@@ -7,7 +7,8 @@ use lib.ListN.{take}
 use Rattle.format.specs.Basics.Bytes.{Bytes}
 use Rattle.format.specs.Layout.Need.{cutoff}
 use Rattle.format.specs.Layout.Space.{Space, unitsFor, block, laid}
-use Rattle.format.specs.Layout.Entry.{size, start}
+use Rattle.format.specs.Layout.Entry.{start}
+use Rattle.format.specs.Layout.Directory.{sizeOf}
 use Rattle.format.specs.Layout.Volume.{Volume}
 
 -- below the cutoff a stream lies in mini sectors, and else in sectors
@@ -15,7 +16,7 @@ unfoldable pub spaceFor : Volume → ℕ → Space
 spaceFor v n = cond (ltb n cutoff) (v .minis) (v .sectors)
 
 unfoldable pub streamSize : Volume → ℕ → ℕ
-streamSize v i = size (v .directory .entry i)
+streamSize v i = sizeOf (v .directory) i
 
 -- the units of entry i's stream, of whichever space they are
 unfoldable pub streamUnits : Volume → ℕ → List ℕ

@@ -8,8 +8,8 @@ use Rattle.format.specs.Layout.Chain.{units}
 use Rattle.format.specs.Layout.Space.{Space, unitsFor}
 use Rattle.format.specs.Layout.Header.{directoryStart, miniFatStart, miniFatCount}
 use Rattle.format.specs.Layout.Tables.{cellPlaceIn, cellIn, fatCell, fatSectors, difatSectors, sectorSpace}
-use Rattle.format.specs.Layout.Entry.{size, start}
-use Rattle.format.specs.Layout.Directory.{Directory, directorySectors, directoryOf, entryPlace}
+use Rattle.format.specs.Layout.Entry.{start}
+use Rattle.format.specs.Layout.Directory.{Directory, directorySectors, directoryOf, entryPlace, sizeOf}
 
 -- ---- the parts
 
@@ -25,8 +25,8 @@ miniFatSectors g img = units (fatCell g img) (miniFatCount img) (miniFatStart im
 -- the sectors that hold the mini stream: the root's size and start say where it is
 unfoldable pub miniStreamSectors : Geometry → Bytes → List ℕ
 miniStreamSectors g img =
-    let root = directory g img .entry 0 in
-    unitsFor (sectorSpace g img) (size root) (start root)
+    let d = directory g img in
+    unitsFor (sectorSpace g img) (sizeOf d 0) (start (d .entry 0))
 
 unfoldable pub miniCells : Geometry → Bytes → ℕ
 miniCells g img = cellsIn g * miniFatCount img
@@ -37,7 +37,7 @@ miniSpace g img =
     let table = miniFatSectors g img in
     let stream = miniStreamSectors g img in
     record {
-      limit = size (directory g img .entry 0) / miniBytes;
+      limit = sizeOf (directory g img) 0 / miniBytes;
       cells = miniCells g img;
       unit = miniBytes;
       cell = cellIn g img table (miniCells g img);
@@ -83,6 +83,9 @@ volume g img =
 
 unfoldable pub root : Volume → Bytes
 root v = v .directory .entry 0
+
+unfoldable pub rootSize : Volume → ℕ
+rootSize v = sizeOf (v .directory) 0
 
 -- the sectors of the system, all together
 unfoldable pub systemSectors : Volume → List ℕ

@@ -1,5 +1,5 @@
 -- Group 14: the fields of the entries.
-use Prim.Native.Nat.{ℕ, zero, suc, _+_, _-_, _%_}
+use Prim.Native.Nat.{ℕ, zero, suc, _-_, _%_}
 use mathlib.Core.Bool.{Bool, _&&_, _||_}
 use lib.Dec.{eqb, leb}
 use Rattle.format.specs.Basics.Lists.{allBelow}
@@ -46,9 +46,9 @@ storageFields e = nameFields e && eqb (start e) 0 && allZero (part e sizeField 8
 unfoldable pub rootFields : Bytes → Bool
 rootFields e = eqb (left e) NOSTREAM && eqb (right e) NOSTREAM && allZero (created e)
 
--- every type: a colour, and a size of four bytes
+-- every type: a colour
 unfoldable pub commonFields : Bytes → Bool
-commonFields e = leb (colour e) 1 && allZero (part e (sizeField + 4) 4)
+commonFields e = leb (colour e) 1
 
 -- ---- all entries
 

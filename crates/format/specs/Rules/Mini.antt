@@ -6,8 +6,8 @@ use Rattle.format.specs.Basics.Lists.{allBelow}
 use Rattle.format.specs.Layout.Geometry.{miniBytes}
 use Rattle.format.specs.Layout.Chain.{chain}
 use Rattle.format.specs.Layout.Space.{Space, chainFor}
-use Rattle.format.specs.Layout.Entry.{size, start}
-use Rattle.format.specs.Layout.Volume.{Volume, root}
+use Rattle.format.specs.Layout.Entry.{start}
+use Rattle.format.specs.Layout.Volume.{Volume, root, rootSize}
 use Rattle.format.specs.Rules.Cells.{plainCell, restFree}
 
 unfoldable pub miniCellRight : Space → ℕ → Bool
@@ -19,7 +19,7 @@ miniFatChain v = chain (v .sectors .cell) (v .sectors .limit) (v .miniFatCount) 
 
 -- the root's size is of whole mini sectors, and its start is a chain that holds so many bytes
 unfoldable pub miniStreamChain : Volume → Bool
-miniStreamChain v = eqb (size (root v) % miniBytes) 0 && chainFor (v .sectors) (size (root v)) (start (root v))
+miniStreamChain v = eqb (rootSize v % miniBytes) 0 && chainFor (v .sectors) (rootSize v) (start (root v))
 
 -- GROUP 16: these chains, a cell for each of the K mini sectors, and the cells' values
 unfoldable pub miniRules : Volume → Bool

@@ -6,6 +6,7 @@ use Rattle.format.specs.Layout.Entry.{isStream}
 use Rattle.format.specs.Calls.Text.{decimal}
 use Rattle.entries.specs.Entry.{entryAt}
 use Rattle.text.proofs.Decimals.{decimal-most}
+use Rattle.lines.specs.Lines.{widthOf}
 use Rattle.lines.proofs.LineLengths.{stream-length, storage-length}
 use Rattle.lines.proofs.head_length.Statement.{statement}
 use Rattle.lines.proofs.head_length.Tie as tie
@@ -25,5 +26,5 @@ head-length-spec =
     (λ c.
     let s = c .before in
     let k = s .before .before in
-    omega (arith, c .decimal-length .ensures, ap (λ n. length (decimal n)) (s .size .ensures), stream-length _ (sym (streams k) ∙ s .before .if1 .taken)))  -- returns
-    (λ c. sym (storage-length _ (sym (streams (c .before)) ∙ c .if1 .left))))  -- returns-2
+    omega (arith, c .decimal-length .ensures, ap (λ n. length (decimal n)) (s .size .ensures), stream-length (widthOf (k .before .before .before .args .g)) _ (sym (streams k) ∙ s .before .if1 .taken)))  -- returns
+    (λ c. sym (storage-length _ _ (sym (streams (c .before)) ∙ c .if1 .left))))  -- returns-2

@@ -9,7 +9,7 @@ use Rattle.format.specs.Basics.Bytes.{Bytes}
 use Rattle.format.specs.Layout.Entry.{name}
 use Rattle.format.specs.Calls.Text.{printName}
 use Rattle.entries.specs.Entry.{entryAt}
-use Rattle.lines.specs.Lines.{head}
+use Rattle.lines.specs.Lines.{widthOf, head}
 use Rattle.lines.proofs.LineLengths.{length-parts}
 use Rattle.text.proofs.Filled.{Filled, lent-length, filled-length}
 use Rattle.lines.proofs.LineWrites.{nameless, line-head, line-before, name-room, line-name, line-end}
@@ -19,17 +19,20 @@ use Rattle.lines.proofs.put_line.Tie as tie
 abbrev entryOf : tie.Start → Bytes
 entryOf s = entryAt (s .args .img .now) (s .args .p)
 
+abbrev width : tie.Start → ℕ
+width s = widthOf (s .args .g)
+
 abbrev namelessOf : tie.Start → Bytes
-namelessOf s = nameless (s .args .out .now) (entryOf s) (s .args .at) (s .args .from) (s .args .parent)
+namelessOf s = nameless (width s) (s .args .out .now) (entryOf s) (s .args .at) (s .args .from) (s .args .parent)
 
 -- the head is written
 headed : (c : tie.After-slice-known2) → let s = c .before .before .before .before .before .before in
-    Filled (s .args .out .now) (take (s .args .at) (s .args .out .now) ++ head (entryOf s))
+    Filled (s .args .out .now) (take (s .args .at) (s .args .out .now) ++ head (width s) (entryOf s))
     (putMid (s .args .at) (length (s .args .out .now) - s .args .at) (s .args .out .now) (c .before .before .put-head .last .0)) (s .args .at + c .before .before .put-head .result)
 headed c =
     let h = c .before .before in
     let s = h .before .before .before .before in
-    line-head (s .args .out .now) (entryOf s) (s .args .at) (s .args .from) (s .args .parent) (s .pre .1 .0) (s .pre .1 .1) (h .put-head .ensures .0) (h .put-head .ensures .1)
+    line-head (width s) (s .args .out .now) (entryOf s) (s .args .at) (s .args .from) (s .args .parent) (s .pre .1 .0) (s .pre .1 .1) (h .put-head .ensures .0) (h .put-head .ensures .1)
 
 -- and what is before the name
 begun : (c : tie.After-slice-known3) → let s = c .before .before .before .before .before .before .before .before .before .before in
@@ -39,7 +42,7 @@ begun c =
     let p = c .before .before in
     let h = p .before .before in
     let s = h .before .before .before .before .before .before in
-    line-before (s .args .out .now) (entryOf s) (s .args .at) (s .args .from) (s .args .parent) (s .pre .1 .0) (s .pre .1 .1) (headed h) (p .put-before .ensures .0) (p .put-before .ensures .1)
+    line-before (width s) (s .args .out .now) (entryOf s) (s .args .at) (s .args .from) (s .args .parent) (s .pre .1 .0) (s .pre .1 .1) (headed h) (p .put-before .ensures .0) (p .put-before .ensures .1)
 
 abbrev place : tie.After-slice-known3 → ℕ
 place c =
@@ -50,7 +53,7 @@ room : (c : tie.After-slice-known3) → let s = c .before .before .before .befor
     place c + length (printName (name (entryOf s))) < length (s .args .out .now)
 room c =
     let s = c .before .before .before .before .before .before .before .before .before .before in
-    name-room (s .args .out .now) (entryOf s) (s .args .at) (s .args .from) (s .args .parent) (s .pre .1 .0) (s .pre .1 .1) (begun c)
+    name-room (width s) (s .args .out .now) (entryOf s) (s .args .at) (s .args .from) (s .args .parent) (s .pre .1 .0) (s .pre .1 .1) (begun c)
 
 -- and the name
 named : (c : tie.After-slice-known4) → let b = c .before .before .before .before in
@@ -63,7 +66,7 @@ named c =
     let n = c .before .before in
     let b = n .before .before in
     let s = b .before .before .before .before .before .before .before .before .before .before in
-    line-name (s .args .out .now) (entryOf s) (s .args .at) (s .args .from) (s .args .parent) (s .pre .1 .0) (s .pre .1 .1) (begun b) (n .put-name .ensures .0) (n .put-name .ensures .1)
+    line-name (width s) (s .args .out .now) (entryOf s) (s .args .at) (s .args .from) (s .args .parent) (s .pre .1 .0) (s .pre .1 .1) (begun b) (n .put-name .ensures .0) (n .put-name .ensures .1)
 
 pub put-line-spec : {M : Type 1} → statement M
 put-line-spec =
@@ -74,12 +77,12 @@ put-line-spec =
     (λ c. search needs)  -- part-put-head-end
     (λ c κs.
     let s = c .before .before .before in
-    (s .pre .0 .whole, rw (lent-length (s .args .out .now) (s .args .at)) (omega (arith, s .pre .1 .1, length-parts (entryOf s) (s .args .parent)))))  -- put-head-requires
+    (s .pre .0 .whole, rw (lent-length (s .args .out .now) (s .args .at)) (omega (arith, s .pre .1 .1, length-parts (width s) (entryOf s) (s .args .parent)))))  -- put-head-requires
     (λ c. omega (arith, headed c .room))  -- add-start
     (λ c κs.
     let h = c .before in
     let s = h .before .before .before .before .before .before in
-    (omega (arith, s .pre .1 .0), omega (arith, filled-length (headed h), h .before .before .put-head .ensures .0, s .pre .1 .1, length-parts (entryOf s) (s .args .parent))))  -- put-before-requires
+    (omega (arith, s .pre .1 .0), omega (arith, filled-length (headed h), h .before .before .put-head .ensures .0, s .pre .1 .1, length-parts (width s) (entryOf s) (s .args .parent))))  -- put-before-requires
     (λ c. omega (arith, begun c .room))  -- add-end
     (λ c. omega (arith, begun c .room, filled-length (begun c)))  -- sub-put-name
     (λ c. omega (arith, begun c .room, filled-length (begun c)))  -- part-put-name-start
@@ -96,6 +99,6 @@ put-line-spec =
     let h = b .before .before .before .before in
     let s = h .before .before .before .before .before .before in (
       ap (λ n. s .args .at + n) (h .before .before .put-head .ensures .0),
-      line-end (s .args .out .now) (entryOf s) (s .args .at) (s .args .from) (s .args .parent) (s .pre .1 .0) (s .pre .1 .1) (named c)
+      line-end (width s) (s .args .out .now) (entryOf s) (s .args .at) (s .args .from) (s .args .parent) (s .pre .1 .0) (s .pre .1 .1) (named c)
           (omega (arith, c .before .before .put-name .ensures .0, room b)),
     )))  -- returns

@@ -7,7 +7,7 @@ use Rattle.tables.proofs.WorkLaws.{wrote-two}
 use Rattle.entries.specs.Entry.{entryAt}
 use Rattle.directory.specs.Listed.{countOf, entriesOf, placeOf}
 use Rattle.directory.proofs.Places.{placed, root-inside}
-use Rattle.lines.specs.Lines.{lineLength}
+use Rattle.lines.specs.Lines.{widthOf, lineLength}
 use Rattle.listing.specs.Walks.{pairs, entryOn, parentOn, Turning}
 use Rattle.listing.proofs.Walked.{countCome}
 use Rattle.listing.proofs.Walks.{ListingLent, start-sound, start-room, start-walks, walks-here, walks-turning, walks-inside, walks-named, walks-count, walks-less}
@@ -43,7 +43,8 @@ place-is : (c : tie.After-place Inv-loop μ-loop) → let t = c .before .before 
 place-is c = rw (← c .before .before .pair-at .ensures .0) (c .place .ensures)
 
 line-is : (c : tie.After-line-length Inv-loop μ-loop) → let a = c .before .before in let t = a .before .before .before .before in
-    c .line-length .result ≡ lineLength (entryAt (t .before .before .before .before .before .before .before .before .before .before .args .img .now) (a .place .result)) (parentOn (t .before .loop .work) (t .before .loop .n - 1))
+    let s = t .before .before .before .before .before .before .before .before .before .before .args in
+    c .line-length .result ≡ lineLength (widthOf (s .d .geometry)) (entryAt (s .img .now) (a .place .result)) (parentOn (t .before .loop .work) (t .before .loop .n - 1))
 line-is c = rw (← c .before .before .before .before .pair-at .ensures .1) (c .line-length .ensures)
 
 pub measure-spec : {M : Type 1} → statement M

@@ -9,7 +9,7 @@ use Rattle.tables.proofs.WorkLaws.{wrote-two}
 use Rattle.entries.specs.Entry.{entryAt}
 use Rattle.directory.specs.Listed.{countOf, entriesOf, placeOf}
 use Rattle.directory.proofs.Places.{placed, root-inside}
-use Rattle.lines.specs.Lines.{lineLength}
+use Rattle.lines.specs.Lines.{widthOf, lineLength}
 use Rattle.listing.specs.Walks.{pairs, entryOn, parentOn, Turning}
 use Rattle.text.proofs.Filled.{filled-length}
 use Rattle.listing.proofs.Walked.{countCome}
@@ -71,7 +71,7 @@ place-is : (c : tie.After-place Inv-loop μ-loop) → let t = c .before .before 
 place-is c = rw (← c .before .before .pair-at .ensures .0) (c .place .ensures)
 
 line-is : (c : tie.After-line-length Inv-loop μ-loop) → let a = c .before .before .before .before .before .before in let t = a .before .before .before .before in
-    c .line-length .result ≡ lineLength (entryAt (start t .args .img .now) (a .place .result)) (parentOn (t .before .loop .work) (t .before .loop .n - 1))
+    c .line-length .result ≡ lineLength (widthOf (start t .args .d .geometry)) (entryAt (start t .args .img .now) (a .place .result)) (parentOn (t .before .loop .work) (t .before .loop .n - 1))
 line-is c = rw (← c .before .before .before .before .before .before .before .before .pair-at .ensures .1) (c .line-length .ensures)
 
 pub write-spec : {M : Type 1} → statement M

@@ -4,7 +4,7 @@ use native.Mathlib.Omega.{arith}
 use lib.Dec.{eqb}
 use Rattle.kinds.specs.Sizes.{geometryOf}
 use Rattle.directory.proofs.Places.{placed, place-inside}
-use Rattle.system_chains.proofs.SystemLaws.{entry-read}
+use Rattle.system_chains.proofs.SystemLaws.{entry-read, size-read}
 use Rattle.owners.proofs.StreamLaws.{large-walked, large-not-walked}
 use Rattle.owners.proofs.mark_large.Statement.{statement}
 use Rattle.owners.proofs.mark_large.Tie as tie
@@ -24,11 +24,11 @@ mark-large-spec =
     let p = c .before .before .before .before .before .before .before .before .before .before .before .before .before in
     let e = entry-read (p .args .t .geometry) (p .args .x .0) _ (p .pre .0 .directory) (p .pre .0 .same) (p .pre .1 .1) (c .before .before .before .before .before .before .before .before .before .place .ensures) in
     large-walked (geometryOf (p .args .t .geometry)) (p .args .img .now) (p .args .x .0) _ _ e
-    (c .before .before .before .before .before .before .is-stream .ensures ∙ ap (λ k. eqb k 2) (c .before .before .before .before .before .before .before .entry-type .ensures)) (c .before .before .before .before .before .before .before .before .size .ensures)
+    (c .before .before .before .before .before .before .is-stream .ensures ∙ ap (λ k. eqb k 2) (c .before .before .before .before .before .before .before .entry-type .ensures)) (size-read _ _ (p .args .x .0) (c .before .before .before .before .before .before .before .before .size .ensures) e)
     _ (c .before .before .before .start-sector .ensures) (c .before .before .before .before .before .if1 .taken) (omega (arith, p .pre .0 .fat .sized .few)) (c .before .before .mark-bytes .ensures))  -- returns
     (λ c. search needs)  -- same-length-2
     (λ c.
     let p = c .before .before .before .before .before .before .before .before in
     let e = entry-read (p .args .t .geometry) (p .args .x .0) _ (p .pre .0 .directory) (p .pre .0 .same) (p .pre .1 .1) (c .before .before .before .before .place .ensures) in
     large-not-walked (geometryOf (p .args .t .geometry)) (p .args .img .now) (p .args .x .0) _ _ e
-    (c .before .is-stream .ensures ∙ ap (λ k. eqb k 2) (c .before .before .entry-type .ensures)) (c .before .before .before .size .ensures) (c .if1 .left) (p .pre .1 .0)))  -- returns-2
+    (c .before .is-stream .ensures ∙ ap (λ k. eqb k 2) (c .before .before .entry-type .ensures)) (size-read _ _ (p .args .x .0) (c .before .before .before .size .ensures) e) (c .if1 .left) (p .pre .1 .0)))  -- returns-2

@@ -6,23 +6,23 @@ use borrow.Author.Tests.{not-true, not-false}
 use Rattle.format.specs.Layout.Geometry.{cellsIn}
 use Rattle.format.specs.Layout.Header.{miniFatCount}
 use Rattle.format.specs.Layout.Volume.{volume, miniSpace}
-use Rattle.format.specs.Layout.Entry.{size}
 use Rattle.kinds.specs.Sizes.{geometryOf}
 use Rattle.tables.specs.Work.{Wrote}
 use Rattle.tables.proofs.WorkLaws.{wrote-none}
 use Rattle.directory.proofs.Places.{placed, place-inside, root-inside}
 use Rattle.minis.specs.Listed.{MiniCounts}
 use Rattle.volume.specs.Passed.{miniCellRules}
-use Rattle.system_chains.proofs.SystemLaws.{root-read}
+use Rattle.system_chains.proofs.SystemLaws.{root-read, size-read}
 use Rattle.volume.proofs.MiniCounts.{units-are, table-short, table-cells, mini-counts, cells-too-few, cells-by-rules}
 use Rattle.volume.proofs.mini_stage.mini_table.Statement.{statement}
 use Rattle.volume.proofs.mini_stage.mini_table.Tie as tie
 
 -- how many mini sectors there are, as the code works it out
 units : (c : tie.After-size) → let p = c .before .before .before .before .before .before .args in c .size .result / 64 ≡ miniSpace (geometryOf (p .t .geometry)) (p .img .now) .limit
+unfolding volume
 units c =
     let p = c .before .before .before .before .before .before in
-    ap (λ n. n / 64) (c .size .ensures ∙ ap size (root-read _ _ (p .pre .directory) (p .pre .same) (c .before .place .ensures))) ∙ sym (units-are _ _)
+    ap (λ n. n / 64) (size-read _ _ 0 (c .size .ensures) (root-read _ _ (p .pre .directory) (p .pre .same) (c .before .place .ensures))) ∙ sym (units-are _ _)
 
 -- how many cells the mini FAT has
 cells : (c : tie.After-cells) → let p = c .before .before .before .before .before .before .before .before .args in c .cells .result * c .before .mini-fat-count .result ≡ cellsIn (geometryOf (p .t .geometry)) * miniFatCount (p .img .now)
