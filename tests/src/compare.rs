@@ -3,9 +3,11 @@
 use crate::calls::{ANSWERS, Answers, OPENED_ANSWERS, Outcome, of_image, perform};
 use crate::cases::Case;
 use crate::effects;
+use crate::geometry::VERSIONS;
 #[cfg(feature = "library")]
 use crate::library;
 use crate::model::Model;
+use crate::volume::version;
 use std::collections::BTreeMap;
 use std::rc::Rc;
 
@@ -13,8 +15,8 @@ use std::rc::Rc;
 pub struct Tally {
     pub passed: u64,
     pub failed: u64,
-    /// How often each call had each answer.
-    answers: BTreeMap<(&'static str, u32), u64>,
+    /// How often each call had each answer on images of each major version.
+    answers: BTreeMap<(&'static str, u16, u32), u64>,
     /// Name each case before it is run.
     trace: bool,
 }
@@ -29,8 +31,8 @@ impl Tally {
     pub fn run(&mut self, name: &str, case: &Case) -> Option<After> {
         self.announce(name, case);
         let after = self.judged(name, case, check(case))?;
-        self.count(case.call.name(), after.outcome.answer);
-        self.count("open", of_image(after.outcome.answer));
+        self.count(case.call.name(), case, after.outcome.answer);
+        self.count("open", case, of_image(after.outcome.answer));
         Some(after)
     }
 
@@ -40,7 +42,7 @@ impl Tally {
         self.announce(name, case);
         let checked = check_plain(case).and_then(|after| opened.check(case, &after).map(|()| after));
         let after = self.judged(name, case, checked)?;
-        self.count(case.call.opened_name(), after.outcome.answer);
+        self.count(case.call.opened_name(), case, after.outcome.answer);
         Some(after)
     }
 
@@ -54,8 +56,8 @@ impl Tally {
         self.pass(name, checked.map_err(|fault| format!("{fault}; {}", case.description())))
     }
 
-    fn count(&mut self, call: &'static str, answer: u32) {
-        *self.answers.entry((call, answer)).or_default() += 1;
+    fn count(&mut self, call: &'static str, case: &Case, answer: u32) {
+        *self.answers.entry((call, version(&case.image).major, answer)).or_default() += 1;
     }
 
     /// Counts a check as passed or failed.
@@ -87,19 +89,19 @@ impl Tally {
             println!("not compared with the library: overwrite, set_len, opened calls");
         }
         let opened = if cfg!(feature = "edits") { OPENED_ANSWERS } else { &[] };
-        for (call, _) in ANSWERS.iter().chain(opened) {
-            let of_call = self.answers.iter().filter(|((name, _), _)| name == call);
-            let counts: Vec<String> = of_call.map(|((_, answer), times)| format!("{answer}: {times}")).collect();
-            println!("{call:<17}{}", counts.join("  "));
+        for (g, (call, _)) in VERSIONS.into_iter().flat_map(|g| ANSWERS.iter().chain(opened).map(move |row| (g, row))) {
+            let of_call = self.answers.iter().filter(|((name, major, _), _)| name == call && *major == g.major);
+            let counts: Vec<String> = of_call.map(|((_, _, answer), times)| format!("{answer}: {times}")).collect();
+            println!("version {}  {call:<17}{}", g.major, counts.join("  "));
         }
     }
 
-    /// An answer that one of these calls never had counts as a failure.
+    /// An answer that one of these calls never had on an image of either version counts as a failure.
     pub fn ask_for_every_answer(&mut self, calls: &Answers) {
-        for (call, answers) in calls {
+        for (g, (call, answers)) in VERSIONS.into_iter().flat_map(|g| calls.iter().map(move |row| (g, row))) {
             for answer in *answers {
-                if !self.answers.contains_key(&(*call, *answer)) {
-                    self.fail(call, &format!("never answered {answer}"));
+                if !self.answers.contains_key(&(*call, g.major, *answer)) {
+                    self.fail(call, &format!("never answered {answer} in version {}", g.major));
                 }
             }
         }

@@ -57,13 +57,13 @@ impl Seen<'_> {
 
     /// All eight bytes of its size.
     fn size_field(&self) -> &[u8] {
-        &self.volume.directory.entry(self.entry).0[120..]
+        &self.volume.directory.entry(self.entry).bytes[120..]
     }
 
     /// The places of its cells, its start and its size.
     fn fields(&self) -> impl Iterator<Item = Range<usize>> {
         let table = if self.size < CUTOFF { &self.volume.mini.fat } else { &self.volume.tables.fat };
-        let cells = self.chain.iter().map(|&unit| cell(table, unit, FREE));
+        let cells = self.chain.iter().map(|&unit| cell(self.volume.geometry, table, unit, FREE));
         let entry = field(&self.volume, self.entry, 116, &[0; 12]);
         cells.chain([entry]).map(|patch| patch.at..patch.at + patch.bytes.len())
     }

@@ -8,6 +8,7 @@ pub mod compare;
 pub mod draw;
 pub mod effects;
 pub mod files;
+pub mod geometry;
 pub mod images;
 pub mod model;
 pub mod number;

@@ -6,14 +6,10 @@ pub const FATSECT: u32 = 0xFFFF_FFFD;
 pub const DIFSECT: u32 = 0xFFFF_FFFC;
 pub const NOSTREAM: u32 = 0xFFFF_FFFF;
 
-pub const SECTOR: usize = 512;
 pub const MINI_SECTOR: u64 = 64;
 pub const CUTOFF: u64 = 4096;
-/// Cells in a FAT or mini FAT sector.
-pub const CELLS: usize = 128;
-/// DIFAT entries in the header, and in a DIFAT sector before its link.
+/// DIFAT entries in the header.
 pub const HEADER_DIFAT: usize = 109;
-pub const SECTOR_DIFAT: usize = 127;
 pub const ENTRY: usize = 128;
 
 pub fn u16_at(bytes: &[u8], at: usize) -> u16 {
@@ -34,25 +30,6 @@ pub fn put_u16(bytes: &mut [u8], at: usize, value: u16) {
 
 pub fn put_u32(bytes: &mut [u8], at: usize, value: u32) {
     bytes[at..at + 4].copy_from_slice(&value.to_le_bytes());
-}
-
-/// Where sector s starts; the header lies before sector 0.
-pub fn sector_place(s: u32) -> usize {
-    (s as usize + 1) * SECTOR
-}
-
-/// The bytes of sector s.
-pub fn sector(image: &[u8], s: u32) -> &[u8] {
-    &image[sector_place(s)..][..SECTOR]
-}
-
-/// The bytes of these sectors laid end to end.
-pub fn gather(image: &[u8], sectors: &[u32]) -> Vec<u8> {
-    let mut bytes = Vec::with_capacity(sectors.len() * SECTOR);
-    for &s in sectors {
-        bytes.extend_from_slice(sector(image, s));
-    }
-    bytes
 }
 
 /// These bytes as 32-bit numbers.

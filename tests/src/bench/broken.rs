@@ -4,6 +4,7 @@ use super::good::build;
 use super::{Make, Scale, make};
 use crate::breaks::edit::*;
 use crate::cases::large::many_streams;
+use crate::geometry::V3;
 use crate::images::Sample;
 use crate::number::*;
 
@@ -29,7 +30,7 @@ pub const MAKES: &[Make] = &[
 ];
 
 fn base(s: Scale) -> Sample {
-    build(many_streams(s.sectors, s.times * 8_000, &[300, 64, 400, 100, 65, 0, 1, 5_000, 200, 64]))
+    build(many_streams(V3, s.sectors(V3), s.times * 8_000, &[300, 64, 400, 100, 65, 0, 1, 5_000, 200, 64]))
 }
 
 fn with(s: Scale, change: fn(&mut Sample)) -> Vec<u8> {

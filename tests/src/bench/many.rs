@@ -2,9 +2,9 @@
 
 use crate::calls::{Call, read};
 use crate::cases::large::{OF_8_MIB, many_streams};
+use crate::geometry::V3;
 use crate::images::plan::Plan;
 use crate::images::{Sample, names, write};
-use crate::number::{SECTOR, sector_place};
 use crate::random::Random;
 use crate::volume::Volume;
 
@@ -15,12 +15,12 @@ pub const BYTES: usize = 1_000;
 
 /// In the plainest layout, with a name for the root, since other programs read this file too.
 pub fn image() -> Vec<u8> {
-    let plan = Plan { sectors: None, spare_minis: 1_000, ..many_streams(OF_8_MIB, STREAMS, &[BYTES as u32]) };
+    let plan = Plan { sectors: None, spare_minis: 1_000, ..many_streams(V3, OF_8_MIB, STREAMS, &[BYTES as u32]) };
     let mut random = Random::of(7, 7);
     let Sample { mut image, layout } = Sample::build(&plan, &mut random);
     write::name(&mut image, layout.entry(0), &names::of("Root Entry"));
     for &s in &layout.mini_stream {
-        random.fill(&mut image[sector_place(s)..][..SECTOR]);
+        random.fill(&mut image[V3.place(s)..][..V3.sector]);
     }
     image
 }

@@ -3,18 +3,27 @@
 pub mod broken;
 pub mod good;
 pub mod many;
+pub mod version4;
 pub mod worst;
 
-use crate::cases::large::{OF_8_MIB, OF_64_MIB};
+use crate::cases::large::{MIB_8, MIB_64};
+use crate::geometry::Geometry;
 
 /// How long an image is, and how many times as much of everything it holds as one of 8 MiB.
 #[derive(Clone, Copy)]
 pub struct Scale {
-    pub sectors: u32,
+    bytes: usize,
     pub times: usize,
 }
 
-pub const SCALES: [Scale; 2] = [Scale { sectors: OF_8_MIB, times: 1 }, Scale { sectors: OF_64_MIB, times: 8 }];
+pub const SCALES: [Scale; 2] = [Scale { bytes: MIB_8, times: 1 }, Scale { bytes: MIB_64, times: 8 }];
+
+impl Scale {
+    /// N in this version.
+    fn sectors(&self, g: Geometry) -> u32 {
+        g.count(self.bytes)
+    }
+}
 
 /// A make of images, with the answer that the papers give them.
 pub struct Make {
@@ -43,7 +52,7 @@ fn with_commas(number: usize) -> String {
     groups.join(",")
 }
 
-/// The good ones first.
+/// The good ones of version 3 first, those of version 4 last.
 pub fn makes() -> impl Iterator<Item = &'static Make> {
-    [good::MAKES, broken::MAKES, worst::MAKES].into_iter().flatten()
+    [good::MAKES, broken::MAKES, worst::MAKES, version4::MAKES].into_iter().flatten()
 }

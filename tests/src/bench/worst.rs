@@ -4,6 +4,7 @@ use super::good::{build, entries, image};
 use super::{Make, Scale, make};
 use crate::breaks::edit::*;
 use crate::cases::large::*;
+use crate::geometry::V3;
 use crate::images::Sample;
 use crate::images::names;
 use crate::images::plan::*;
@@ -19,10 +20,10 @@ pub const MAKES: &[Make] = &[
     }),
     make(18, "# streams from places along one chain", &[30_000], |s| changed(one_and_many(s, long(s)), share_tails)),
     make(18, "# streams on one mini chain", &[30_000], |s| changed(one_and_many(s, 4_095), share)),
-    make(0, "# entries, right sides only", &[60_000], |s| image(entries(s, Shape::RightOnly))),
-    make(0, "# entries, left sides only", &[60_000], |s| image(entries(s, Shape::LeftOnly))),
-    make(0, "# entries, zigzag", &[60_000], |s| image(entries(s, Shape::ZigZag))),
-    make(0, "# storages nested", &[60_000], |s| image(nested(s.sectors, s.times * 60_000))),
+    make(0, "# entries, right sides only", &[60_000], |s| image(entries(V3, s, Shape::RightOnly))),
+    make(0, "# entries, left sides only", &[60_000], |s| image(entries(V3, s, Shape::LeftOnly))),
+    make(0, "# entries, zigzag", &[60_000], |s| image(entries(V3, s, Shape::ZigZag))),
+    make(0, "# storages nested", &[60_000], |s| image(nested(V3, s.sectors(V3), s.times * 60_000))),
     make(13, "ring in the directory's chain", &[], |s| changed(right_only(s), |s| ring(s, |s| &s.layout.directory))),
     make(15, "ring of siblings", &[], |s| {
         changed(right_only(s), |s| {
@@ -33,7 +34,7 @@ pub const MAKES: &[Make] = &[
     make(16, "ring in the mini FAT's chain", &[], |s| changed(minis(s), |s| ring(s, |s| &s.layout.mini_fat))),
     make(16, "ring in the mini stream's chain", &[], |s| changed(minis(s), |s| ring(s, |s| &s.layout.mini_stream))),
     make(17, "ring in a stream's chain", &[], |s| {
-        let stream = build(many_streams(s.sectors, 1, &[s.times as u32 * 16_000 * 512]));
+        let stream = build(many_streams(V3, s.sectors(V3), 1, &[s.times as u32 * 16_000 * 512]));
         changed(stream, |s| ring(s, |s| &s.layout.nodes.last().unwrap().units))
     }),
     make(17, "ring in the last mini chain", &[], |s| {
@@ -45,7 +46,7 @@ pub const MAKES: &[Make] = &[
 ];
 
 fn right_only(s: Scale) -> Sample {
-    build(entries(s, Shape::RightOnly))
+    build(entries(V3, s, Shape::RightOnly))
 }
 
 fn changed(mut sample: Sample, change: fn(&mut Sample)) -> Vec<u8> {
@@ -60,7 +61,7 @@ fn long(s: Scale) -> u32 {
 
 /// Empty streams, and a stream of this size as the first object.
 fn one_and_many(s: Scale, size: u32) -> Sample {
-    let mut plan = many_entries(s.sectors, s.times * 30_000, Shape::Balanced);
+    let mut plan = many_entries(V3, s.sectors(V3), s.times * 30_000, Shape::Balanced);
     plan.objects[1].size = Some(size);
     build(plan)
 }
@@ -87,7 +88,7 @@ fn share_tails(s: &mut Sample) {
 
 /// Streams of 64 mini sectors each.
 fn minis(s: Scale) -> Sample {
-    let mut plan = many_streams(s.sectors, s.times * 1_700, &[4_095]);
+    let mut plan = many_streams(V3, s.sectors(V3), s.times * 1_700, &[4_095]);
     plan.add(0, names::of("last"), Some(4_095));
     build(plan)
 }

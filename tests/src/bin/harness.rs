@@ -3,6 +3,7 @@
 //! harness SEED only KIND NUMBER           one case again: KIND is fixed, samples, small, large, tables, calls, deep, filled,
 //!                                         lists, opened
 
+use cfb_tests::breaks::uses::Uses;
 use cfb_tests::calls::{ANSWERS, OPENED_ANSWERS};
 #[cfg(feature = "edits")]
 use cfb_tests::cases::opened;
@@ -43,9 +44,10 @@ fn all(seed: u64, images: u64, calls: u64, list_count: u64) -> Tally {
     for image in 0..large::ALL_IMAGES {
         large::run(&mut cases, seed, image, &mut large_ran);
     }
-    let unused = tables::run(seed, &mut |number, case| drop(tally.run(&format!("seed {seed} tables {number}"), &case)));
+    let mut tables_ran = |number, case: Case| drop(tally.run(&format!("seed {seed} tables {number}"), &case));
+    let unused = tables::run(seed, &mut cases.uses, &mut tables_ran);
     for rule in unused {
-        tally.fail("never used with 8 DIFAT sectors", rule);
+        tally.fail("never used with many DIFAT sectors", &rule);
     }
     let mut random_calls = Calls::new(seed);
     for number in 0..calls {
@@ -53,7 +55,9 @@ fn all(seed: u64, images: u64, calls: u64, list_count: u64) -> Tally {
         tally.run(&format!("seed {seed} calls {number}"), &case);
     }
     deep::run(seed, &mut |number, case| drop(tally.run(&format!("seed {seed} deep {number}"), &case)));
-    filled::run(seed, false, &mut tally);
+    for number in 0..filled::LISTS {
+        filled::run(seed, number, false, &mut tally);
+    }
     for number in 0..list_count {
         lists::run(seed, number, false, &mut tally);
     }
@@ -74,10 +78,12 @@ fn each(cases: Vec<Case>, then: &mut dyn FnMut(u64, Case)) {
 /// In a long run a rule that was never broken and an answer that never came count as failures.
 fn report(tally: &mut Tally, cases: &Cases, images: u64, calls: u64, list_count: u64) {
     tally.report();
-    println!("{} kinds of change, the rarest used {} times", cases.used.len(), cases.used.iter().min().unwrap_or(&0));
+    for (major, changes, rarest) in cases.uses.rarest() {
+        println!("version {major}: {changes} kinds of change, the rarest used {rarest} times");
+    }
     if images >= ENOUGH {
-        for rule in cases.unused() {
-            tally.fail("never used", rule);
+        for rule in cases.uses.unused() {
+            tally.fail("never used", &rule);
         }
     }
     if calls >= ENOUGH_CALLS {
@@ -95,7 +101,7 @@ fn one(seed: u64, kind: &str, number: u64) -> Tally {
         return tally;
     }
     if kind == "filled" {
-        filled::run(seed, true, &mut tally);
+        filled::run(seed, number, true, &mut tally);
         return tally;
     }
     if kind == "opened" {
@@ -115,7 +121,7 @@ fn one(seed: u64, kind: &str, number: u64) -> Tally {
         "fixed" => fixed::run(&mut wanted),
         "samples" => each(samples::cases(), &mut wanted),
         "large" => large::run(&mut Cases::new(seed), seed, number / 10, &mut wanted),
-        "tables" => drop(tables::run(seed, &mut wanted)),
+        "tables" => drop(tables::run(seed, &mut Uses::default(), &mut wanted)),
         "calls" => wanted(number, Calls::new(seed).case(number)),
         "deep" => deep::run(seed, &mut wanted),
         _ => wanted(number, Cases::new(seed).case(number)),

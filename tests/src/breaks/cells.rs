@@ -22,7 +22,8 @@ pub const BREAKS: &[Break] = &[
 /// A value that no cell below N may have.
 fn outside(s: &Sample, r: &mut Random) -> u32 {
     let n = s.layout.sectors;
-    r.pick(&[n, n + 1, s.layout.cell_count().max(n), 0xFFFF_FFFB, 0xFFFF_FFFA, 0x8000_0000, 0x0100_0000, 0x0001_0000])
+    let cells = s.layout.cell_count().max(n);
+    r.pick(&[n, n + 1, cells, 0xFFFF_FFFB, 0xFFFF_FFFA, 0x8000_0000, 0x0100_0000, n.max(0x0001_0000)])
 }
 
 fn free_sector(s: &mut Sample, r: &mut Random) -> Option<()> {

@@ -1,6 +1,8 @@
-//! Group 13: the directory's chain.
+//! Group 13: the directory's chain, and in version 4 the count of its sectors.
 
+use super::edit::{put, wrong};
 use super::{Break, rule};
+use crate::geometry::V4;
 use crate::images::Sample;
 use crate::number::*;
 use crate::random::Random;
@@ -21,6 +23,21 @@ pub const BREAKS: &[Break] = &[
     rule(13, "directory: ring", ring),
     rule(13, "directory: runs into a table sector", into_table),
     rule(13, "directory: runs into a free sector", into_free),
+    rule(13, "directory: count one too small", |s, _| put(s, 40, s.layout.directory.len() as u32 - 1)).only(V4),
+    rule(13, "directory: count one too large", |s, _| put(s, 40, s.layout.directory.len() as u32 + 1)).only(V4),
+    rule(13, "directory: count wrong", wrong_count).only(V4),
+    rule(13, "directory: a sector more than counted", |s, r| {
+        let count = s.get(40);
+        s.directory_longer(r)?;
+        put(s, 40, count)
+    })
+    .only(V4),
+    rule(13, "directory: a sector fewer than counted", |s, _| {
+        let count = s.get(40);
+        s.directory_shorter()?;
+        put(s, 40, count)
+    })
+    .only(V4),
 ];
 
 fn start(s: &mut Sample, value: u32) -> Option<()> {
@@ -31,6 +48,12 @@ fn start(s: &mut Sample, value: u32) -> Option<()> {
 fn start_outside(s: &mut Sample, r: &mut Random) -> Option<()> {
     let n = s.layout.sectors;
     start(s, r.pick(&[n, n + 1, s.layout.cell_count().max(n), 0x0080_0000, 0x8000_0000, 0xFFFF_FFFA]))
+}
+
+fn wrong_count(s: &mut Sample, r: &mut Random) -> Option<()> {
+    let right = s.layout.directory.len() as u32;
+    let (entries, n) = (s.layout.entry_count(), s.layout.sectors);
+    put(s, 40, wrong(r, right, &[0, 8 * right, entries, n, right + 0x0100_0000, right + 0x1_0000, END, FREE]))
 }
 
 /// A FAT or a DIFAT sector.

@@ -2,6 +2,7 @@
 
 use crate::images::Sample;
 use crate::images::layout::Node;
+use crate::images::upper;
 use crate::images::write::{self, is_large};
 use crate::number::*;
 use crate::random::Random;
@@ -52,6 +53,14 @@ impl Sample {
         Some(())
     }
 
+    /// The upper half of a size gets one byte that is not zero, or rubbish in all of it.
+    pub fn spoil_upper(&mut self, random: &mut Random, entry: u32) -> Option<()> {
+        let at = self.layout.entry(entry) + UPPER;
+        let value = if random.one_in(2) { upper::rubbish(random) } else { 0 };
+        self.put(at, value);
+        if value == 0 { self.spoil(random, at, at + 4) } else { Some(()) }
+    }
+
     pub fn set_cell(&mut self, s: u32, value: u32) {
         self.put(self.layout.cell(s), value);
     }
@@ -79,10 +88,47 @@ impl Sample {
     /// A free sector made a DIFAT sector without entries.
     pub fn empty_difat_sector(&mut self, random: &mut Random) -> Option<u32> {
         let s = *random.some(&self.layout.free)?;
-        self.image[sector_place(s)..][..SECTOR].fill(0xFF);
-        self.put(sector_place(s) + 4 * SECTOR_DIFAT, END);
+        let g = self.layout.geometry;
+        self.image[g.place(s)..][..g.sector].fill(0xFF);
+        self.put(g.place(s) + 4 * g.difat, END);
         self.set_cell(s, DIFSECT);
         Some(s)
+    }
+
+    /// A free sector made a directory sector of blank entries behind the last one, and counted where they are.
+    pub fn directory_longer(&mut self, random: &mut Random) -> Option<()> {
+        let s = *random.some(&self.layout.free)?;
+        self.layout.free.retain(|&free| free != s);
+        self.set_cell(*self.layout.directory.last()?, s);
+        self.set_cell(s, END);
+        let first = self.layout.entry_count();
+        self.layout.directory.push(s);
+        for blank in first..self.layout.entry_count() {
+            write::blank_entry(&mut self.image, self.layout.entry(blank));
+            self.layout.blanks.push(blank);
+        }
+        self.count_directory();
+        Some(())
+    }
+
+    /// The last directory sector given free, if its entries are all blank, and no longer counted where they are.
+    pub fn directory_shorter(&mut self) -> Option<()> {
+        let from = self.layout.entry_count() - self.layout.geometry.entries as u32;
+        let blank = (from..self.layout.entry_count()).all(|entry| self.layout.blanks.contains(&entry));
+        (blank && from > 0).then_some(())?;
+        let s = self.layout.directory.pop()?;
+        self.layout.blanks.retain(|&entry| entry < from);
+        self.layout.free.push(s);
+        self.set_cell(s, FREE);
+        self.set_cell(*self.layout.directory.last()?, END);
+        self.count_directory();
+        Some(())
+    }
+
+    fn count_directory(&mut self) {
+        if self.layout.geometry.counts_directory {
+            self.put(40, self.layout.directory.len() as u32);
+        }
     }
 
     pub fn storage(&self, random: &mut Random) -> Option<Node> {
@@ -103,6 +149,10 @@ impl Sample {
 
     pub fn small(&self, random: &mut Random) -> Option<Node> {
         self.node(random, |node| !is_large(node) && !node.units.is_empty())
+    }
+
+    pub fn empty(&self, random: &mut Random) -> Option<Node> {
+        self.node(random, |node| node.size == Some(0))
     }
 
     /// One of the nodes that are asked for.

@@ -2,15 +2,14 @@
 
 use super::edit::*;
 use super::{Break, rule};
+use crate::geometry::{GREATEST_IMAGE, V3};
 use crate::images::Sample;
 use crate::images::layout::Node;
 use crate::images::letters::{self, OUT_OF_PLAIN_ORDER, UNLIKE};
 use crate::images::names::{self, Alphabet, BESIDE, REFUSED};
-use crate::images::upper;
 use crate::images::write;
 use crate::number::*;
 use crate::random::Random;
-use crate::volume::GREATEST_IMAGE;
 
 pub const CHANGES: &[Break] = &[
     rule(0, "harmless: minor version", |s, r| s.spoil(r, 24, 26)),
@@ -42,19 +41,22 @@ pub const CHANGES: &[Break] = &[
         let e = s.storage(r)?.entry;
         in_entry(s, r, e, 80, 116)
     }),
-    rule(0, "harmless: upper half of the root's size", |s, r| upper_half(s, r, 0)),
+    rule(0, "harmless: upper half of the root's size", |s, r| s.spoil_upper(r, 0)).only(V3),
     rule(0, "harmless: upper half of a small stream's size", |s, r| {
         let e = s.small(r)?.entry;
-        upper_half(s, r, e)
-    }),
+        s.spoil_upper(r, e)
+    })
+    .only(V3),
     rule(0, "harmless: upper half of a large stream's size", |s, r| {
         let e = s.large(r)?.entry;
-        upper_half(s, r, e)
-    }),
+        s.spoil_upper(r, e)
+    })
+    .only(V3),
     rule(0, "harmless: upper half of an empty stream's size", |s, r| {
-        let e = s.node(r, |node| node.size == Some(0))?.entry;
-        upper_half(s, r, e)
-    }),
+        let e = s.empty(r)?.entry;
+        s.spoil_upper(r, e)
+    })
+    .only(V3),
     rule(0, "harmless: case of a name", other_case),
     rule(0, "harmless: two names in order by their capitals alone", capitals_in_order),
     rule(0, "harmless: two names that another folding makes equal", unlike),
@@ -65,10 +67,13 @@ pub const CHANGES: &[Break] = &[
     rule(0, "harmless: a free sector at the end dropped", dropped_sector),
     rule(0, "harmless: a sector more", sector_more),
     rule(0, "harmless: a stream emptied, its units free", emptied),
+    rule(0, "harmless: a directory sector more", |s, r| s.directory_longer(r)),
+    rule(0, "harmless: a directory sector fewer", |s, _| s.directory_shorter()),
 ];
 
 fn in_sector(s: &mut Sample, r: &mut Random, sector: u32) -> Option<()> {
-    s.spoil(r, sector_place(sector), sector_place(sector) + SECTOR)
+    let g = s.layout.geometry;
+    s.spoil(r, g.place(sector), g.place(sector) + g.sector)
 }
 
 fn in_entry(s: &mut Sample, r: &mut Random, entry: u32, from: usize, to: usize) -> Option<()> {
@@ -95,15 +100,6 @@ fn refused_in_root(s: &mut Sample, r: &mut Random) -> Option<()> {
 fn behind_name(s: &mut Sample, r: &mut Random) -> Option<()> {
     let node = s.node(r, |node| node.entry != 0 && node.name.len() < 31)?;
     in_entry(s, r, node.entry, 2 * (node.name.len() + 1), 64)
-}
-
-/// Another byte in it, or other rubbish in all of it.
-fn upper_half(s: &mut Sample, r: &mut Random, entry: u32) -> Option<()> {
-    if r.one_in(2) {
-        return in_entry(s, r, entry, UPPER, UPPER + 4);
-    }
-    s.set_field(entry, UPPER, upper::rubbish(r));
-    Some(())
 }
 
 fn other_case(s: &mut Sample, r: &mut Random) -> Option<()> {
@@ -169,8 +165,8 @@ fn all_black(s: &mut Sample, _: &mut Random) -> Option<()> {
 /// As many units as before, on the same side of the cutoff.
 fn size_within(s: &mut Sample, r: &mut Random) -> Option<()> {
     let node = s.node(r, |node| !node.units.is_empty())?;
-    let count = node.units.len() as u32;
-    let (unit, least, most) = if node.size? < 4096 { (64, 1, 4095) } else { (512, 4096, u32::MAX) };
+    let (count, sector) = (node.units.len() as u32, s.layout.geometry.sector as u32);
+    let (unit, least, most) = if node.size? < 4096 { (64, 1, 4095) } else { (sector, 4096, u32::MAX) };
     let (low, high) = ((unit * (count - 1) + 1).max(least), (unit * count).min(most));
     let any = r.between(low, high);
     s.set_field(node.entry, SIZE, r.pick(&[low, high, any]));
@@ -179,7 +175,8 @@ fn size_within(s: &mut Sample, r: &mut Random) -> Option<()> {
 
 fn mini_sector_more(s: &mut Sample, _: &mut Random) -> Option<()> {
     let more = s.layout.minis + 1;
-    (!s.layout.minis.is_multiple_of(8) && more <= s.layout.mini_cell_count()).then_some(())?;
+    (!s.layout.minis.is_multiple_of(s.layout.geometry.minis as u32) && more <= s.layout.mini_cell_count())
+        .then_some(())?;
     s.set_field(0, SIZE, more * 64);
     Some(())
 }
@@ -187,7 +184,7 @@ fn mini_sector_more(s: &mut Sample, _: &mut Random) -> Option<()> {
 fn dropped_sector(s: &mut Sample, _: &mut Random) -> Option<()> {
     let last = s.layout.sectors - 1;
     s.layout.free.contains(&last).then_some(())?;
-    s.image.truncate(sector_place(last));
+    s.image.truncate(s.layout.geometry.place(last));
     s.layout.free.retain(|&free| free != last);
     s.layout.sectors = last;
     Some(())
@@ -196,7 +193,7 @@ fn dropped_sector(s: &mut Sample, _: &mut Random) -> Option<()> {
 fn sector_more(s: &mut Sample, r: &mut Random) -> Option<()> {
     let room = s.layout.sectors < s.layout.cell_count() && s.image.len() < GREATEST_IMAGE;
     let byte = r.byte();
-    s.image.resize(s.image.len() + SECTOR, byte);
+    s.image.resize(s.image.len() + s.layout.geometry.sector, byte);
     room.then_some(())
 }
 

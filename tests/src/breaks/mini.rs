@@ -2,6 +2,7 @@
 
 use super::edit::*;
 use super::{Break, rule};
+use crate::geometry::V4;
 use crate::images::Sample;
 use crate::number::*;
 use crate::random::Random;
@@ -17,7 +18,7 @@ pub const BREAKS: &[Break] = &[
     rule(16, "mini FAT: one sector too many", |s, r| longer(s, r, mini_fat)),
     rule(16, "mini FAT: broken off", |s, r| broken(s, r, mini_fat)),
     rule(16, "mini FAT: ring", |s, r| ring(s, r, mini_fat)),
-    rule(16, "mini FAT: 128 x M below K", too_few_cells),
+    rule(16, "mini FAT: fewer cells than K", too_few_cells),
     rule(16, "root: size not a multiple of 64", odd_size),
     rule(16, "root: size a sector off", size_off),
     rule(16, "root: size huge", |s, r| {
@@ -25,6 +26,7 @@ pub const BREAKS: &[Break] = &[
         root(s, SIZE, v)
     }),
     rule(16, "root: size in the upper half", size_above),
+    rule(16, "root: upper half of the size", |s, r| s.spoil_upper(r, 0)).only(V4),
     rule(16, "root: size 0, start not end of chain", start_without_mini_stream),
     rule(16, "root: start at no chain", |s, r| {
         s.layout.mini_stream.first()?;
@@ -105,7 +107,7 @@ fn ring(s: &mut Sample, r: &mut Random, part: Part) -> Option<()> {
 /// The last mini FAT sector is needed, but taken off the chain.
 fn too_few_cells(s: &mut Sample, _: &mut Random) -> Option<()> {
     let fewer = s.layout.mini_fat.len().checked_sub(1)?;
-    (fewer * CELLS < s.layout.minis as usize).then_some(())?;
+    (fewer * s.layout.geometry.cells < s.layout.minis as usize).then_some(())?;
     s.set_cell(s.layout.mini_fat[fewer], FREE);
     match fewer {
         0 => s.put(60, END),
@@ -121,12 +123,12 @@ fn odd_size(s: &mut Sample, r: &mut Random) -> Option<()> {
 }
 
 fn size_off(s: &mut Sample, r: &mut Random) -> Option<()> {
-    let size = s.layout.minis * 64;
-    let sizes = [size + 512, size.checked_sub(512).unwrap_or(size + 512)];
+    let (size, sector) = (s.layout.minis * 64, s.layout.geometry.sector as u32);
+    let sizes = [size + sector, size.checked_sub(sector).unwrap_or(size + sector)];
     root(s, SIZE, r.pick(&sizes))
 }
 
-/// The lower half, which alone is read, is 0.
+/// The lower half, which alone is read in version 3, is 0.
 fn size_above(s: &mut Sample, _: &mut Random) -> Option<()> {
     s.layout.mini_stream.first()?;
     s.set_field(0, UPPER, s.layout.minis * 64);

@@ -11,7 +11,9 @@ mod owners;
 mod streams;
 mod tables;
 mod tree;
+pub mod uses;
 
+use crate::geometry::Geometry;
 use crate::images::Sample;
 use crate::random::Random;
 
@@ -20,12 +22,29 @@ pub struct Break {
     pub rule: &'static str,
     /// The answer that the papers give.
     pub expected: u32,
-    /// None if this image has no place for it.
-    pub apply: fn(&mut Sample, &mut Random) -> Option<()>,
+    /// The version that the rule is of; None for both.
+    only: Option<Geometry>,
+    change: fn(&mut Sample, &mut Random) -> Option<()>,
 }
 
-const fn rule(expected: u32, rule: &'static str, apply: fn(&mut Sample, &mut Random) -> Option<()>) -> Break {
-    Break { rule, expected, apply }
+const fn rule(expected: u32, rule: &'static str, change: fn(&mut Sample, &mut Random) -> Option<()>) -> Break {
+    Break { rule, expected, only: None, change }
+}
+
+impl Break {
+    const fn only(self, version: Geometry) -> Break {
+        Break { only: Some(version), ..self }
+    }
+
+    pub fn is_of(&self, version: Geometry) -> bool {
+        self.only.is_none_or(|only| only == version)
+    }
+
+    /// None if this image has no place for it.
+    pub fn apply(&self, s: &mut Sample, r: &mut Random) -> Option<()> {
+        self.is_of(s.layout.geometry).then_some(())?;
+        (self.change)(s, r)
+    }
 }
 
 /// Those that break group 11.

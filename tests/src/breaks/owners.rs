@@ -97,13 +97,14 @@ fn mini_stream_into(s: &mut Sample, other: &[u32]) -> Option<()> {
     Some(())
 }
 
-/// Four blank entries read as cells are zeros and free, which are right where all of the sector's cells are below K.
+/// A sector of blank entries read as cells is zeros and free, which are right where all of the sector's cells are below K.
 /// So the last mini FAT sector can be replaced if none of its mini sectors is a stream's.
 fn mini_fat_into_directory(s: &mut Sample, _: &mut Random) -> Option<()> {
     let (&own, &shared) = (s.layout.mini_fat.last()?, s.layout.directory.last()?);
     let (entries, minis) = (s.layout.entry_count(), s.layout.mini_cell_count());
-    let blank = (entries - 4..entries).all(|entry| s.layout.blanks.contains(&entry));
-    let unused = (minis - 128..minis).all(|m| s.layout.free_minis.contains(&m));
+    let (last_entries, last_minis) = (s.layout.geometry.entries as u32, s.layout.geometry.cells as u32);
+    let blank = (entries - last_entries..entries).all(|entry| s.layout.blanks.contains(&entry));
+    let unused = (minis - last_minis..minis).all(|m| s.layout.free_minis.contains(&m));
     (blank && unused).then_some(())?;
     s.set_cell(own, FREE);
     match s.layout.mini_fat.len() {

@@ -3,6 +3,7 @@
 use super::edit::*;
 use super::mini::no_chain;
 use super::{Break, rule};
+use crate::geometry::V4;
 use crate::images::Sample;
 use crate::images::layout::Node;
 use crate::images::write::is_large;
@@ -37,6 +38,9 @@ pub const BREAKS: &[Break] = &[
     }),
     rule(17, "large stream: size in the upper half", |s, r| size_above(s, r, Sample::large)),
     rule(17, "small stream: size in the upper half", |s, r| size_above(s, r, Sample::small)),
+    rule(17, "large stream: upper half of the size", |s, r| upper_half(s, r, Sample::large)).only(V4),
+    rule(17, "small stream: upper half of the size", |s, r| upper_half(s, r, Sample::small)).only(V4),
+    rule(17, "empty stream: upper half of the size", |s, r| upper_half(s, r, Sample::empty)).only(V4),
     rule(17, "large stream: size below the cutoff, start no mini sector", large_as_small),
     rule(17, "small stream: size from the cutoff on, start no chain of it", small_as_large),
 ];
@@ -51,7 +55,7 @@ fn with_units(s: &Sample, r: &mut Random) -> Option<Node> {
 }
 
 fn empty_with_start(s: &mut Sample, r: &mut Random) -> Option<()> {
-    let node = s.node(r, |node| node.size == Some(0))?;
+    let node = s.empty(r)?;
     field(s, &node, START, r.pick(&[FREE, FATSECT, 0, s.layout.directory[0], s.layout.sectors]))
 }
 
@@ -105,9 +109,10 @@ fn into_table(s: &mut Sample, r: &mut Random) -> Option<()> {
 
 fn large_size(s: &mut Sample, r: &mut Random) -> Option<()> {
     let node = s.large(r)?;
-    let (size, room) = (node.size?, node.units.len() as u32 * 512);
-    let shorter = Some(room - 512).filter(|&less| less >= CUTOFF as u32).unwrap_or(size + 512);
-    field(s, &node, SIZE, r.pick(&[room + 1, size + 512, shorter]))
+    let sector = s.layout.geometry.sector as u32;
+    let (size, room) = (node.size?, node.units.len() as u32 * sector);
+    let shorter = Some(room - sector).filter(|&less| less >= CUTOFF as u32).unwrap_or(size + sector);
+    field(s, &node, SIZE, r.pick(&[room + 1, size + sector, shorter]))
 }
 
 fn small_size(s: &mut Sample, r: &mut Random) -> Option<()> {
@@ -118,11 +123,16 @@ fn small_size(s: &mut Sample, r: &mut Random) -> Option<()> {
     field(s, &node, SIZE, *r.some(&off)?)
 }
 
-/// The lower half, which alone is read, is 0.
+/// The lower half, which alone is read in version 3, is 0.
 fn size_above(s: &mut Sample, r: &mut Random, choice: Choice) -> Option<()> {
     let node = choice(s, r)?;
     field(s, &node, UPPER, node.size?)?;
     field(s, &node, SIZE, 0)
+}
+
+fn upper_half(s: &mut Sample, r: &mut Random, choice: Choice) -> Option<()> {
+    let node = choice(s, r)?;
+    s.spoil_upper(r, node.entry)
 }
 
 fn large_as_small(s: &mut Sample, r: &mut Random) -> Option<()> {

@@ -19,7 +19,7 @@ pub const BREAKS: &[Break] = &[
     }),
     rule(11, "F one more than listed", |s, _| put(s, 44, s.layout.fat.len() as u32 + 1)),
     rule(11, "F one fewer than listed", |s, _| put(s, 44, s.layout.fat.len() as u32 - 1)),
-    rule(11, "128 x F below N", too_few_cells),
+    rule(11, "fewer cells than N", too_few_cells),
     rule(11, "spare FAT sector taken off the list", unlisted),
     rule(11, "D is 1 with F at most 109", one_difat_sector_too_many),
     rule(11, "D one too large, F above 109", longer_difat),
@@ -45,15 +45,15 @@ pub const BREAKS: &[Break] = &[
 fn too_few_cells(s: &mut Sample, r: &mut Random) -> Option<()> {
     let full = s.layout.sectors == s.layout.cell_count();
     let byte = r.byte();
-    s.image.resize(s.image.len() + SECTOR, byte);
+    s.image.resize(s.image.len() + s.layout.geometry.sector, byte);
     full.then_some(())
 }
 
 /// The last FAT sector is not needed, nor more or fewer DIFAT sectors without it, but it keeps its FATSECT.
 fn unlisted(s: &mut Sample, _: &mut Random) -> Option<()> {
-    let fewer = s.layout.fat.len() - 1;
-    let spare = fewer >= 1 && fewer * CELLS >= s.layout.sectors as usize;
-    (spare && difat_needed(fewer as u64) == s.layout.difat.len() as u64).then_some(())?;
+    let (g, fewer) = (s.layout.geometry, s.layout.fat.len() - 1);
+    let spare = fewer >= 1 && fewer * g.cells >= s.layout.sectors as usize;
+    (spare && difat_needed(g, fewer as u64) == s.layout.difat.len() as u64).then_some(())?;
     s.put(s.layout.difat_entry(fewer), FREE);
     put(s, 44, fewer as u32)
 }

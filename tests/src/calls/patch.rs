@@ -1,6 +1,6 @@
 //! What an edit changes: bytes at places of the image. A refused edit has none.
 
-use crate::number::*;
+use crate::geometry::Geometry;
 use crate::volume::Volume;
 
 pub struct Patch {
@@ -15,14 +15,12 @@ pub fn apply(image: &mut [u8], patches: Vec<Patch>) {
 }
 
 /// A cell of the table that lies in these sectors.
-pub fn cell(table: &[u32], unit: u32, value: u32) -> Patch {
-    let at = sector_place(table[unit as usize / CELLS]) + unit as usize % CELLS * 4;
-    Patch { at, bytes: value.to_le_bytes().to_vec() }
+pub fn cell(g: Geometry, table: &[u32], unit: u32, value: u32) -> Patch {
+    Patch { at: g.cell(table, unit), bytes: value.to_le_bytes().to_vec() }
 }
 
 /// A field of an entry, by its place in it.
 pub fn field(volume: &Volume, entry: usize, at: usize, bytes: &[u8]) -> Patch {
-    let per_sector = SECTOR / ENTRY;
-    let place = sector_place(volume.directory.sectors[entry / per_sector]) + entry % per_sector * ENTRY;
+    let place = volume.geometry.entry(&volume.directory.sectors, entry as u32);
     Patch { at: place + at, bytes: bytes.to_vec() }
 }

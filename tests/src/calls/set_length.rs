@@ -19,16 +19,16 @@ pub fn set_length(volume: &Volume, path: &[u16], new: u64) -> Result<Vec<Patch>,
     if new == old {
         return Ok(Vec::new());
     }
-    let small = old.max(new) < CUTOFF;
+    let (g, small) = (volume.geometry, old.max(new) < CUTOFF);
     let (chains, table) =
         if small { (&volume.mini.chains, &volume.mini.fat) } else { (&volume.sectors, &volume.tables.fat) };
-    let unit = if small { MINI_SECTOR } else { SECTOR as u64 };
+    let unit = if small { MINI_SECTOR } else { g.sector as u64 };
     let chain: Vec<u32> = chains.units(volume.directory.entry(found.entry).start()).collect();
     let (new_chain, released) = changed(chain, chains, new.div_ceil(unit))?;
 
-    let mut patches: Vec<Patch> = released.into_iter().map(|unit| cell(table, unit, FREE)).collect();
+    let mut patches: Vec<Patch> = released.into_iter().map(|unit| cell(g, table, unit, FREE)).collect();
     let next = new_chain.iter().skip(1).copied().chain([END]);
-    patches.extend(new_chain.iter().zip(next).map(|(&unit, next)| cell(table, unit, next)));
+    patches.extend(new_chain.iter().zip(next).map(|(&unit, next)| cell(g, table, unit, next)));
     let start = new_chain.first().copied().unwrap_or(END);
     patches.push(field(volume, found.entry, START, &start.to_le_bytes()));
     patches.push(field(volume, found.entry, SIZE, &new.to_le_bytes()));

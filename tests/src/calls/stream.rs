@@ -6,7 +6,7 @@ use std::ops::Range;
 
 pub struct Stream {
     pub size: u64,
-    /// The bytes of a unit: 64 below the cutoff, else 512.
+    /// The bytes of a unit: 64 below the cutoff, else those of a sector.
     unit: u64,
     /// The byte place of each unit of the chain.
     places: Vec<usize>,
@@ -26,8 +26,8 @@ impl Stream {
             let places = chain.iter().map(|&m| mini_sector_place(volume, m)).collect();
             Stream { size, unit: MINI_SECTOR, places }
         } else {
-            let places = chain.iter().map(|&s| sector_place(s)).collect();
-            Stream { size, unit: SECTOR as u64, places }
+            let places = chain.iter().map(|&s| volume.geometry.place(s)).collect();
+            Stream { size, unit: volume.geometry.sector as u64, places }
         }
     }
 
@@ -46,7 +46,7 @@ impl Stream {
     }
 }
 
-/// Eight mini sectors lie in each sector of the mini stream.
 fn mini_sector_place(volume: &Volume, m: u32) -> usize {
-    sector_place(volume.mini.stream[m as usize / 8]) + m as usize % 8 * MINI_SECTOR as usize
+    let (g, m) = (volume.geometry, m as usize);
+    g.place(volume.mini.stream[m / g.minis]) + m % g.minis * MINI_SECTOR as usize
 }

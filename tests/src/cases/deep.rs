@@ -1,13 +1,13 @@
 //! Large images: storages each inside the one before, whose listing is longer than any buffer; and many streams.
 
 use super::Case;
-use super::large::{OF_8_MIB, OF_64_MIB, many_streams, most_objects, nested};
+use super::large::{MIB_8, MIB_64, many_streams, most_objects, nested};
 use crate::calls::{Call, list};
 use crate::draw;
+use crate::geometry::{Geometry, VERSIONS};
 use crate::images::plan::{Fill, Order, Plan};
 use crate::images::{Sample, names};
-use crate::model::{Model, room::need};
-use crate::number::SECTOR;
+use crate::model::Model;
 use crate::random::Random;
 use crate::volume::{Volume, work_needed};
 use std::rc::Rc;
@@ -21,16 +21,19 @@ pub fn run(seed: u64, then: &mut dyn FnMut(u64, Case)) {
         then(number, case);
         number += 1;
     };
-    let (most, most_of_all) = (most_objects(OF_8_MIB), most_objects(OF_64_MIB));
-    for (sectors, count) in [(OF_8_MIB, 2_000), (OF_8_MIB, JUST_ABOVE), (OF_8_MIB, most), (OF_64_MIB, most_of_all)] {
-        let image = Sample::build(&nested(sectors, count), &mut Random::of(seed, 0)).image;
-        finds(&image, count).into_iter().chain(lists(&image)).for_each(&mut next);
+    for (i, g) in VERSIONS.into_iter().enumerate() {
+        let (short, long) = (g.count(MIB_8), g.count(MIB_64));
+        let (most, most_of_all) = (most_objects(g, short), most_objects(g, long));
+        for (sectors, count) in [(short, 2_000), (short, JUST_ABOVE), (short, most), (long, most_of_all)] {
+            let image = Sample::build(&nested(g, sectors, count), &mut Random::of(seed, 0)).image;
+            finds(&image, count).into_iter().chain(lists(&image)).for_each(&mut next);
+        }
+        let mut r = Random::of(seed, 1 + i as u64);
+        streams(many_streams(g, short, 5_000, &[1, 64, 65, 200, 0]), 20, &mut r, &mut next);
+        streams(many_streams(g, short, 40, &[130_000, 4096, 513, 200_001, 4095]), 20, &mut r, &mut next);
+        streams(many_streams(g, long, 60, &[2_000_000, 4096, 513, 1_000_001, 4095]), 8, &mut r, &mut next);
+        fills(g, &mut r).into_iter().for_each(&mut next);
     }
-    let mut r = Random::of(seed, 1);
-    streams(many_streams(OF_8_MIB, 5_000, &[1, 64, 65, 200, 0]), 20, &mut r, &mut next);
-    streams(many_streams(OF_8_MIB, 40, &[130_000, 4096, 513, 200_001, 4095]), 20, &mut r, &mut next);
-    streams(many_streams(OF_64_MIB, 60, &[2_000_000, 4096, 513, 1_000_001, 4095]), 8, &mut r, &mut next);
-    fills(&mut r).into_iter().for_each(&mut next);
 }
 
 fn on(image: &[u8], call: Call, expected: u32) -> Case {
@@ -74,16 +77,18 @@ fn streams(plan: Plan, calls: u32, r: &mut Random, next: &mut dyn FnMut(Case)) {
 }
 
 /// A stream grown to all free sectors of 8 MiB, or one more, and cut.
-fn fills(r: &mut Random) -> Vec<Case> {
+fn fills(g: Geometry, r: &mut Random) -> Vec<Case> {
     let path = names::of("log");
     let mut cases = Vec::new();
     for size in [0, 4_096, 8_000_000] {
-        let mut plan = Plan { fill: Fill::Noise, sectors: Some(OF_8_MIB), order: Order::Scattered, ..Plan::bare() };
+        let sectors = Some(g.count(MIB_8));
+        let mut plan = Plan { fill: Fill::Noise, sectors, order: Order::Scattered, ..Plan::of(g) };
         plan.add(0, path.clone(), Some(size));
         let sample = Sample::build(&plan, r);
         let model = Rc::new(Model::of(&sample));
-        let most = (model.free().sectors + need(size as u64).sectors) * SECTOR as u64;
-        for (length, answer) in [(most, 0), (most + 1, 26), (most - 511, 0), (4_100, 0), (0, 0)] {
+        let sector = g.sector as u64;
+        let most = (model.free().sectors + model.need(size as u64).sectors) * sector;
+        for (length, answer) in [(most, 0), (most + 1, 26), (most - sector + 1, 0), (4_100, 0), (0, 0)] {
             let case = on(&sample.image, Call::SetLength { path: path.clone(), length }, answer);
             cases.push(Case { model: Some(model.clone()), ..case });
         }

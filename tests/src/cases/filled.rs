@@ -1,24 +1,28 @@
 //! A list of calls on the longest image: a stream grown to all its free sectors, overwritten, read back and cut. Where the
 //! library's edits are linked, the volume is opened once before them and closed behind them.
 
-use super::large::OF_64_MIB;
+use super::large::MIB_64;
 use super::lists::List;
 use crate::calls::Call;
 use crate::compare::Tally;
+use crate::geometry::{Geometry, VERSIONS};
 use crate::images::plan::{Fill, Order, Plan};
 use crate::images::{Sample, names};
 #[cfg(feature = "edits")]
 use crate::library::Opened;
-use crate::number::SECTOR;
 use crate::random::Random;
 use crate::volume::work_needed;
 
+/// There is one list for each version.
+pub const LISTS: u64 = 2;
+
 /// Runs the list, up to the first call that fails; `shown` prints each call and its answer.
-pub fn run(seed: u64, shown: bool, tally: &mut Tally) {
-    let name = format!("seed {seed} filled 0");
-    let mut r = Random::of(seed.rotate_left(24), 0);
-    let sample = sample(&mut r);
-    let calls = calls(sample.layout.free.len() * SECTOR, &mut r);
+pub fn run(seed: u64, number: u64, shown: bool, tally: &mut Tally) {
+    let name = format!("seed {seed} filled {number}");
+    let mut r = Random::of(seed.rotate_left(24), number);
+    let g = VERSIONS[number as usize];
+    let sample = sample(g, &mut r);
+    let calls = calls(g, sample.layout.free.len() * g.sector, &mut r);
     let mut list = List::on(sample, name.clone(), r, shown);
     let work_len = work_needed(list.image.len());
     #[cfg(feature = "edits")]
@@ -36,9 +40,10 @@ pub fn run(seed: u64, shown: bool, tally: &mut Tally) {
     tally.pass(&name, opened.close());
 }
 
-/// The tables and two other streams lie scattered among free sectors full of noise. The upper half of each size is rubbish.
-fn sample(r: &mut Random) -> Sample {
-    let free = Plan { sectors: Some(OF_64_MIB), fill: Fill::Noise, ..Plan::bare() };
+/// The tables and two other streams lie scattered among free sectors full of noise. In version 3 the upper half of each size
+/// is rubbish.
+fn sample(g: Geometry, r: &mut Random) -> Sample {
+    let free = Plan { sectors: Some(g.count(MIB_64)), fill: Fill::Noise, ..Plan::of(g) };
     let mut plan = Plan { order: Order::Scattered, spare_minis: 9, rubbish_once_in: 1, ..free };
     plan.add(0, names::of("log"), Some(0));
     plan.add(0, names::of("Jets"), Some(70));
@@ -47,7 +52,7 @@ fn sample(r: &mut Random) -> Sample {
 }
 
 /// Calls with their answers, for a stream that is empty while so many bytes of sectors are free.
-fn calls(most: usize, r: &mut Random) -> Vec<(Call, u32)> {
+fn calls(g: Geometry, most: usize, r: &mut Random) -> Vec<(Call, u32)> {
     let length = |length: usize| Call::SetLength { path: names::of("log"), length: length as u64 };
     let read = |offset: usize, len: usize| {
         let out = vec![b'#'; len];
@@ -71,7 +76,7 @@ fn calls(most: usize, r: &mut Random) -> Vec<(Call, u32)> {
         (length(most / 2 + 7), 0),
         (Call::Overwrite { path: names::of("Jets"), offset: 0, bytes: vec![b'!'; 70] }, 0),
         (length(4_100), 0),
-        (length(most - 511), 0),
+        (length(most - g.sector + 1), 0),
         (read(0, most), 0),
         (Call::List { out: vec![b'#'; 100] }, 0),
         (length(0), 0),

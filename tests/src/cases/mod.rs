@@ -16,6 +16,7 @@ pub mod samples;
 pub mod sizes;
 pub mod small;
 pub mod tables;
+pub mod versions;
 
 use crate::calls::Call;
 use crate::model::Model;

@@ -1,5 +1,6 @@
 //! Random changes whose answer is not known beforehand.
 
+use crate::geometry::{V3, V4};
 use crate::images::Sample;
 use crate::number::*;
 use crate::random::Random;
@@ -20,8 +21,14 @@ fn once(s: &mut Sample, r: &mut Random) -> &'static str {
 type Change = (&'static str, fn(&mut Sample, &mut Random));
 
 const CHANGES: &[Change] = &[
-    ("header field", |s, r| field(s, r, 0, &[40, 44, 48, 52, 56, 60, 64, 68, 72, 76, 80, 504, 508])),
+    ("header field", |s, r| field(s, r, 0, &[40, 40, 44, 48, 52, 56, 60, 64, 68, 72, 76, 80, 504, 508])),
     ("header byte", |s, r| flip(s, r, 0, 512)),
+    ("byte of the header's sector", |s, r| {
+        let to = s.layout.geometry.sector;
+        flip(s, r, 0, to)
+    }),
+    ("version", version),
+    ("judged as the other version", other_version),
     ("cell", cell),
     ("cell", cell),
     ("cell", cell),
@@ -61,7 +68,7 @@ fn field(s: &mut Sample, r: &mut Random, base: usize, places: &[usize]) {
     let at = base + r.pick(places);
     let old = s.get(at);
     let other = value(s, r);
-    let step = r.pick(&[1, 64, 512]);
+    let step = r.pick(&[1, 64, s.layout.geometry.sector as u32]);
     s.put(at, r.pick(&[other, other, other, old.wrapping_add(step), old.wrapping_sub(step)]));
 }
 
@@ -69,6 +76,32 @@ fn flip(s: &mut Sample, r: &mut Random, from: usize, to: usize) {
     let at = from + r.index(to - from);
     let (bit, any) = (1 << r.below(8), r.byte());
     s.image[at] = r.pick(&[s.image[at] ^ bit, any, 0, 255]);
+}
+
+/// Major version and sector shift, seldom both of one version.
+fn version(s: &mut Sample, r: &mut Random) {
+    let major = r.pick(&[3, 4, 4, 5, 0x400, 0x403]);
+    put_u16(&mut s.image, 26, major);
+    if r.one_in(2) {
+        put_u16(&mut s.image, 30, r.pick(&[9, 12]));
+    }
+}
+
+/// The header is made one of the other version, as far as group 10 goes, with an image long enough. All that follows is in
+/// the wrong places then.
+fn other_version(s: &mut Sample, r: &mut Random) {
+    let g = if s.layout.geometry == V3 { V4 } else { V3 };
+    let length = s.image.len().next_multiple_of(g.sector).max(g.least_image);
+    s.image.resize(length, 0);
+    put_u16(&mut s.image, 26, g.major);
+    put_u16(&mut s.image, 30, g.shift);
+    s.image[512..g.sector].fill(0);
+    let count = r.between(1, 3);
+    s.put(40, if g.counts_directory { count } else { 0 });
+    // So that the FAT has cells for all sectors.
+    if r.one_in(2) {
+        s.put(44, g.count(length).div_ceil(g.cells as u32));
+    }
 }
 
 fn cell(s: &mut Sample, r: &mut Random) {
@@ -124,13 +157,15 @@ fn copy_entry(s: &mut Sample, r: &mut Random) {
 
 fn exchange_sectors(s: &mut Sample, r: &mut Random) {
     let (one, other) = (r.below(s.layout.sectors), r.below(s.layout.sectors));
-    for i in 0..SECTOR {
-        s.image.swap(sector_place(one) + i, sector_place(other) + i);
+    let g = s.layout.geometry;
+    for i in 0..g.sector {
+        s.image.swap(g.place(one) + i, g.place(other) + i);
     }
 }
 
 /// Only adds, as other changes may follow that need the places they know.
 fn length(s: &mut Sample, r: &mut Random) {
-    let more = s.image.len() + SECTOR * r.between(1, 3) as usize;
+    let unit = if r.one_in(4) { 512 } else { s.layout.geometry.sector };
+    let more = s.image.len() + unit * r.between(1, 3) as usize;
     s.image.resize(more, r.byte());
 }

@@ -2,6 +2,7 @@
 
 use super::Case;
 use crate::calls::Call;
+use crate::geometry::Geometry;
 use crate::images::Sample;
 use crate::images::names::{self, BESIDE, REFUSED};
 use crate::images::plan::{Fill, Plan};
@@ -11,15 +12,15 @@ use crate::random::Random;
 use crate::volume::work_needed;
 use std::rc::Rc;
 
-pub fn cases() -> Vec<Case> {
+pub fn cases(g: Geometry) -> Vec<Case> {
     let mut cases = Vec::new();
     for name in with(&REFUSED) {
-        refused(&name, &mut cases);
+        refused(g, &name, &mut cases);
     }
     for name in with(&BESIDE) {
-        accepted(&name, &mut cases);
+        accepted(g, &name, &mut cases);
     }
-    paths(&mut cases);
+    paths(g, &mut cases);
     cases
 }
 
@@ -40,8 +41,8 @@ pub fn with(units: &[u16]) -> Vec<Vec<u16>> {
 }
 
 /// A storage Site with a stream log, and beside it an object of this name, whether or not one may have it.
-fn beside_site(name: &[u16], size: Option<u32>) -> Sample {
-    let mut plan = Plan { fill: Fill::Noise, free: 9, spare_minis: 3, ..Plan::bare() };
+fn beside_site(g: Geometry, name: &[u16], size: Option<u32>) -> Sample {
+    let mut plan = Plan { fill: Fill::Noise, free: 1, spare_minis: 3, ..Plan::of(g) };
     let site = plan.add(0, names::of("Site"), None);
     plan.add(site, names::of("log"), Some(70));
     plan.add(0, name.to_vec(), size);
@@ -49,15 +50,15 @@ fn beside_site(name: &[u16], size: Option<u32>) -> Sample {
 }
 
 /// No object may have the name, but the root may.
-fn refused(name: &[u16], cases: &mut Vec<Case>) {
+fn refused(g: Geometry, name: &[u16], cases: &mut Vec<Case>) {
     for size in [None, Some(0), Some(70), Some(5_000)] {
-        let sample = beside_site(name, size);
+        let sample = beside_site(g, name, size);
         cases.push(on(&sample, Call::Validate, 14));
         // The image is judged before the path.
         cases.extend(calls(name).map(|call| on(&sample, call, 14)));
         cases.push(on(&sample, Call::List { out: vec![b'#'; 400] }, 14));
     }
-    let mut sample = beside_site(&names::of("last"), Some(70));
+    let mut sample = beside_site(g, &names::of("last"), Some(70));
     let root = sample.layout.entry(0);
     write::name(&mut sample.image, root, name);
     cases.push(with_rows(&sample, Call::Validate, 0));
@@ -66,9 +67,9 @@ fn refused(name: &[u16], cases: &mut Vec<Case>) {
 }
 
 /// An object may have the name, and is found by it.
-fn accepted(name: &[u16], cases: &mut Vec<Case>) {
+fn accepted(g: Geometry, name: &[u16], cases: &mut Vec<Case>) {
     for size in [None, Some(70)] {
-        let sample = beside_site(name, size);
+        let sample = beside_site(g, name, size);
         cases.push(with_rows(&sample, Call::Validate, 0));
         cases.push(with_rows(&sample, Call::Find { path: name.to_vec() }, 0));
         cases.push(with_rows(&sample, Call::List { out: vec![b'#'; 400] }, 0));
@@ -78,8 +79,8 @@ fn accepted(name: &[u16], cases: &mut Vec<Case>) {
 }
 
 /// Badly formed, whatever else the path would give; with a unit beside it is well formed, and leads nowhere.
-fn paths(cases: &mut Vec<Case>) {
-    let sample = beside_site(&names::of("last"), Some(70));
+fn paths(g: Geometry, cases: &mut Vec<Case>) {
+    let sample = beside_site(g, &names::of("last"), Some(70));
     // Below the root, a storage, a storage that is not there, and a stream; and before a name that is there or not.
     let places = [
         ("", "", 21),

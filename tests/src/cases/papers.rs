@@ -1,7 +1,8 @@
-//! The papers' own cases of listing and length changes.
+//! The papers' own cases of listing and length changes, in either version.
 
 use super::Case;
 use crate::calls::Call;
+use crate::geometry::{Geometry, V3};
 use crate::images::Sample;
 use crate::images::names;
 use crate::images::plan::{Fill, Plan};
@@ -10,19 +11,32 @@ use crate::random::Random;
 use crate::volume::work_needed;
 use std::rc::Rc;
 
-pub fn cases() -> Vec<Case> {
+pub fn cases(g: Geometry) -> Vec<Case> {
     let whole = "objects 3\nD 0 Site\nF 5000 Site/log\nF 70 Site/Jets\n".len();
+    let one_stream = |size, free, spare_minis| one_stream(g, size, free, spare_minis);
+    // The sectors of 4,096 bytes, and the bytes of one more.
+    let (need, sector) = if g == V3 { (8, 512) } else { (1, 4_096) };
     vec![
-        on(&site(), list(whole), 0),
-        on(&site(), list(whole - 1), 27),
+        on(&site(g), list(whole), 0),
+        on(&site(g), list(whole - 1), 27),
         on(&one_stream(4_095, 20, 20), set_length(4_096), 25),
         on(&one_stream(4_096, 20, 70), set_length(4_095), 25),
         on(&one_stream(4_095, 20, 20), set_length(u64::MAX), 25),
-        on(&one_stream(0, 8, 0), set_length(4_096), 0),
-        on(&one_stream(0, 7, 0), set_length(4_096), 26),
+        on(&one_stream(0, need, 0), set_length(4_096), 0),
+        on(&one_stream(0, need - 1, 0), set_length(4_096), 26),
+        on(&one_stream(0, need, 0), set_length(4_097), 26),
+        on(&one_stream(0, need + 1, 0), set_length(4_097), 0),
+        on(&one_stream(0, need + 1, 0), set_length(4_096 + sector), 0),
+        on(&one_stream(0, need + 1, 0), set_length(4_097 + sector), 26),
+        on(&one_stream(4_096, 0, 0), set_length(4_097), 26),
+        on(&one_stream(4_097, 0, 0), set_length(4_096 + sector), 0),
+        on(&one_stream(4_097, 0, 0), set_length(4_097 + sector), 26),
+        on(&one_stream(20_000, 0, 0), set_length(4_096), 0),
         on(&one_stream(0, 0, 64), set_length(4_095), 0),
         on(&one_stream(0, 0, 63), set_length(4_095), 26),
         on(&one_stream(0, 9, 70), set_length(u64::MAX), 26),
+        on(&one_stream(0, 9, 70), set_length(1 << 32), 26),
+        on(&one_stream(4_096, 9, 70), set_length((1 << 32) + 4_096), 26),
         on(&one_stream(4_096, 0, 0), set_length(0), 0),
         on(&one_stream(100, 0, 0), set_length(128), 0),
         on(&one_stream(100, 0, 0), set_length(129), 26),
@@ -35,8 +49,8 @@ pub fn cases() -> Vec<Case> {
 }
 
 /// A storage Site with streams log (5,000 bytes) and Jets (70).
-pub fn site() -> Sample {
-    let mut plan = Plan { fill: Fill::Noise, spare_minis: 3, ..Plan::bare() };
+pub fn site(g: Geometry) -> Sample {
+    let mut plan = Plan { fill: Fill::Noise, spare_minis: 3, ..Plan::of(g) };
     let site = plan.add(0, names::of("Site"), None);
     plan.add(site, names::of("log"), Some(5_000));
     plan.add(site, names::of("Jets"), Some(70));
@@ -44,8 +58,8 @@ pub fn site() -> Sample {
 }
 
 /// One stream, and so many free sectors and mini sectors.
-fn one_stream(size: u32, free: u32, spare_minis: u32) -> Sample {
-    let mut plan = Plan { fill: Fill::Noise, free, spare_minis, ..Plan::bare() };
+fn one_stream(g: Geometry, size: u32, free: u32, spare_minis: u32) -> Sample {
+    let mut plan = Plan { fill: Fill::Noise, free, spare_minis, ..Plan::of(g) };
     plan.add(0, names::of("log"), Some(size));
     Sample::build(&plan, &mut Random::of(0, 0))
 }

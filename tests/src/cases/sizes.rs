@@ -1,9 +1,11 @@
-//! Sizes with rubbish in their upper half (W-205): every call gives what it gives with zeros there, and the rubbish stays until
-//! its stream gets another length. Storages and blank entries have none.
+//! Sizes with rubbish in their upper half (W-205). In version 3 every call gives what it gives with zeros there, and the rubbish
+//! stays until its stream gets another length; in version 4 all of a size counts (W-207), so that no chain is long enough.
+//! Storages and blank entries have none in either.
 
 use super::Case;
 use crate::breaks::edit::{SIZE, UPPER};
 use crate::calls::Call;
+use crate::geometry::{Geometry, V3};
 use crate::images::Sample;
 use crate::images::names;
 use crate::images::plan::{Fill, Plan};
@@ -19,22 +21,27 @@ const SITE: u32 = 1;
 const LOG: u32 = 2;
 const JETS: u32 = 3;
 const NOTES: u32 = 4;
-const BLANKS: [u32; 3] = [5, 6, 7];
+const ENTRIES: [(&[u32], u32); 5] =
+    [(&[ROOT], 16), (&[LOG], 17), (&[JETS], 17), (&[NOTES], 17), (&[ROOT, LOG, JETS, NOTES], 16)];
 
-pub fn cases() -> Vec<Case> {
+pub fn cases(g: Geometry) -> Vec<Case> {
     let mut cases = Vec::new();
     for upper in RUBBISH {
-        for entries in [&[ROOT][..], &[LOG], &[JETS], &[NOTES], &[ROOT, LOG, JETS, NOTES]] {
-            accepted(&with(entries, upper), upper, &mut cases);
+        for (entries, broken) in ENTRIES {
+            let sample = with(g, entries, upper);
+            if g == V3 { accepted(&sample, upper, &mut cases) } else { refused(&sample, broken, &mut cases) }
         }
     }
-    refused(&mut cases);
+    if g != V3 {
+        accepted(&site(g), 1, &mut cases);
+    }
+    storages_and_blanks(g, &mut cases);
     cases
 }
 
 /// A storage Site with a large stream log, a small one Jets and an empty one notes; 9 sectors and 3 mini sectors are free.
-pub fn site() -> Sample {
-    let mut plan = Plan { fill: Fill::Noise, free: 9, spare_minis: 3, ..Plan::bare() };
+pub fn site(g: Geometry) -> Sample {
+    let mut plan = Plan { fill: Fill::Noise, free: 9, spare_minis: 3, ..Plan::of(g) };
     let site = plan.add(0, names::of("Site"), None);
     plan.add(site, names::of("log"), Some(5_000));
     plan.add(site, names::of("Jets"), Some(70));
@@ -43,8 +50,8 @@ pub fn site() -> Sample {
 }
 
 /// The same with this upper half in the sizes of these entries.
-pub fn with(entries: &[u32], upper: u32) -> Sample {
-    let mut sample = site();
+pub fn with(g: Geometry, entries: &[u32], upper: u32) -> Sample {
+    let mut sample = site(g);
     for &entry in entries {
         sample.set_field(entry, UPPER, upper);
     }
@@ -72,9 +79,11 @@ fn accepted(sample: &Sample, upper: u32, cases: &mut Vec<Case>) {
         next(overwrite(path, 0, size + 1), 24);
         next(overwrite(path, 1 << 32, size), 24);
     }
-    let large = [(5_000, 0), (5_001, 0), (4_999, 0), (4_096, 0), (9_728, 0), (9_729, 26), (4_095, 25), (1, 25), (0, 0)];
+    // The most that log and notes may get: with 9 more sectors than the 10 or 2 of 5,000 bytes, and with 9.
+    let (log, notes) = if sample.layout.geometry == V3 { (9_728, 4_608) } else { (45_056, 36_864) };
+    let large = [(5_000, 0), (5_001, 0), (4_999, 0), (4_096, 0), (log, 0), (log + 1, 26), (4_095, 25), (1, 25), (0, 0)];
     let small = [(70, 0), (71, 0), (69, 0), (1, 0), (320, 0), (321, 26), (4_095, 26), (4_096, 25), (0, 0)];
-    let empty = [(0, 0), (1, 0), (192, 0), (193, 26), (4_095, 26), (4_096, 0), (4_608, 0), (4_609, 26)];
+    let empty = [(0, 0), (1, 0), (192, 0), (193, 26), (4_095, 26), (4_096, 0), (notes, 0), (notes + 1, 26)];
     let far = |size: u64| [(upper as u64) << 32, ((upper as u64) << 32) + size, (1 << 32) + size, u64::MAX];
     for (path, size, lengths, too_far) in
         [("Site/log", 5_000, &large[..], 26), ("Site/Jets", 70, &small, 25), ("Site/notes", 0, &empty, 26)]
@@ -84,16 +93,24 @@ fn accepted(sample: &Sample, upper: u32, cases: &mut Vec<Case>) {
     }
 }
 
+/// Every call answers that this group is broken.
+fn refused(sample: &Sample, group: u32, cases: &mut Vec<Case>) {
+    cases.push(on(&sample.image, Call::Validate, group));
+    cases.push(on(&sample.image, Call::List { out: vec![b'#'; 400] }, group));
+    cases.push(on(&sample.image, Call::Find { path: names::of("Site") }, group));
+    cases.extend(calls("Site/log").into_iter().map(|call| on(&sample.image, call, group)));
+}
+
 /// One byte of the size of a storage or of a blank entry is not zero; with rubbish in the other sizes too.
-fn refused(cases: &mut Vec<Case>) {
-    for entry in [SITE].into_iter().chain(BLANKS) {
+fn storages_and_blanks(g: Geometry, cases: &mut Vec<Case>) {
+    let sample = site(g);
+    let blanks = &sample.layout.blanks;
+    for entry in [SITE, blanks[0], blanks[1], blanks[blanks.len() - 1]] {
         for (byte, bit) in (0..8).flat_map(|byte| [(byte, 1), (byte, 0x80)]) {
-            for mut sample in [site(), with(&[ROOT, LOG, JETS, NOTES], 0xFFFF_FFFF)] {
+            for mut sample in [site(g), with(g, &[ROOT, LOG, JETS, NOTES], 0xFFFF_FFFF)] {
                 let at = sample.layout.entry(entry) + SIZE + byte;
                 sample.image[at] = bit;
-                cases.push(on(&sample.image, Call::Validate, 14));
-                cases.push(on(&sample.image, Call::List { out: vec![b'#'; 400] }, 14));
-                cases.extend(calls("Site/log").into_iter().map(|call| on(&sample.image, call, 14)));
+                refused(&sample, 14, cases);
             }
         }
     }

@@ -1,9 +1,9 @@
 //! Random cases. Sixteen in a row share one valid image and change it in different ways.
 
 use super::{Case, mutate};
-use crate::breaks::{self, Break};
+use crate::breaks::{self, Break, uses::Uses};
+use crate::geometry::V4;
 use crate::images::Sample;
-use crate::number::SECTOR;
 use crate::random::Random;
 use crate::volume::{length_allowed, work_needed};
 
@@ -12,16 +12,14 @@ const SHARING: u64 = 16;
 pub struct Cases {
     seed: u64,
     breaks: Vec<&'static Break>,
-    /// How often each break was used.
-    pub used: Vec<u64>,
+    pub uses: Uses,
     /// The valid image made last, with its number.
     base: Option<(u64, Sample)>,
 }
 
 impl Cases {
     pub fn new(seed: u64) -> Cases {
-        let breaks = breaks::all();
-        Cases { seed, used: vec![0; breaks.len()], breaks, base: None }
+        Cases { seed, breaks: breaks::all(), uses: Uses::default(), base: None }
     }
 
     pub fn case(&mut self, number: u64) -> Case {
@@ -68,19 +66,13 @@ impl Cases {
         let first = r.index(count);
         for i in (first..count).chain(0..first) {
             let mut changed = s.clone();
-            if (self.breaks[i].apply)(&mut changed, r).is_some() {
+            if self.breaks[i].apply(&mut changed, r).is_some() {
                 *s = changed;
-                self.used[i] += 1;
+                self.uses.count(self.breaks[i], s.layout.geometry);
                 return self.breaks[i];
             }
         }
         unreachable!("the header can always be broken")
-    }
-
-    /// Breaks that no case used.
-    pub fn unused(&self) -> Vec<&'static str> {
-        let all = self.breaks.iter().zip(&self.used);
-        all.filter(|(_, used)| **used == 0).map(|(b, _)| b.rule).collect()
     }
 }
 
@@ -99,7 +91,7 @@ pub fn work_len(needed: usize, r: &mut Random) -> usize {
 fn case(kind: &str, s: Sample, expected: Option<u32>, r: &mut Random) -> Case {
     let needed = work_needed(s.image.len());
     let work_len = work_len(needed, r);
-    let expected = match length_allowed(s.image.len()) {
+    let expected = match length_allowed(&s.image) {
         false => Some(1),
         true if work_len < needed => Some(2),
         true => expected,
@@ -107,10 +99,19 @@ fn case(kind: &str, s: Sample, expected: Option<u32>, r: &mut Random) -> Case {
     Case::new(kind, s.image, work_len, expected)
 }
 
+/// Lengths of neither version, and of version 4 those that only version 3 has.
 fn wrong_length(mut s: Sample, r: &mut Random) -> Case {
-    let full = s.image.len();
-    let within = SECTOR * r.index(full / SECTOR) + r.between(1, 511) as usize;
-    let lengths = [0, 1, 511, 512, 1024, 1535, 1537, full - 1, full + 1, full - 511, full + 511, within];
-    s.image.resize(r.pick(&lengths), r.byte());
+    let (full, sector) = (s.image.len(), s.layout.geometry.sector);
+    let below = sector * r.index(full / sector);
+    let within = below + r.between(1, sector as u32 - 1) as usize;
+    let near = [full - 1, full + 1, full - 511, full + 511, full - sector + 1, full + sector - 1, within];
+    let short = [0, 1, 511, 512, 1_024, 1_535, 1_537];
+    let of_version_3 = [1_536, 4_096, 8_192, 11_776, 12_800, full - 512, full + 512, below + 512, below + 3_584];
+    let length = match r.below(3) {
+        0 => r.pick(&short),
+        1 if s.layout.geometry == V4 => r.pick(&of_version_3),
+        _ => r.pick(&near),
+    };
+    s.image.resize(length, r.byte());
     case("wrong length", s, Some(1), r)
 }

@@ -4,9 +4,9 @@ use crate::calls::{ANSWERS, Call, Outcome, perform};
 use crate::cases;
 use crate::cases::papers::{self, site};
 use crate::compare::Tally;
+use crate::geometry::{V3, VERSIONS};
 use crate::images::{Sample, names, plan::*};
 use crate::model::Model;
-use crate::number::sector_place;
 use crate::random::Random;
 use crate::volume::work_needed;
 
@@ -19,13 +19,15 @@ fn on(sample: &Sample, call: Call) -> Outcome {
 }
 
 fn find(path: &str) -> Outcome {
-    on(&site(), Call::Find { path: names::of(path) })
+    let found = VERSIONS.map(|g| on(&site(g), Call::Find { path: names::of(path) }));
+    assert_eq!(found[0], found[1]);
+    found[0].clone()
 }
 
 #[test]
 fn listing_of_the_papers() {
     let text = "objects 3\nD 0 Site\nF 5000 Site/log\nF 70 Site/Jets\n";
-    let list = |len| on(&site(), Call::List { out: vec![b'#'; len] });
+    let list = |len| on(&site(V3), Call::List { out: vec![b'#'; len] });
     let whole = list(text.len() + 3);
     assert_eq!((whole.answer, whole.values[0]), (0, text.len() as u64));
     assert_eq!(whole.out, [text, "###"].concat().into_bytes());
@@ -58,7 +60,7 @@ fn finds_of_the_papers() {
 #[test]
 fn reads_of_the_papers() {
     let read = |path: &str, offset, len| {
-        let outcome = on(&site(), Call::Read { path: names::of(path), offset, out: vec![0; len] });
+        let outcome = on(&site(V3), Call::Read { path: names::of(path), offset, out: vec![0; len] });
         (outcome.answer, outcome.values[0])
     };
     assert_eq!(read("Site/Jets", 0, 100), (0, 70));
@@ -74,8 +76,8 @@ fn reads_of_the_papers() {
 #[test]
 fn cases_of_the_papers() {
     let mut tally = Tally::new();
-    let of_names = cases::names::cases().into_iter().chain(cases::folding::cases());
-    for (number, case) in papers::cases().into_iter().chain(of_names).enumerate() {
+    let both = VERSIONS.into_iter().flat_map(|g| papers::cases(g).into_iter().chain(cases::names::cases(g)));
+    for (number, case) in both.chain(cases::folding::cases()).enumerate() {
         assert!(tally.run(&format!("case {number}"), &case).is_some());
     }
 }
@@ -83,7 +85,7 @@ fn cases_of_the_papers() {
 /// Growing wipes what a cut left behind, up to the end of the chain; cutting changes no data byte.
 #[test]
 fn stale_bytes_are_wiped_by_growth_alone() {
-    let mut image = site().image;
+    let mut image = site(V3).image;
     let mut set_length = |length| {
         let call = Call::SetLength { path: names::of("Site/Jets"), length };
         let work_len = work_needed(image.len());
@@ -91,8 +93,8 @@ fn stale_bytes_are_wiped_by_growth_alone() {
         image.clone()
     };
     let cut = set_length(3);
-    let first = site();
-    let place = |m: u32| sector_place(first.layout.mini_stream[0]) + 64 * m as usize;
+    let first = site(V3);
+    let place = |m: u32| first.layout.geometry.place(first.layout.mini_stream[0]) + 64 * m as usize;
     let units = &first.layout.nodes[3].units;
     assert_eq!(cut[place(units[0])..][..64], first.image[place(units[0])..][..64]);
     let grown = set_length(4);
@@ -104,9 +106,9 @@ fn stale_bytes_are_wiped_by_growth_alone() {
 #[test]
 fn a_missing_answer_is_a_failure() {
     let mut tally = Tally::new();
-    papers::cases().iter().for_each(|case| drop(tally.run("papers", case)));
+    VERSIONS.into_iter().flat_map(papers::cases).for_each(|case| drop(tally.run("papers", &case)));
     tally.ask_for_every_answer(ANSWERS);
     let given = 2 + 2 + 3; // 0 and 27 of list, 0 and 24 of overwrite, 0, 25 and 26 of set_len
     let all: usize = ANSWERS.iter().map(|(_, answers)| answers.len()).sum();
-    assert_eq!(tally.failed as usize, all - given);
+    assert_eq!(tally.failed as usize, 2 * (all - given));
 }

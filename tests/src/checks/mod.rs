@@ -5,12 +5,14 @@ mod plain_owners;
 mod plain_tree;
 mod samples;
 mod sizes;
+mod versions;
 
+use crate::geometry::{V3, VERSIONS};
 use crate::images::letters::{self, IN_ORDER};
 use crate::images::{Sample, names, names::Alphabet, plan::*};
 use crate::number::*;
 use crate::random::Random;
-use crate::volume::{Volume, chains::Chains, entry::fold, length_allowed, tables::difat_needed, validate, work_needed};
+use crate::volume::{Volume, chains::Chains, entry::fold, tables::difat_needed, validate, work_needed};
 use std::cmp::Ordering;
 use std::collections::HashSet;
 
@@ -47,8 +49,9 @@ fn chains_agree_with_plain_walks() {
 
 #[test]
 fn difat_sectors_of_the_papers() {
-    assert_eq!([109, 110, 236, 237].map(difat_needed), [0, 1, 1, 2]);
-    assert_eq!([998, 999, 1_024, 1_125, 1_126].map(difat_needed), [7, 8, 8, 8, 9]);
+    let needed = |fat| difat_needed(V3, fat);
+    assert_eq!([109, 110, 236, 237].map(needed), [0, 1, 1, 2]);
+    assert_eq!([998, 999, 1_024, 1_125, 1_126].map(needed), [7, 8, 8, 8, 9]);
 }
 
 #[test]
@@ -152,9 +155,9 @@ fn lengths_of_the_papers() {
     assert_eq!(validate(&image, 39), 0);
     assert_eq!(validate(&image, 38), 2);
     assert_eq!(validate(&image[..1_535], 39), 1);
-    let allowed = [1_536, 8_388_608, 8_389_120, 67_108_864].map(length_allowed);
-    assert_eq!(allowed, [true; 4]);
-    assert_eq!([1_024, 8_388_609, 67_108_863, 67_109_376].map(length_allowed), [false; 4]);
+    let allowed = |length| V3.length_allowed(length);
+    assert_eq!([1_536, 8_388_608, 8_389_120, 67_108_864].map(allowed), [true; 4]);
+    assert_eq!([1_024, 8_388_609, 67_108_863, 67_109_376].map(allowed), [false; 4]);
     let plan = Plan { sectors: Some(131_071), ..Plan::bare() };
     let layout = Sample::build(&plan, &mut Random::of(0, 0)).layout;
     assert_eq!((layout.fat.len(), layout.difat.len()), (1_024, 8));
@@ -165,10 +168,11 @@ fn lengths_of_the_papers() {
 fn noise_is_answered() {
     for number in 0..20_000 {
         let mut random = Random::of(2, number);
-        let mut image = Sample::build(&Plan::bare(), &mut random).image;
-        image.resize(SECTOR * random.between(3, 12) as usize, 0);
+        let g = VERSIONS[(number % 8 == 0) as usize];
+        let mut image = Sample::build(&Plan::of(g), &mut random).image;
+        image.resize(g.sector * random.between(3, 12) as usize, 0);
         let words = [0, 1, 2, 3, FREE, END, FATSECT, DIFSECT, 0x0005_0000];
-        for at in (SECTOR..image.len()).step_by(4) {
+        for at in (g.sector..image.len()).step_by(4) {
             put_u32(&mut image, at, random.pick(&words));
         }
         let answer = validate(&image, work_needed(image.len()));

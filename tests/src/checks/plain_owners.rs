@@ -5,7 +5,7 @@ use crate::cases::mutate;
 use crate::images::Sample;
 use crate::number::{CUTOFF, FREE};
 use crate::random::Random;
-use crate::volume::{Volume, chains::Chains, entry::STREAM, owners};
+use crate::volume::{Volume, chains::Chains, entry::STREAM, length_allowed, owners};
 
 /// No unit twice, and those that are missing have free cells.
 fn all_owned_once(mut owned: Vec<u32>, chains: &Chains) -> bool {
@@ -40,7 +40,10 @@ fn owners_agree_with_plain_lists() {
         let mut sample = Sample::random(&mut random);
         match number % 3 {
             0 => drop(mutate::mutate(&mut sample, &mut random)),
-            _ => drop((random.pick(&breaks).apply)(&mut sample, &mut random)),
+            _ => drop(random.pick(&breaks).apply(&mut sample, &mut random)),
+        }
+        if !length_allowed(&sample.image) {
+            continue;
         }
         if let Ok(volume) = Volume::parse(&sample.image) {
             let holds = owners::hold(&volume);

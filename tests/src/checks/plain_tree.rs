@@ -5,7 +5,9 @@ use crate::cases::mutate;
 use crate::images::Sample;
 use crate::number::NOSTREAM;
 use crate::random::Random;
-use crate::volume::{chains::Chains, directory::Directory, entry::BLANK, header::Header, tables::Tables, tree};
+use crate::volume::{
+    chains::Chains, directory::Directory, entry::BLANK, header::Header, length_allowed, tables::Tables, tree, version,
+};
 use std::cmp::Ordering::Less;
 
 /// All entries of a subtree; None if a number is wrong or more are met than there are.
@@ -62,10 +64,12 @@ fn plain(directory: &Directory) -> bool {
 
 /// The directory of an image of which groups 10 to 14 hold.
 fn directory(image: &[u8]) -> Option<Directory> {
-    let count = image.len() / 512 - 1;
-    let header = Header::read(image)?;
-    let tables = Tables::read(image, count, &header)?;
-    let directory = Directory::read(image, &Chains::new(&tables.cells[..count]), header.first_directory)?;
+    length_allowed(image).then_some(())?;
+    let g = version(image);
+    let count = g.count(image.len()) as usize;
+    let header = Header::read(g, image)?;
+    let tables = Tables::read(g, image, count, &header)?;
+    let directory = Directory::read(g, image, &Chains::new(&tables.cells[..count]), &header)?;
     directory.entries_hold().then_some(directory)
 }
 
@@ -80,7 +84,7 @@ fn trees_agree_with_plain_lists() {
             continue;
         }
         match number % 3 {
-            0 => drop((random.pick(&breaks).apply)(&mut sample, &mut random)),
+            0 => drop(random.pick(&breaks).apply(&mut sample, &mut random)),
             _ => drop(mutate::mutate(&mut sample, &mut random)),
         }
         if let Some(directory) = directory(&sample.image) {

@@ -4,6 +4,7 @@ use crate::breaks::edit::{SIZE, UPPER};
 use crate::calls::{Call, perform};
 use crate::cases::sizes::{cases, site, with};
 use crate::compare::Tally;
+use crate::geometry::{V3, V4, VERSIONS};
 use crate::images::{Sample, names, upper::RUBBISH, write::is_large};
 use crate::number::u32_at;
 use crate::random::Random;
@@ -12,8 +13,8 @@ use crate::volume::{Volume, validate, work_needed};
 #[test]
 fn cases_of_sizes() {
     let mut tally = Tally::new();
-    for (number, case) in cases().iter().enumerate() {
-        assert!(tally.run(&format!("case {number}"), case).is_some());
+    for (number, case) in VERSIONS.into_iter().flat_map(cases).enumerate() {
+        assert!(tally.run(&format!("case {number}"), &case).is_some());
     }
 }
 
@@ -28,7 +29,7 @@ fn upper_halves(sample: &mut Sample, call: Call) -> [u32; 5] {
 fn only_another_length_clears_the_upper_half() {
     let set_length = |path: &str, length| Call::SetLength { path: names::of(path), length };
     let overwrite = |path: &str| Call::Overwrite { path: names::of(path), offset: 3, bytes: vec![b'#'; 9] };
-    let mut sample = with(&[0, 2, 3, 4], 0x0102_0304);
+    let mut sample = with(V3, &[0, 2, 3, 4], 0x0102_0304);
     let all = [0x0102_0304, 0, 0x0102_0304, 0x0102_0304, 0x0102_0304];
     let same = [("Site/log", 5_000), ("Site/Jets", 70), ("Site/notes", 0)].map(|(path, size)| set_length(path, size));
     for call in same.into_iter().chain([overwrite("Site/log"), overwrite("Site/Jets")]) {
@@ -45,34 +46,38 @@ fn only_another_length_clears_the_upper_half() {
 #[test]
 fn sizes_are_read_from_the_lower_half() {
     for upper in RUBBISH {
-        let sample = with(&[0, 2, 3, 4], upper);
+        let sample = with(V3, &[0, 2, 3, 4], upper);
         let volume = Volume::open(&sample.image).expect("a valid image");
         let sizes = [0, 2, 3, 4].map(|entry| volume.directory.entry(entry).size());
         assert_eq!(sizes, [5 * 64, 5_000, 70, 0]);
     }
 }
 
-/// One bit more in a byte of a size: in the upper half it is judged only in storages and blank entries.
+/// One bit more in a byte of a size: in the upper half it is judged only in storages and blank entries, or in version 4.
 #[test]
 fn bytes_of_a_size_that_are_judged() {
-    for byte in 1..8 {
+    for (g, byte) in VERSIONS.into_iter().flat_map(|g| (1..8).map(move |byte| (g, byte))) {
         let answers = [0, 1, 2, 3, 4, 5, 6, 7].map(|entry| {
-            let mut sample = site();
+            let mut sample = site(g);
             let at = sample.layout.entry(entry) + SIZE + byte;
             sample.image[at] ^= 0x80;
             validate(&sample.image, work_needed(sample.image.len()))
         });
-        let streams = if byte < 4 { [16, 14, 17, 17, 17] } else { [0, 14, 0, 0, 0] };
+        let streams = if byte < 4 || g == V4 { [16, 14, 17, 17, 17] } else { [0, 14, 0, 0, 0] };
         assert_eq!(answers, [streams.as_slice(), &[14; 3]].concat()[..], "byte {byte}");
     }
 }
 
-/// Random images have rubbish in the size of the root, of small, large and empty streams, and zeros there as well.
+/// Random images of version 3 have rubbish in the size of the root, of small, large and empty streams, and zeros there as well.
 #[test]
 fn sizes_of_random_images() {
     let mut seen = [[0; 2]; 4];
-    for number in 0..400 {
+    for number in 0..800 {
         let sample = Sample::random(&mut Random::of(6, number));
+        if sample.layout.geometry == V4 {
+            assert!(sample.layout.nodes.iter().all(|node| node.upper == 0));
+            continue;
+        }
         for node in sample.layout.nodes.iter().filter(|node| node.entry == 0 || node.size.is_some()) {
             let kind = match node.size {
                 None => 0,

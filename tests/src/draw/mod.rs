@@ -22,7 +22,7 @@ pub fn call(model: &Model, r: &mut Random) -> Call {
 fn read(model: &Model, r: &mut Random) -> Call {
     let path = paths::path(model, r);
     let size = size(model, &path, r);
-    let offset = numbers::offset(size, r);
+    let offset = numbers::offset(model.geometry, size, r);
     let out = numbers::out_len(size.saturating_sub(offset), r);
     Call::Read { path, offset, out: noise(out, r) }
 }
@@ -36,7 +36,7 @@ fn list(model: &Model, r: &mut Random) -> Call {
 fn overwrite(model: &Model, r: &mut Random) -> Call {
     let path = paths::path(model, r);
     let size = size(model, &path, r);
-    let offset = numbers::offset(size, r);
+    let offset = numbers::offset(model.geometry, size, r);
     let count = numbers::write_len(size, offset, r);
     Call::Overwrite { path, offset, bytes: noise(count, r) }
 }
@@ -44,7 +44,7 @@ fn overwrite(model: &Model, r: &mut Random) -> Call {
 fn set_length(model: &Model, r: &mut Random) -> Call {
     let path = paths::path(model, r);
     let size = size(model, &path, r);
-    let length = numbers::length(size, model.free(), r);
+    let length = numbers::length(model, size, r);
     Call::SetLength { path, length }
 }
 

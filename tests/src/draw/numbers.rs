@@ -1,15 +1,17 @@
 //! Offsets and lengths.
 
+use crate::geometry::Geometry;
 use crate::images::upper::RUBBISH;
-use crate::model::room::{Units, need};
+use crate::model::Model;
+use crate::number::CUTOFF;
 use crate::random::Random;
 
 /// An offset into a stream of this length, or behind it.
-pub fn offset(size: u64, r: &mut Random) -> u64 {
+pub fn offset(g: Geometry, size: u64, r: &mut Random) -> u64 {
     match r.below(16) {
         0..3 => 0,
         3..6 => near(size, r),
-        6..10 => boundary(size, r),
+        6..10 => boundary(g, size, r),
         10..14 => r.below(size as u32 + 1) as u64,
         _ => far(size, r),
     }
@@ -21,8 +23,8 @@ fn near(number: u64, r: &mut Random) -> u64 {
 }
 
 /// Close to where a unit of this stream ends.
-fn boundary(size: u64, r: &mut Random) -> u64 {
-    let unit = r.pick(&[64, 512]);
+fn boundary(g: Geometry, size: u64, r: &mut Random) -> u64 {
+    let unit = r.pick(&[64, g.sector as u64]);
     let line = unit * r.below((size / unit) as u32 + 2) as u64;
     near(line, r)
 }
@@ -31,7 +33,8 @@ fn boundary(size: u64, r: &mut Random) -> u64 {
 fn far(size: u64, r: &mut Random) -> u64 {
     // What a size with rubbish in its upper half would be in all its eight bytes.
     let whole = ((r.pick(&RUBBISH) as u64) << 32) + size;
-    let lines = [1 << 31, 1 << 32, whole, whole, 1 << 33, 1 << 63, u64::MAX - size, u64::MAX - 511, u64::MAX];
+    let lines =
+        [1 << 31, 1 << 32, whole, whole, 1 << 33, 1 << 63, u64::MAX - size, u64::MAX - 511, u64::MAX - 4_095, u64::MAX];
     let line = r.pick(&lines);
     near(line, r)
 }
@@ -62,32 +65,33 @@ pub fn write_len(size: u64, offset: u64, r: &mut Random) -> usize {
         4 if to_wrap < 10_000 => to_wrap as usize + r.index(3),
         4 => rest + r.between(2, 600) as usize,
         5 => rest.min(64),
-        6 => rest.min(512),
+        6 => rest.min(r.pick(&[512, 4_096])),
         _ => r.index(rest + 1),
     }
 }
 
-/// A new length for a stream of this one, where so many units are free.
-pub fn length(size: u64, free: Units, r: &mut Random) -> u64 {
+/// A new length for a stream of this one.
+pub fn length(model: &Model, size: u64, r: &mut Random) -> u64 {
+    let sector = model.geometry.sector as u64;
     match r.below(16) {
         0 => size,
         1 => near(size, r),
         2..4 => 0,
-        4..6 => boundary(size + 1_024, r),
-        6..8 => r.pick(&[1, 63, 64, 65, 512, 513, 4_095, 4_096, 4_097, 4_608, 5_120, 5_121]),
-        8..10 => most(size, free, r),
+        4..6 => boundary(model.geometry, size + 2 * sector, r),
+        6..8 => r.pick(&[1, 63, 64, 65, 512, 513, 4_095, 4_096, 4_097, 5_120, 5_121, CUTOFF + sector]),
+        8..10 => most(model, size, r),
         10..12 => r.below(2 * size as u32 + 700) as u64,
         12 => r.below(4_096) as u64,
-        13 => r.between(4_096, 12_000) as u64,
+        13 => r.between(4_096, 12_000 + 2 * sector as u32) as u64,
         14 => size / 2,
         _ => far(size, r),
     }
 }
 
 /// Close to the greatest length that there is room for, in sectors or in mini sectors.
-fn most(size: u64, free: Units, r: &mut Random) -> u64 {
-    let now = need(size);
-    let lines = [512 * (now.sectors + free.sectors), 64 * (now.minis + free.minis)];
+fn most(model: &Model, size: u64, r: &mut Random) -> u64 {
+    let (sector, now, free) = (model.geometry.sector as u64, model.need(size), model.free());
+    let lines = [sector * (now.sectors + free.sectors), 64 * (now.minis + free.minis)];
     let line = r.pick(&lines);
     near(line, r)
 }

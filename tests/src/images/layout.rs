@@ -4,6 +4,7 @@ use super::plan::Plan;
 use super::shape::{self, Links};
 use super::units::{self, Counts};
 use super::upper;
+use crate::geometry::Geometry;
 use crate::random::Random;
 
 /// The root, a storage or a stream.
@@ -14,7 +15,7 @@ pub struct Node {
     pub name: Vec<u16>,
     /// None for a storage and the root.
     pub size: Option<u32>,
-    /// The upper half of its size, which is not looked at; 0 for a storage.
+    /// The upper half of its size, which is not looked at in version 3; 0 in version 4, and for a storage.
     pub upper: u32,
     /// Its sectors or mini sectors, in order.
     pub units: Vec<u32>,
@@ -23,6 +24,7 @@ pub struct Node {
 
 #[derive(Clone)]
 pub struct Layout {
+    pub geometry: Geometry,
     /// N.
     pub sectors: u32,
     pub fat: Vec<u32>,
@@ -42,7 +44,7 @@ pub struct Layout {
 impl Layout {
     pub fn new(plan: &Plan, random: &mut Random) -> Layout {
         let counts = Counts::new(plan);
-        let (entries, blanks) = entry_numbers(plan, 4 * counts.directory, random);
+        let (entries, blanks) = entry_numbers(plan, plan.geometry.entries as u32 * counts.directory, random);
         let links = shape::links(plan, &entries, random);
         let (mut small, free_minis) = mini_sectors(plan, &counts, random);
         let mut parts = sectors(plan, &counts, random);
@@ -57,8 +59,21 @@ impl Layout {
         };
         let nodes = (0..plan.objects.len()).map(node).collect();
         let [fat, difat, directory, mini_fat, mini_stream, free] = parts.try_into().expect("six parts");
-        let (sectors, minis) = (counts.sectors, counts.minis);
-        Layout { sectors, fat, difat, directory, mini_fat, mini_stream, free, minis, free_minis, nodes, blanks }
+        let (geometry, sectors, minis) = (plan.geometry, counts.sectors, counts.minis);
+        Layout {
+            geometry,
+            sectors,
+            fat,
+            difat,
+            directory,
+            mini_fat,
+            mini_stream,
+            free,
+            minis,
+            free_minis,
+            nodes,
+            blanks,
+        }
     }
 }
 
@@ -86,6 +101,7 @@ fn mini_sectors(plan: &Plan, counts: &Counts, random: &mut Random) -> (Vec<Vec<u
 fn sectors(plan: &Plan, counts: &Counts, random: &mut Random) -> Vec<Vec<u32>> {
     let all = units::ordered(counts.sectors, plan.order, random);
     let mut sizes = vec![counts.fat, counts.difat, counts.directory, counts.mini_fat, counts.mini_stream, counts.free];
-    sizes.extend(plan.objects.iter().map(|object| object.size.map_or(0, units::sectors_of)));
+    sizes
+        .extend(plan.objects.iter().map(|object| object.size.map_or(0, |size| units::sectors_of(plan.geometry, size))));
     units::hand_out(&all, &sizes, plan.mixed_parts, random)
 }

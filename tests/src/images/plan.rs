@@ -1,5 +1,7 @@
 //! What an image is to hold, and which of the freedoms of the format it uses.
 
+use crate::geometry::{Geometry, V3};
+
 /// A storage or a stream below the root. Object 0 stands for the root.
 #[derive(Clone)]
 pub struct Object {
@@ -38,11 +40,12 @@ pub enum Fill {
 
 #[derive(Clone)]
 pub struct Plan {
+    pub geometry: Geometry,
     pub objects: Vec<Object>,
     pub shape: Shape,
     /// An entry that may be red is red once in so many; 0 for never.
     pub red_once_in: u32,
-    /// The upper half of the root's size and of a stream's is rubbish once in so many; 0 for never.
+    /// The upper half of the root's size and of a stream's is rubbish once in so many; 0 for never. In version 3 alone.
     pub rubbish_once_in: u32,
     /// Entries in random places instead of one after the other.
     pub scattered_entries: bool,
@@ -62,9 +65,15 @@ pub struct Plan {
 }
 
 impl Plan {
-    /// Nothing but a root, laid out in the plainest way.
+    /// Nothing but a root, laid out in the plainest way, in version 3.
     pub fn bare() -> Plan {
+        Plan::of(V3)
+    }
+
+    /// The same in this version.
+    pub fn of(geometry: Geometry) -> Plan {
         Plan {
+            geometry,
             objects: vec![Object { parent: 0, name: Vec::new(), size: None }],
             shape: Shape::Balanced,
             red_once_in: 0,

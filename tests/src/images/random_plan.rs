@@ -1,13 +1,16 @@
-//! Random plans: most of them small, all within the freedoms that the papers leave.
+//! Random plans of either version: most of them small, all within the freedoms that the papers leave.
 
 use super::names::{self, Alphabet};
 use super::plan::*;
 use super::units;
+use crate::geometry::{Geometry, V3, V4, VERSIONS};
+use crate::number::CUTOFF;
 use crate::random::Random;
 use std::collections::HashSet;
 
 pub fn plan(random: &mut Random) -> Plan {
-    let mut plan = free_choices(random);
+    let g = random.pick(&VERSIONS);
+    let mut plan = free_choices(random, g);
     match random.below(100) {
         0..2 => {}
         2..60 => objects(&mut plan, random, 12, 24 << 10),
@@ -15,37 +18,40 @@ pub fn plan(random: &mut Random) -> Plan {
         84..88 => objects(&mut plan, random, 250, 8 << 10),
         88..90 => all_entries(&mut plan, random),
         90..92 => all_minis(&mut plan, random),
-        92..94 => full_fat(&mut plan, random),
+        // Of version 4 this takes at least 4 MiB.
+        92..94 if g == V3 || random.one_in(16) => full_fat(&mut plan, random),
         94..96 => full_mini_fat(&mut plan, random),
-        96..98 => long_fat(&mut plan, random, 109, 130),
-        _ => long_fat(&mut plan, random, 234, 240),
+        96..98 => long_fat(&mut plan, random, 109, if g == V3 { 130 } else { 112 }),
+        98..100 if g == V3 => long_fat(&mut plan, random, 234, 240),
+        _ => objects(&mut plan, random, 12, 40 << 10),
     }
     plan
 }
 
 /// Few objects, a stream among them, and few free units of both kinds: length changes find just enough, or too few.
 pub fn scarce(random: &mut Random) -> Plan {
-    let mut plan = Plan::bare();
+    let g = random.pick(&VERSIONS);
+    let mut plan = Plan::of(g);
     while plan.objects.iter().all(|object| object.size.is_none()) {
-        plan = free_choices(random);
+        plan = free_choices(random, g);
         let (most, room) = (random.pick(&[1, 2, 4, 8]), random.pick(&[0, 6 << 10, 12 << 10, 24 << 10]));
         objects(&mut plan, random, most, room);
     }
-    plan.free = random.pick(&[0, 1, 2, 5, 7, 8, 9, 10, 16, 24]);
+    plan.free = if g == V4 { random.below(6) } else { random.pick(&[0, 1, 2, 5, 7, 8, 9, 10, 16, 24]) };
     plan.spare_minis = random.pick(&[0, 1, 2, 3, 8, 20, 63, 64, 70, 140]);
     plan.fill = random.pick(&[Fill::Noise, Fill::Noise, Fill::Noise, Fill::Byte(0xFF)]);
     plan
 }
 
 /// Few objects, and exactly so many FAT sectors, most of them for cells that are not needed.
-pub fn with_fat(random: &mut Random, fat: u32) -> Plan {
-    let mut plan = free_choices(random);
+pub fn with_fat(random: &mut Random, g: Geometry, fat: u32) -> Plan {
+    let mut plan = free_choices(random, g);
     long_fat(&mut plan, random, fat, fat);
     plan
 }
 
 /// Everything but the objects.
-fn free_choices(random: &mut Random) -> Plan {
+fn free_choices(random: &mut Random, g: Geometry) -> Plan {
     Plan {
         shape: random.pick(&[
             Shape::Random,
@@ -67,7 +73,7 @@ fn free_choices(random: &mut Random) -> Plan {
         spare_fat: few(random, 3),
         free: few(random, 12),
         fill: random.pick(&[Fill::Noise, Fill::Noise, Fill::Byte(0), Fill::Byte(0xFF), Fill::Byte(1)]),
-        ..Plan::bare()
+        ..Plan::of(g)
     }
 }
 
@@ -93,7 +99,7 @@ fn objects(plan: &mut Plan, random: &mut Random, most: u32, mut room: u32) {
             continue;
         }
         if random.below(6) < streams {
-            let size = stream_size(random, room);
+            let size = stream_size(random, plan.geometry, room);
             room -= size.min(room);
             plan.add(parent, name, Some(size));
         } else {
@@ -103,12 +109,14 @@ fn objects(plan: &mut Plan, random: &mut Random, most: u32, mut room: u32) {
 }
 
 /// A size near one of the lines, or any; small ones once there is no room.
-fn stream_size(random: &mut Random, room: u32) -> u32 {
-    let line = random.pick(&[0, 0, 1, 63, 64, 65, 128, 511, 512, 513, 4095, 4096, 4097, 4608, 4609, 5120, 5121, 8192]);
-    let size = match random.below(4) {
-        0 => random.below(300),
-        1 => random.below(12_000),
-        _ => line,
+fn stream_size(random: &mut Random, g: Geometry, room: u32) -> u32 {
+    let sector = g.sector as u32;
+    let more = CUTOFF as u32 + sector * random.between(1, 3);
+    let size = match random.below(8) {
+        0..2 => random.below(300),
+        2..4 => random.below(12_000 + 2 * sector),
+        4..7 => random.pick(&[0, 0, 1, 63, 64, 65, 128, 511, 512, 513, 4095, 4096, 4097, 5120, 5121, 8192]),
+        _ => random.pick(&[more, more + 1]),
     };
     if size > room { random.below(130) } else { size }
 }
@@ -134,7 +142,7 @@ fn all_minis(plan: &mut Plan, random: &mut Random) {
 fn full_fat(plan: &mut Plan, random: &mut Random) {
     objects(plan, random, 10, 12 << 10);
     plan.spare_fat = 0;
-    plan.sectors = Some(128 * random.between(1, 3));
+    plan.sectors = Some(plan.geometry.cells as u32 * if plan.geometry == V3 { random.between(1, 3) } else { 1 });
 }
 
 /// As many mini sectors as the mini FAT has cells; often the last are free, and so are the last entries.
@@ -147,7 +155,8 @@ fn full_mini_fat(plan: &mut Plan, random: &mut Random) {
         plan.mini_order = Order::Rising;
     }
     let needed: u32 = plan.objects.iter().filter_map(|object| object.size).map(units::minis_of).sum();
-    plan.spare_minis = needed.next_multiple_of(128) - needed + 128 * random.between(1, 2);
+    let cells = plan.geometry.cells as u32;
+    plan.spare_minis = needed.next_multiple_of(cells) - needed + cells * random.between(1, 2);
     plan.spare_mini_fat = 0;
 }
 

@@ -1,6 +1,7 @@
 //! Which sectors and mini sectors each part of an image gets.
 
 use super::plan::{Order, Plan};
+use crate::geometry::Geometry;
 use crate::number::*;
 use crate::random::Random;
 
@@ -35,8 +36,8 @@ pub fn minis_of(size: u32) -> u32 {
     if (size as u64) < CUTOFF { size.div_ceil(MINI_SECTOR as u32) } else { 0 }
 }
 
-pub fn sectors_of(size: u32) -> u32 {
-    if (size as u64) < CUTOFF { 0 } else { size.div_ceil(SECTOR as u32) }
+pub fn sectors_of(g: Geometry, size: u32) -> u32 {
+    if (size as u64) < CUTOFF { 0 } else { size.div_ceil(g.sector as u32) }
 }
 
 /// The number of sectors of each part.
@@ -53,32 +54,33 @@ pub struct Counts {
 
 impl Counts {
     pub fn new(plan: &Plan) -> Counts {
+        let g = plan.geometry;
         let sizes = || plan.objects.iter().filter_map(|object| object.size);
-        let directory = (plan.objects.len() as u32).div_ceil(4) + plan.spare_directory;
+        let directory = (plan.objects.len() as u32).div_ceil(g.entries as u32) + plan.spare_directory;
         let minis = sizes().map(minis_of).sum::<u32>() + plan.spare_minis;
-        let mini_fat = minis.div_ceil(CELLS as u32) + plan.spare_mini_fat;
-        let mini_stream = minis.div_ceil(8);
-        let held = directory + mini_fat + mini_stream + sizes().map(sectors_of).sum::<u32>();
+        let mini_fat = minis.div_ceil(g.cells as u32) + plan.spare_mini_fat;
+        let mini_stream = minis.div_ceil(g.minis as u32);
+        let held = directory + mini_fat + mini_stream + sizes().map(|size| sectors_of(g, size)).sum::<u32>();
         let (fat, free) = match plan.sectors {
-            None => (fat_for(held + plan.free, plan.spare_fat), plan.free),
+            None => (fat_for(g, held + plan.free, plan.spare_fat), plan.free),
             Some(sectors) => {
-                let fat = sectors.div_ceil(CELLS as u32) + plan.spare_fat;
-                (fat, sectors - held - fat - difat_for(fat))
+                let fat = sectors.div_ceil(g.cells as u32) + plan.spare_fat;
+                (fat, sectors - held - fat - difat_for(g, fat))
             }
         };
-        let difat = difat_for(fat);
+        let difat = difat_for(g, fat);
         let sectors = held + free + fat + difat;
         Counts { sectors, fat, difat, directory, mini_fat, mini_stream, minis, free }
     }
 }
 
 /// The fewest FAT sectors, and the spare ones, that cover so many other sectors and the tables themselves.
-fn fat_for(others: u32, spare: u32) -> u32 {
-    let covers = |fat: u32| CELLS as u32 * fat >= others + fat + difat_for(fat);
+fn fat_for(g: Geometry, others: u32, spare: u32) -> u32 {
+    let covers = |fat: u32| g.cells as u32 * fat >= others + fat + difat_for(g, fat);
     (1 + spare..).find(|&fat| covers(fat)).unwrap()
 }
 
 /// The fewest DIFAT sectors that hold what the header does not.
-fn difat_for(fat: u32) -> u32 {
-    (0..).find(|&difat| (HEADER_DIFAT + SECTOR_DIFAT * difat as usize) >= fat as usize).unwrap()
+fn difat_for(g: Geometry, fat: u32) -> u32 {
+    (0..).find(|&difat| (HEADER_DIFAT + g.difat * difat as usize) >= fat as usize).unwrap()
 }

@@ -1,6 +1,7 @@
 //! The upper half of a size, which older programs left unset in version 3 (W-205).
 
 use super::plan::Plan;
+use crate::geometry::V3;
 use crate::random::Random;
 
 /// Rubbish in one byte or one bit, and in all four bytes.
@@ -15,5 +16,6 @@ pub fn rubbish(random: &mut Random) -> u32 {
 
 /// The upper half of one size in an image of this plan.
 pub fn half(plan: &Plan, random: &mut Random) -> u32 {
-    if plan.rubbish_once_in > 0 && random.one_in(plan.rubbish_once_in) { rubbish(random) } else { 0 }
+    let wanted = plan.rubbish_once_in > 0 && random.one_in(plan.rubbish_once_in);
+    if wanted && plan.geometry == V3 { rubbish(random) } else { 0 }
 }

@@ -7,7 +7,7 @@ use crate::random::Random;
 
 /// Everything starts as filling, so that what is not judged holds filling in the end.
 pub fn image(layout: &Layout, fill: Fill, random: &mut Random) -> Vec<u8> {
-    let mut image = vec![0; (layout.sectors as usize + 1) * SECTOR];
+    let mut image = vec![0; layout.geometry.image_len(layout.sectors)];
     match fill {
         Fill::Noise => random.fill(&mut image),
         Fill::Byte(byte) => image.fill(byte),
@@ -31,14 +31,17 @@ pub fn first(units: &[u32]) -> u32 {
     units.first().copied().unwrap_or(END)
 }
 
-/// All but minor version (24) and transaction number (52), which stay filling, and the DIFAT entries.
+/// All but minor version (24) and transaction number (52), which stay filling, and the DIFAT entries; with the zeros that
+/// follow them in a sector longer than 512 bytes.
 fn header(image: &mut [u8], layout: &Layout) {
+    let g = layout.geometry;
     image[..8].copy_from_slice(&[0xD0, 0xCF, 0x11, 0xE0, 0xA1, 0xB1, 0x1A, 0xE1]);
     image[8..24].fill(0);
-    for (at, value) in [(26, 3), (28, 0xFFFE), (30, 9), (32, 6)] {
+    for (at, value) in [(26, g.major), (28, 0xFFFE), (30, g.shift), (32, 6)] {
         put_u16(image, at, value);
     }
-    image[34..44].fill(0);
+    image[34..40].fill(0);
+    put_u32(image, 40, if g.counts_directory { layout.directory.len() as u32 } else { 0 });
     put_u32(image, 44, layout.fat.len() as u32);
     put_u32(image, 48, layout.directory[0]);
     put_u32(image, 56, 4096);
@@ -46,6 +49,7 @@ fn header(image: &mut [u8], layout: &Layout) {
     put_u32(image, 64, layout.mini_fat.len() as u32);
     put_u32(image, 68, first(&layout.difat));
     put_u32(image, 72, layout.difat.len() as u32);
+    image[512..g.sector].fill(0);
 }
 
 fn difat(image: &mut [u8], layout: &Layout) {
@@ -58,10 +62,14 @@ fn difat(image: &mut [u8], layout: &Layout) {
     }
 }
 
+/// All cells of a table are free at first.
+fn free_cells(image: &mut [u8], layout: &Layout, table: &[u32]) {
+    let g = layout.geometry;
+    table.iter().for_each(|&s| image[g.place(s)..][..g.sector].fill(0xFF));
+}
+
 fn fat(image: &mut [u8], layout: &Layout) {
-    for &s in &layout.fat {
-        image[sector_place(s)..][..SECTOR].fill(0xFF);
-    }
+    free_cells(image, layout, &layout.fat);
     for &s in &layout.fat {
         put_u32(image, layout.cell(s), FATSECT);
     }
@@ -78,9 +86,7 @@ fn fat(image: &mut [u8], layout: &Layout) {
 }
 
 fn mini_fat(image: &mut [u8], layout: &Layout) {
-    for &s in &layout.mini_fat {
-        image[sector_place(s)..][..SECTOR].fill(0xFF);
-    }
+    free_cells(image, layout, &layout.mini_fat);
     for node in layout.nodes.iter().filter(|node| !is_large(node)) {
         for (i, &m) in node.units.iter().enumerate() {
             put_u32(image, layout.mini_cell(m), first(&node.units[i + 1..]));

@@ -1,7 +1,6 @@
 //! Edits of the rows: accepted or refused by the rows alone.
 
 use super::Model;
-use super::room::need;
 use crate::number::CUTOFF;
 
 impl Model {
@@ -18,17 +17,15 @@ impl Model {
 
     /// Cuts the row at the new length, or adds zero bytes up to it.
     pub fn set_length(&mut self, path: &[u16], new: u64) -> Result<[u64; 3], u32> {
-        let free = self.free();
-        let row = self.stream_mut(path)?;
-        let old = row.len() as u64;
+        let old = self.stream(path)?.len() as u64;
         if old != 0 && new != 0 && (old < CUTOFF) != (new < CUTOFF) {
             return Err(25);
         }
-        let (before, after) = (need(old), need(new));
+        let (before, after, free) = (self.need(old), self.need(new), self.free());
         if after.sectors > before.sectors + free.sectors || after.minis > before.minis + free.minis {
             return Err(26);
         }
-        row.resize(new as usize, 0);
+        self.stream_mut(path)?.resize(new as usize, 0);
         Ok([0; 3])
     }
 

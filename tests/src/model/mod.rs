@@ -7,6 +7,7 @@ mod lines;
 pub mod room;
 
 use crate::calls::{Call, Outcome};
+use crate::geometry::Geometry;
 use crate::images::Sample;
 use crate::images::layout::Node;
 use crate::images::names;
@@ -26,6 +27,7 @@ pub struct Row {
 
 #[derive(Clone)]
 pub struct Model {
+    pub geometry: Geometry,
     /// The root first.
     pub rows: Vec<Row>,
     /// N, K, and the sectors of FAT, DIFAT, directory, mini FAT and mini stream.
@@ -37,7 +39,8 @@ pub struct Model {
 impl Model {
     pub fn of(sample: &Sample) -> Model {
         let layout = &sample.layout;
-        let minis = gather(&sample.image, &layout.mini_stream);
+        let g = layout.geometry;
+        let minis = g.gather(&sample.image, &layout.mini_stream);
         let mut rows: Vec<Row> = Vec::with_capacity(layout.nodes.len());
         for node in &layout.nodes {
             let mut path = if node.entry == 0 { Vec::new() } else { rows[node.parent].path.clone() };
@@ -45,17 +48,17 @@ impl Model {
                 path.push(node.name.clone());
             }
             let key = path.iter().map(|name| names::key(name)).collect();
-            rows.push(Row { path, key, entry: node.entry, bytes: first_bytes(&sample.image, &minis, node) });
+            rows.push(Row { path, key, entry: node.entry, bytes: first_bytes(g, &sample.image, &minis, node) });
         }
         let system = [&layout.fat, &layout.difat, &layout.directory, &layout.mini_fat, &layout.mini_stream];
         let fixed = system.into_iter().map(|part| part.len() as u64).sum();
-        Model { rows, sectors: layout.sectors as u64, minis: layout.minis as u64, fixed }
+        Model { geometry: g, rows, sectors: layout.sectors as u64, minis: layout.minis as u64, fixed }
     }
 
     /// What the call hands back, on an image that is valid.
     pub fn perform(&mut self, call: &Call, work_len: usize) -> Outcome {
         let mut out = call.out().to_vec();
-        let needed = 13 * (self.sectors + 1);
+        let needed = 13 * (self.sectors + 1) * self.geometry.sector as u64 / 512;
         let result = if (work_len as u64) < needed { Err(2) } else { self.done(call, &mut out) };
         Outcome::of(result, out)
     }
@@ -121,10 +124,10 @@ fn put(out: &mut [u8], bytes: &[u8]) -> u64 {
 }
 
 /// The first size bytes of a stream's sectors or mini sectors, laid end to end.
-fn first_bytes(image: &[u8], minis: &[u8], node: &Node) -> Option<Vec<u8>> {
+fn first_bytes(g: Geometry, image: &[u8], minis: &[u8], node: &Node) -> Option<Vec<u8>> {
     let size = node.size? as usize;
     let mut bytes = match is_large(node) {
-        true => gather(image, &node.units),
+        true => g.gather(image, &node.units),
         false => node.units.iter().flat_map(|&m| &minis[m as usize * 64..][..64]).copied().collect(),
     };
     bytes.truncate(size);

@@ -10,19 +10,19 @@ pub struct Units {
     pub minis: u64,
 }
 
-/// What a stream of this length needs.
-pub fn need(length: u64) -> Units {
-    match length {
-        0..CUTOFF => Units { sectors: 0, minis: length.div_ceil(MINI_SECTOR) },
-        _ => Units { sectors: length.div_ceil(SECTOR as u64), minis: 0 },
-    }
-}
-
 impl Model {
+    /// What a stream of this length needs.
+    pub fn need(&self, length: u64) -> Units {
+        match length {
+            0..CUTOFF => Units { sectors: 0, minis: length.div_ceil(MINI_SECTOR) },
+            _ => Units { sectors: length.div_ceil(self.geometry.sector as u64), minis: 0 },
+        }
+    }
+
     pub fn taken(&self) -> Units {
         let mut taken = Units { sectors: self.fixed, minis: 0 };
         for bytes in self.rows.iter().filter_map(|row| row.bytes.as_ref()) {
-            let need = need(bytes.len() as u64);
+            let need = self.need(bytes.len() as u64);
             taken.sectors += need.sectors;
             taken.minis += need.minis;
         }

@@ -1,6 +1,7 @@
 //! Group 14: the fields of one directory entry.
 
 use super::header::zero;
+use crate::geometry::Geometry;
 use crate::number::*;
 use std::cmp::Ordering;
 
@@ -9,54 +10,62 @@ pub const STORAGE: u8 = 1;
 pub const STREAM: u8 = 2;
 pub const ROOT: u8 = 5;
 
-/// The 128 bytes of an entry.
 #[derive(Clone, Copy)]
-pub struct Entry<'a>(pub &'a [u8]);
+pub struct Entry<'a> {
+    /// All 128.
+    pub bytes: &'a [u8],
+    /// How many bytes of its size count.
+    size_bytes: usize,
+}
 
-impl Entry<'_> {
+impl<'a> Entry<'a> {
+    pub fn new(g: Geometry, bytes: &'a [u8]) -> Entry<'a> {
+        Entry { bytes, size_bytes: g.size_bytes }
+    }
+
     pub fn name_bytes(&self) -> usize {
-        u16_at(self.0, 64) as usize
+        u16_at(self.bytes, 64) as usize
     }
 
     pub fn kind(&self) -> u8 {
-        self.0[66]
+        self.bytes[66]
     }
 
     pub fn is_red(&self) -> bool {
-        self.0[67] == 0
+        self.bytes[67] == 0
     }
 
     pub fn left(&self) -> u32 {
-        u32_at(self.0, 68)
+        u32_at(self.bytes, 68)
     }
 
     pub fn right(&self) -> u32 {
-        u32_at(self.0, 72)
+        u32_at(self.bytes, 72)
     }
 
     pub fn child(&self) -> u32 {
-        u32_at(self.0, 76)
+        u32_at(self.bytes, 76)
     }
 
     pub fn start(&self) -> u32 {
-        u32_at(self.0, 116)
+        u32_at(self.bytes, 116)
     }
 
     /// The size as read: in version 3 the lower half of the field, whatever older programs left in the upper one (W-205).
     pub fn size(&self) -> u64 {
-        u32_at(self.0, 120) as u64
+        if self.size_bytes == 4 { u32_at(self.bytes, 120) as u64 } else { u64_at(self.bytes, 120) }
     }
 
     fn created(&self) -> u64 {
-        u64_at(self.0, 100)
+        u64_at(self.bytes, 100)
     }
 
     fn modified(&self) -> u64 {
-        u64_at(self.0, 108)
+        u64_at(self.bytes, 108)
     }
 
     fn unit(&self, i: usize) -> u16 {
-        u16_at(self.0, 2 * i)
+        u16_at(self.bytes, 2 * i)
     }
 
     /// The units of a name that holds, without the closing zero.
@@ -76,7 +85,7 @@ impl Entry<'_> {
             ROOT => number == 0 && self.root_holds(),
             _ if number == 0 => false,
             BLANK => self.blank_holds(),
-            STORAGE => self.object_holds() && zero(&self.0[116..]),
+            STORAGE => self.object_holds() && zero(&self.bytes[116..]),
             STREAM => self.object_holds() && self.stream_holds(),
             _ => false,
         }
@@ -84,11 +93,11 @@ impl Entry<'_> {
 
     fn blank_holds(&self) -> bool {
         let unlinked = [self.left(), self.right(), self.child()] == [NOSTREAM; 3];
-        unlinked && zero(&self.0[..68]) && zero(&self.0[80..])
+        unlinked && zero(&self.bytes[..68]) && zero(&self.bytes[80..])
     }
 
     fn colour_holds(&self) -> bool {
-        self.0[67] <= 1
+        self.bytes[67] <= 1
     }
 
     fn root_holds(&self) -> bool {
@@ -100,7 +109,7 @@ impl Entry<'_> {
     }
 
     fn stream_holds(&self) -> bool {
-        self.child() == NOSTREAM && zero(&self.0[80..96]) && self.created() == 0 && self.modified() == 0
+        self.child() == NOSTREAM && zero(&self.bytes[80..96]) && self.created() == 0 && self.modified() == 0
     }
 
     fn name_holds(&self) -> bool {

@@ -3,6 +3,7 @@
 use super::chains::Chains;
 use super::directory::Directory;
 use super::header::Header;
+use crate::geometry::Geometry;
 use crate::number::*;
 
 pub struct Mini {
@@ -14,20 +15,20 @@ pub struct Mini {
 
 impl Mini {
     /// None if group 16 is broken.
-    pub fn read(image: &[u8], header: &Header, directory: &Directory, sectors: &Chains) -> Option<Mini> {
+    pub fn read(g: Geometry, image: &[u8], header: &Header, directory: &Directory, sectors: &Chains) -> Option<Mini> {
         let fat_count = header.mini_fat_count as u64;
         let (start, size) = (directory.root().start(), directory.root().size());
         let count = size / MINI_SECTOR;
         let holds = sectors.is_chain(header.first_mini_fat, fat_count)
             && size.is_multiple_of(MINI_SECTOR)
-            && sectors.is_chain(start, size.div_ceil(SECTOR as u64))
-            && CELLS as u64 * fat_count >= count;
+            && sectors.is_chain(start, size.div_ceil(g.sector as u64))
+            && g.cells as u64 * fat_count >= count;
         if !holds {
             return None;
         }
         let fat: Vec<u32> = sectors.units(header.first_mini_fat).collect();
         let stream = sectors.units(start).collect();
-        let all = words(&gather(image, &fat));
+        let all = words(&g.gather(image, &fat));
         let (cells, rest) = all.split_at(count as usize);
         let allowed = |&cell: &u32| (cell as u64) < count || cell == END || cell == FREE;
         let cells_hold = cells.iter().all(allowed) && rest.iter().all(|&cell| cell == FREE);

@@ -1,6 +1,7 @@
 //! Groups 11 and 12: where FAT and DIFAT lie, and the values of the FAT's cells.
 
 use super::header::Header;
+use crate::geometry::Geometry;
 use crate::number::*;
 
 pub struct Tables {
@@ -13,28 +14,28 @@ pub struct Tables {
 }
 
 /// D for a FAT of so many sectors.
-pub fn difat_needed(fat_count: u64) -> u64 {
-    fat_count.saturating_sub(HEADER_DIFAT as u64).div_ceil(SECTOR_DIFAT as u64)
+pub fn difat_needed(g: Geometry, fat_count: u64) -> u64 {
+    fat_count.saturating_sub(HEADER_DIFAT as u64).div_ceil(g.difat as u64)
 }
 
 impl Tables {
     /// None if group 11 is broken.
-    pub fn read(image: &[u8], count: usize, header: &Header) -> Option<Tables> {
+    pub fn read(g: Geometry, image: &[u8], count: usize, header: &Header) -> Option<Tables> {
         let fat_count = header.fat_count as u64;
         // A FAT of more than N sectors cannot have sectors that are all different.
         let counts = fat_count >= 1
-            && CELLS as u64 * fat_count >= count as u64
+            && g.cells as u64 * fat_count >= count as u64
             && fat_count <= count as u64
-            && header.difat_count as u64 == difat_needed(fat_count);
+            && header.difat_count as u64 == difat_needed(g, fat_count);
         if !counts {
             return None;
         }
-        let (difat, entries) = follow_difat(image, count, header)?;
+        let (difat, entries) = follow_difat(g, image, count, header)?;
         let (fat, rest) = entries.split_at(fat_count as usize);
         if rest.iter().any(|&e| e != FREE) || fat.iter().any(|&s| s as usize >= count) {
             return None;
         }
-        let cells = words(&gather(image, fat));
+        let cells = words(&g.gather(image, fat));
         let tables = Tables { count, fat: fat.to_vec(), difat, cells };
         tables.marked().then_some(tables)
     }
@@ -62,7 +63,7 @@ impl Tables {
 }
 
 /// The DIFAT sectors, and all entries: the header's, then theirs. None if the links are not D sectors and an end.
-fn follow_difat(image: &[u8], count: usize, header: &Header) -> Option<(Vec<u32>, Vec<u32>)> {
+fn follow_difat(g: Geometry, image: &[u8], count: usize, header: &Header) -> Option<(Vec<u32>, Vec<u32>)> {
     let mut sectors = Vec::new();
     let mut entries = header.difat.clone();
     let mut next = header.first_difat;
@@ -71,9 +72,9 @@ fn follow_difat(image: &[u8], count: usize, header: &Header) -> Option<(Vec<u32>
             return None;
         }
         sectors.push(next);
-        let held = words(sector(image, next));
-        entries.extend_from_slice(&held[..SECTOR_DIFAT]);
-        next = held[SECTOR_DIFAT];
+        let held = words(g.bytes(image, next));
+        entries.extend_from_slice(&held[..g.difat]);
+        next = held[g.difat];
     }
     (next == END).then_some((sectors, entries))
 }
