@@ -78,9 +78,7 @@ fn each(cases: Vec<Case>, then: &mut dyn FnMut(u64, Case)) {
 /// In a long run a rule that was never broken and an answer that never came count as failures.
 fn report(tally: &mut Tally, cases: &Cases, images: u64, calls: u64, list_count: u64) {
     tally.report();
-    for (major, changes, rarest) in cases.uses.rarest() {
-        println!("version {major}: {changes} kinds of change, the rarest used {rarest} times");
-    }
+    cases.uses.report();
     if images >= ENOUGH {
         for rule in cases.uses.unused() {
             tally.fail("never used", &rule);

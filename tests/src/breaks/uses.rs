@@ -24,11 +24,13 @@ impl Uses {
         never.map(|(rule, major, _)| format!("version {major}: {rule}")).collect()
     }
 
-    /// For each version how many changes there are, and how often the rarest was used.
-    pub fn rarest(&self) -> [(u16, usize, u64); 2] {
-        VERSIONS.map(|g| {
-            let times: Vec<u64> = self.each().filter(|(_, major, _)| *major == g.major).map(|(_, _, n)| n).collect();
-            (g.major, times.len(), times.into_iter().min().unwrap_or(0))
-        })
+    /// For each version how many changes there are, and which was used least often.
+    pub fn report(&self) {
+        for g in VERSIONS {
+            let mut changes: Vec<_> = self.each().filter(|(_, major, _)| *major == g.major).collect();
+            changes.sort_by_key(|&(_, _, times)| times);
+            let (rarest, _, times) = changes[0];
+            println!("version {}  {} kinds of change, the rarest {times} times: {rarest}", g.major, changes.len());
+        }
     }
 }

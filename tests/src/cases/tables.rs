@@ -24,6 +24,9 @@ struct Tables {
     without: &'static [&'static str],
 }
 
+/// What is done with the kind of a case, its image and its answer.
+type Next<'a> = dyn FnMut(&str, Vec<u8>, Option<u32>) + 'a;
+
 const IMAGES: usize = 3;
 const MUTATED: usize = 8;
 
@@ -59,7 +62,7 @@ pub fn run(seed: u64, uses: &mut Uses, then: &mut dyn FnMut(u64, Case)) -> Vec<S
 }
 
 impl Tables {
-    fn run(&self, seed: u64, uses: &mut Uses, next: &mut dyn FnMut(&str, Vec<u8>, Option<u32>)) -> Vec<String> {
+    fn run(&self, seed: u64, uses: &mut Uses, next: &mut Next) -> Vec<String> {
         let mut unused: Vec<&Break> = of_tables().iter().filter(|rule| !self.without.contains(&rule.rule)).collect();
         let short = self.fat_sectors.len() * IMAGES;
         for plan in 0..short + self.sectors.len() {

@@ -232,9 +232,12 @@ fn mini_tables(g: Geometry, cases: &mut Vec<Case>) {
     }
 }
 
+/// The group that is broken, and how.
+type Change = (u32, fn(&mut Sample));
+
 /// Where two groups of version 4 are broken, the lower one is answered.
 fn first_group(cases: &mut Vec<Case>) {
-    let changes: [(u32, fn(&mut Sample)); 7] = [
+    let changes: [Change; 7] = [
         (10, |s| s.image[4_095] = 1),
         (11, |s| s.put(44, 0)),
         (12, |s| s.set_cell(s.layout.sectors, END)),

@@ -13,14 +13,14 @@ pub fn plan(random: &mut Random) -> Plan {
     let mut plan = free_choices(random, g);
     match random.below(100) {
         0..2 => {}
-        2..60 => objects(&mut plan, random, 12, 24 << 10),
-        60..84 => objects(&mut plan, random, 60, 40 << 10),
-        84..88 => objects(&mut plan, random, 250, 8 << 10),
-        88..90 => all_entries(&mut plan, random),
-        90..92 => all_minis(&mut plan, random),
+        2..56 => objects(&mut plan, random, 12, 24 << 10),
+        56..80 => objects(&mut plan, random, 60, 40 << 10),
+        80..84 => objects(&mut plan, random, 250, 8 << 10),
+        84..86 => all_entries(&mut plan, random),
+        86..88 => all_minis(&mut plan, random),
         // Of version 4 this takes at least 4 MiB.
-        92..94 if g == V3 || random.one_in(16) => full_fat(&mut plan, random),
-        94..96 => full_mini_fat(&mut plan, random),
+        88..91 if g == V3 || random.one_in(16) => full_fat(&mut plan, random),
+        91..96 => full_mini_fat(&mut plan, random),
         96..98 => long_fat(&mut plan, random, 109, if g == V3 { 130 } else { 112 }),
         98..100 if g == V3 => long_fat(&mut plan, random, 234, 240),
         _ => objects(&mut plan, random, 12, 40 << 10),
