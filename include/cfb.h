@@ -63,8 +63,8 @@ extern "C" {
 uint32_t cfb_validate(const uint8_t *image, size_t image_len, uint32_t *work, size_t work_len);
 
 /* The entry that a path leads to: its number in the directory, its type and its size in bytes (of the root, the size of the
- * stream that holds all small streams; of a storage 0). Answers 20, 21 and 22; of 21 and 22 the first name that fails
- * decides. */
+ * stream that holds all small streams; of a storage 0). A size is the lower half of the eight bytes that the file has for it:
+ * older programs left anything in the upper one. Answers 20, 21 and 22; of 21 and 22 the first name that fails decides. */
 uint32_t cfb_find(const uint8_t *image, size_t image_len, uint32_t *work, size_t work_len, const uint16_t *path,
                   size_t path_len, uint32_t *entry, uint32_t *type, uint64_t *size);
 
@@ -80,8 +80,9 @@ uint32_t cfb_overwrite(uint8_t *image, size_t image_len, uint32_t *work, size_t 
                        size_t path_len, uint64_t offset, const uint8_t *bytes, size_t bytes_len);
 
 /* Gives a stream another length. A shorter one keeps its first bytes, a longer one has zero bytes behind the old ones. The
- * lowest free units are taken, and what a stream no longer needs becomes free; other streams stay as they are. The same length
- * again changes nothing. The image itself never grows. Answers 20 to 23, 25 and 26. */
+ * lowest free units are taken, and what a stream no longer needs becomes free; other streams stay as they are. The upper half
+ * of the size becomes zero. The same length again changes nothing, also not that half. The image itself never grows. Answers
+ * 20 to 23, 25 and 26. */
 uint32_t cfb_set_len(uint8_t *image, size_t image_len, uint32_t *work, size_t work_len, const uint16_t *path, size_t path_len,
                      uint64_t new_len);
 

@@ -1,12 +1,14 @@
 #!/usr/bin/env python3
 """Writes the calls that the program `calls_run` makes, and the lines that it must print.
 
-Every answer stands here, or in `edit_cases.py` and `letter_cases.py`, as 01 and 02 give it; values and bytes come from the plan of the image and from the edits made,
-and images after edits from `edits.py`. Nothing is asked of the library. `groups.py` says how a call is laid out and what is printed of it."""
+Every answer stands here, or in `edit_cases.py`, `letter_cases.py` and `size_cases.py`, as 01 and 02 give it; values and bytes come from the
+plan of the image and from the edits made, and images after edits from `edits.py`. Nothing is asked of the library.
+`groups.py` says how a call is laid out and what is printed of it."""
 import os
 import struct
 import edit_cases
 import letter_cases
+import size_cases
 from groups import FIND, LIST, OVERWRITE, READ, SET_LENGTH, VALIDATE, Group
 from images import END, byte, entry, image, put, root
 from plans import Plan, text
@@ -103,7 +105,10 @@ broken = [(one[:1535], 1), (b"", 1), (byte(one, 0, 0), 10), (byte(one, 44, 0), 1
           (byte(one, 1024 + 76, 9), 15), (put(one, (60, 0)), 16), (put(one, (1024 + 128 + 116, 0)), 17), (put(one, (512 + 4 * 2, END)), 18)]
 # a stream and a storage that have the exclamation mark in their names
 broken += [(image(3, [0], [], [1], [root(1), entry("!", 2)]), 14), (image(3, [0], [], [1], [root(1), entry("s!", 1)]), 14)]
-groups = [g, s] + edit_cases.groups() + letter_cases.groups()
+# a storage and a blank entry that have a byte in the upper half of their size (W-205), where the root and a stream may have it
+above = image(3, [0], [], [1], [root(1, size=1 << 32), entry("s", 2, right=2, size=1 << 63), entry("Site", 1)])
+broken += [(byte(above, 1024 + 128 * i + at, value), 14) for i in (2, 3) for at, value in [(124, 1), (127, 0x80)]]
+groups = [g, s] + edit_cases.groups() + letter_cases.groups() + size_cases.groups()
 for img, number in broken:
     b = Group(img=img)
     b.call(VALIDATE, number)

@@ -1,4 +1,4 @@
-"""What an overwrite and a change of length do to an image, byte by byte, worked out from 01.
+"""What an overwrite and a change of length do to an image, byte by byte, worked out from 01 and 02.
 
 Nothing is judged here: the image is an accepted one of at most 109 FAT sectors."""
 import struct
@@ -38,7 +38,11 @@ class Edited:
         return 512 * (self.directory[entry // 4] + 1) + 128 * (entry % 4)
 
     def size(self, entry):
-        return struct.unpack_from("<Q", self.bytes, self.entry_at(entry) + 120)[0]
+        """The size as read: the lower half of its field (02, W-205)."""
+        return self.word(self.entry_at(entry) + 120)
+
+    def upper(self, entry):
+        return self.word(self.entry_at(entry) + 124)
 
     def cell_at(self, kind, unit):
         tables = self.mini_fats if kind == MINIS else self.fats
@@ -100,6 +104,7 @@ class Edited:
         at = self.entry_at(entry)
         if 0 in (old, new):
             self.put("<I", at + 116, chain[0] if chain else END)
+        # all eight bytes, the upper ones zero
         self.put("<Q", at + 120, new)
         return 0
 

@@ -1,11 +1,12 @@
 #!/usr/bin/env python3
-"""Writes what the program `opened_run` reads, the sample site.cfb, and what it must print.
+"""Writes what the program `opened_run` reads, the sample site.cfb with rubbish in the upper half of its sizes, and what it must print.
 
-The answers stand here as 01 gives them. The image after the edits is worked out by `edits.py`, the stream's bytes by the edits made, and the
+The answers stand here as 01 and 02 give them. The image after the edits is worked out by `edits.py`, the stream's bytes by the edits made, and the
 listing is a plain reader's; nothing is asked of the library."""
 import os
 from edits import Edited
-from groups import STREAM, digest
+from groups import ROOT, STREAM, digest
+from images import put
 from plain import Reader
 
 NEW, OFFSET, BYTES, ROOM = 4150, 4090, b"[over the end of a sector]", 64
@@ -13,6 +14,9 @@ NEW, OFFSET, BYTES, ROOM = 4150, 4090, b"[over the end of a sector]", 64
 top = os.path.join(os.path.dirname(os.path.abspath(__file__)), "..")
 with open(os.path.join(top, "samples", "site.cfb"), "rb") as f:
     site = f.read()
+for i, e in enumerate(Reader(site).entries):
+    if e[66] in (ROOT, STREAM):
+        site = put(site, (Edited(site).entry_at(i) + 124, 0x80000001))
 need = 13 * (len(site) // 512)
 reader = Reader(site)
 log = dict(reader.objects())["Site/log"]
@@ -22,6 +26,8 @@ entry, row = reader.entries.index(log), reader.stream(log)
 edited = Edited(site)
 assert (len(row), edited.set_length(entry, NEW), edited.overwrite(entry, OFFSET, BYTES)) == (5000, 0, 0)
 image = bytes(edited.bytes)
+# the rubbish above the new length is gone, that of the root and the other stream is left
+assert sorted(edited.upper(i) for i in range(4)) == [0, 0, 0x80000001, 0x80000001] and edited.upper(entry) == 0
 row = row[:OFFSET] + BYTES + row[OFFSET + len(BYTES):NEW]
 assert row == Reader(image).stream(Reader(image).entries[entry])
 listing = Reader(image).listing()

@@ -19,10 +19,11 @@ class Plan:
     """The image of a tree: `entries` gives a path's entry number, `streams` a stream's bytes, `storages` the paths of storages.
 
     Units are dealt out in an order that the seed shuffles, so that chains wander; `free` and `free_minis` units are left over. The byte `waste`
-    stands wherever nothing is stored and nothing is judged: in free units, behind a stream's end and a name's, in a stream's state bits."""
+    stands wherever nothing is stored and nothing is judged: in free units, behind a stream's end and a name's, in a stream's state bits. `upper` has
+    the upper half of the sizes of streams and of the root, by path, where it is not zero."""
 
-    def __init__(self, tree, free=0, free_minis=0, seed=1, waste=0, fat=0):
-        self.tree, self.waste, self.fat = tree, bytes([waste]), fat
+    def __init__(self, tree, free=0, free_minis=0, seed=1, waste=0, fat=0, upper={}):
+        self.tree, self.waste, self.fat, self.upper = tree, bytes([waste]), fat, upper
         self.entries, self.streams, self.storages = {"": 0}, {}, []
         self.number(tree, "")
         self.mix = random.Random(seed)
@@ -92,8 +93,12 @@ class Plan:
 
     def rows(self, tree, mini_stream, size, starts):
         rows = [None] * len(self.entries)
-        self.root = rows[0] = root(self.tops(tree, "", rows, starts), mini_stream[0] if mini_stream else END, size)
+        self.root = rows[0] = root(self.tops(tree, "", rows, starts), mini_stream[0] if mini_stream else END, self.field("", size))
         return rows
+
+    def field(self, path, size):
+        """All eight bytes of a size."""
+        return size + (self.upper.get(path, 0) << 32)
 
     def tops(self, tree, before, rows, starts):
         """Writes the entries of a storage's objects as a balanced tree, all black, and says which is its top."""
@@ -106,7 +111,7 @@ class Plan:
             if isinstance(what, dict):
                 e = entry(names[k], 1, left=left, right=right, child=self.tops(what, path + "/", rows, starts))
             else:
-                e = entry(names[k], 2, left=left, right=right, start=starts.get(path, END), size=len(what))
+                e = entry(names[k], 2, left=left, right=right, start=starts.get(path, END), size=self.field(path, len(what)))
                 end = e[64]
                 e = e[:end] + self.waste * (64 - end) + e[64:96] + self.waste * 4 + e[100:]
             rows[self.entries[path]] = e

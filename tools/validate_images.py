@@ -7,6 +7,8 @@ from letters import BESIDE, ENDS, IN_ORDER, OTHERS, OUT_OF_PLAIN_ORDER, order, r
 
 STORAGE, STREAM, ROOT = 1, 2, 5
 RED, BLACK = 0, 1
+# the upper half of a size: one bit of it, and all of it (W-205)
+BIT, ABOVE = 1 << 32, 0xFFFFFFFF << 32
 
 
 def stream(name, colour=BLACK, left=NONE, right=NONE, child=NONE, start=END, size=0):
@@ -105,7 +107,7 @@ directories = [
     (seven(rising), 0), (spine(100), 0),
     # group 14: the root
     (with_entries([stream("log")]), 14), (with_entries([patched(root(), 68, [0, 0, 0, 0])]), 14), (with_entries([patched(root(), 72, [0, 0, 0, 0])]), 14),
-    (with_entries([patched(root(), 100, [1])]), 14), (with_entries([patched(root(), 67, [2])]), 14), (with_entries([patched(root(), 124, [1])]), 14),
+    (with_entries([patched(root(), 100, [1])]), 14), (with_entries([patched(root(), 67, [2])]), 14),
     (with_entries([patched(root(), 108, [1])]), 0), (with_entries([root(), root()]), 14),
     # group 14: blank entries
     (with_entries([root(), patched(entry(), 0, [1])]), 14), (with_entries([root(), patched(entry(), 64, [2])]), 14),
@@ -129,7 +131,17 @@ directories = [
     (one(patched(stream("log"), 76, [2, 0, 0, 0])), 14), (one(patched(stream("log"), 80, [1])), 14), (one(patched(stream("log"), 95, [1])), 14),
     (one(patched(stream("log"), 96, [1])), 0), (one(patched(stream("log"), 100, [1])), 14), (one(patched(stream("log"), 115, [1])), 14),
     (one(patched(storage("Site"), 80, [1])), 0), (one(patched(storage("Site"), 116, [1])), 14), (one(patched(storage("Site"), 120, [1])), 14),
-    (one(patched(stream("log"), 67, [2])), 14), (one(patched(stream("log"), 127, [1])), 14),
+    (one(patched(stream("log"), 67, [2])), 14),
+    # group 14: each byte of the upper half of a size (W-205), which the root and streams may have, and all bytes of it
+    *[(with_entries([patched(root(), at, [1])]), 0) for at in range(124, 128)], *[(one(patched(stream("log"), at, [1])), 0) for at in range(124, 128)],
+    (with_entries([root(size=ABOVE)]), 0), (one(stream("log", size=ABOVE)), 0),
+    (with_entries([root(1, size=ABOVE), storage("Site", child=2), stream("log", size=ABOVE)]), 0),
+    # group 14: each byte of the size of a storage and of a blank entry, whatever the root and streams have
+    *[(one(patched(storage("Site"), at, [1])), 14) for at in range(121, 128)],
+    *[(with_entries([root(), patched(entry(), at, [1])]), 14) for at in range(120, 127)],
+    (one(patched(storage("Site"), 124, [255] * 4)), 14), (with_entries([root(), patched(entry(), 124, [255] * 4)]), 14),
+    (with_entries([root(1, size=ABOVE), patched(storage("Site", child=2), 124, [1]), stream("log", size=ABOVE)]), 14),
+    (with_entries([root(1, size=ABOVE), stream("log", size=ABOVE), patched(entry(), 124, [1])]), 14), (with_entries([root(), stream("log", size=ABOVE)]), 15),
     # group 15: LOG equals log; the shorter name comes first; letters count as capitals
     (siblings(stream("log", right=2), stream("LOG")), 15), (siblings(stream("log", right=2), stream("Jets")), 0),
     (siblings(stream("Jets", right=2), stream("log")), 15), (siblings(stream("a_b", right=2), stream("aab")), 15),
@@ -182,21 +194,25 @@ def busy(log=(0, 70), jets=(1, 64), big=(4, 4096), start=3, size=512):
     return volume(14, [1], [[3], list(range(4, 12))], entries, [2], [5, END, FREE, FREE, FREE, END])
 
 
-def wide(minis, mini_fats):
-    """So many mini sectors, none of them owned, and so many mini FAT sectors."""
+def wide(minis, mini_fats, upper=0):
+    """So many mini sectors, none of them owned, and so many mini FAT sectors; `upper` is added to the root's size."""
     n = (minis + 7) // 8
     fats = list(range(2, 2 + mini_fats))
     own = list(range(2 + mini_fats, 2 + mini_fats + n))
-    return volume(2 + mini_fats + n, [1], [own] if own else [], [root(start=own[0] if own else END, size=64 * minis)], fats)
+    return volume(2 + mini_fats + n, [1], [own] if own else [], [root(start=own[0] if own else END, size=upper + 64 * minis)], fats)
+
+
+def edged(upper=0):
+    """A stream of 4,095 bytes; `upper` is added to its size."""
+    return volume(11, [1], [list(range(3, 11))], [root(1, 3, 4096), stream("log", start=0, size=upper + 4095)], [2], list(range(1, 64)) + [END])
 
 
 good = busy()
 # the mini FAT's sector is the mini stream's too
 doubled = put(good[:4 * 512] + good[3 * 512:4 * 512] + good[5 * 512:], (60, 3), (cell(2), FREE))
-edge = volume(11, [1], [list(range(3, 11))], [root(1, 3, 4096), stream("log", start=0, size=4095)], [2], list(range(1, 64)) + [END])
 spaces = [
     # accepted: both kinds of stream; a stream of 4,095 bytes; no mini sector, with and without a mini FAT; as many as there are cells
-    (good, 0), (edge, 0), (wide(0, 0), 0), (wide(0, 1), 0), (wide(128, 1), 0), (wide(1, 2), 0),
+    (good, 0), (edged(), 0), (wide(0, 0), 0), (wide(0, 1), 0), (wide(128, 1), 0), (wide(1, 2), 0),
     # group 16: the mini FAT's chain
     (put(good, (64, 0)), 16), (put(good, (64, 2)), 16), (put(good, (64, 0xFFFFFFFF)), 16), (put(good, (60, END)), 16), (put(good, (60, 12)), 16),
     (put(good, (60, 14)), 16), (put(good, (cell(2), 12), (cell(12), END)), 16), (put(good, (cell(2), 2)), 16), (put(wide(0, 0), (60, FREE)), 16),
@@ -214,6 +230,21 @@ spaces = [
     # group 17: chains of small streams, and empty ones
     (busy(log=(0, 129)), 17), (busy(log=(0, 64)), 17), (busy(log=(2, 64)), 17), (busy(log=(8, 64)), 17), (busy(log=(END, 1)), 17), (busy(log=(0, 0)), 17),
     (put(good, (mini(5), 0)), 17), (put(good, (mini(5), FREE)), 17),
+    # rubbish in the upper half of a size (W-205): the root's, a small stream's, a large one's, all of them, that of a stream of 4,095 bytes,
+    # that of an empty mini stream
+    (busy(size=BIT + 512), 0), (busy(log=(0, ABOVE + 70)), 0), (busy(jets=(1, BIT + 64)), 0), (busy(big=(4, ABOVE + 4096)), 0),
+    (busy((0, BIT + 70), (1, BIT + 64), (4, BIT + 4096), size=BIT + 512), 0),
+    (busy((0, ABOVE + 70), (1, ABOVE + 64), (4, ABOVE + 4096), size=ABOVE + 512), 0),
+    (edged(BIT), 0), (wide(0, 0, BIT), 0), (wide(0, 1, ABOVE), 0), (wide(8, 1, ABOVE), 0),
+    (busy(log=(0, BIT + 128)), 0), (busy(size=ABOVE + 448), 0),
+    # the lower half alone is judged: the root's in group 16, those of streams in 17 and 18
+    (busy(size=BIT + 500), 16), (busy(size=ABOVE + 576), 16), (busy(size=BIT), 16), (busy(start=END, size=ABOVE + 512), 16),
+    (wide(8, 0, BIT), 16), (put(wide(0, 0, ABOVE), (1024 + 116, 1)), 16),
+    (busy(big=(4, BIT + 4608)), 17), (busy(big=(4, ABOVE + 4095)), 17), (busy(big=(4, BIT)), 17), (busy(big=(END, ABOVE + 4096)), 17),
+    (busy(log=(0, ABOVE + 129)), 17), (busy(log=(0, BIT + 64)), 17), (busy(log=(0, ABOVE)), 17), (busy(log=(END, BIT + 1)), 17),
+    (busy(jets=(0, BIT + 70)), 18), (busy(jets=(END, ABOVE)), 18), (busy(big=(END, BIT)), 18),
+    # a size that stands in the upper half alone
+    (busy(size=512 << 32), 16), (busy(log=(0, 70 << 32)), 17), (busy(big=(4, 4096 << 32)), 17),
     # group 18: two owners
     (busy(jets=(0, 70)), 18), (busy(jets=(5, 64)), 18), (busy(big=(END, 0), jets=(4, 4096), log=(4, 4096)), 18),
     (put(busy(start=4, size=4096), (cell(3), FREE)), 18), (doubled, 18),

@@ -55,6 +55,11 @@ impl Seen<'_> {
         cells.iter().zip(0..).filter(|(cell, _)| **cell == FREE).map(|(_, unit)| unit)
     }
 
+    /// All eight bytes of its size.
+    fn size_field(&self) -> &[u8] {
+        &self.volume.directory.entry(self.entry).0[120..]
+    }
+
     /// The places of its cells, its start and its size.
     fn fields(&self) -> impl Iterator<Item = Range<usize>> {
         let table = if self.size < CUTOFF { &self.volume.mini.fat } else { &self.volume.tables.fat };
@@ -71,6 +76,7 @@ fn length_changed(before: &[u8], after: &[u8], path: &[u16], length: u64) -> Res
     if old.size == new.size {
         return Ok(Vec::new());
     }
+    held(new.size_field() == length.to_le_bytes(), "the upper half of the size is not zero")?;
     let mut places: Vec<Range<usize>> = old.fields().chain(new.fields()).collect();
     if new.size < old.size {
         held(old.chain.starts_with(&new.chain), "a cut chain is not the front of the old one")?;

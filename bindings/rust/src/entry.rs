@@ -10,6 +10,7 @@ pub struct Entry {
     /// What it is.
     pub kind: Kind,
     /// Of a stream its length in bytes; of a storage 0; of the root the length of the stream that holds all small streams.
+    /// It is the lower half of the eight bytes that the file has for it: older programs left anything in the upper one.
     pub size: u64,
 }
 

@@ -88,7 +88,8 @@ pub fn overwrite(image: &mut [u8], work: &mut [u32], path: &[u16], offset: u64, 
 
 /// Gives a stream another length. A shorter one keeps its first bytes, a longer one has zero bytes behind the old ones.
 /// The image's own length stays: what a stream needs is taken from the free sectors in it, and what it no longer needs
-/// becomes free.
+/// becomes free. The upper half of the size in the file becomes zero. The same length again changes nothing, also not that
+/// half.
 ///
 /// Refusals: 20 to 23, 25 and 26.
 pub fn set_len(image: &mut [u8], work: &mut [u32], path: &[u16], new_len: u64) -> Result<(), Refusal> {

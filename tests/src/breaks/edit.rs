@@ -15,6 +15,7 @@ pub const RIGHT: usize = 72;
 pub const CHILD: usize = 76;
 pub const START: usize = 116;
 pub const SIZE: usize = 120;
+pub const UPPER: usize = 124;
 
 /// A break that is one number at one place.
 pub fn put(s: &mut Sample, at: usize, value: u32) -> Option<()> {

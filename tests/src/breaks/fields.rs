@@ -41,8 +41,8 @@ pub const BREAKS: &[Break] = &[
         set(s, e, START, END)
     }),
     rule(14, "storage: size", |s, r| field(s, r, a_storage, 120, 128)),
-    rule(14, "root: upper half of the size", |s, r| field(s, r, the_root, 124, 128)),
-    rule(14, "stream: upper half of the size", |s, r| field(s, r, a_stream, 124, 128)),
+    rule(14, "storage: upper half of the size", |s, r| field(s, r, a_storage, 124, 128)),
+    rule(14, "blank: upper half of the size", |s, r| field(s, r, a_blank, 124, 128)),
     rule(14, "name bytes odd", odd),
     rule(14, "name bytes 2 with an empty name", empty_name),
     rule(14, "name bytes outside 4 to 64", name_bytes),

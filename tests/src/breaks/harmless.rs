@@ -6,6 +6,7 @@ use crate::images::Sample;
 use crate::images::layout::Node;
 use crate::images::letters::{self, OUT_OF_PLAIN_ORDER, UNLIKE};
 use crate::images::names::{self, Alphabet, BESIDE, REFUSED};
+use crate::images::upper;
 use crate::images::write;
 use crate::number::*;
 use crate::random::Random;
@@ -40,6 +41,19 @@ pub const CHANGES: &[Break] = &[
     rule(0, "harmless: a storage's CLSID, state and times", |s, r| {
         let e = s.storage(r)?.entry;
         in_entry(s, r, e, 80, 116)
+    }),
+    rule(0, "harmless: upper half of the root's size", |s, r| upper_half(s, r, 0)),
+    rule(0, "harmless: upper half of a small stream's size", |s, r| {
+        let e = s.small(r)?.entry;
+        upper_half(s, r, e)
+    }),
+    rule(0, "harmless: upper half of a large stream's size", |s, r| {
+        let e = s.large(r)?.entry;
+        upper_half(s, r, e)
+    }),
+    rule(0, "harmless: upper half of an empty stream's size", |s, r| {
+        let e = s.node(r, |node| node.size == Some(0))?.entry;
+        upper_half(s, r, e)
     }),
     rule(0, "harmless: case of a name", other_case),
     rule(0, "harmless: two names in order by their capitals alone", capitals_in_order),
@@ -81,6 +95,15 @@ fn refused_in_root(s: &mut Sample, r: &mut Random) -> Option<()> {
 fn behind_name(s: &mut Sample, r: &mut Random) -> Option<()> {
     let node = s.node(r, |node| node.entry != 0 && node.name.len() < 31)?;
     in_entry(s, r, node.entry, 2 * (node.name.len() + 1), 64)
+}
+
+/// Another byte in it, or other rubbish in all of it.
+fn upper_half(s: &mut Sample, r: &mut Random, entry: u32) -> Option<()> {
+    if r.one_in(2) {
+        return in_entry(s, r, entry, UPPER, UPPER + 4);
+    }
+    s.set_field(entry, UPPER, upper::rubbish(r));
+    Some(())
 }
 
 fn other_case(s: &mut Sample, r: &mut Random) -> Option<()> {

@@ -24,6 +24,7 @@ pub const BREAKS: &[Break] = &[
         let v = r.pick(&[0xFFFF_FFC0, 0x8000_0000, 0x0080_0000]);
         root(s, SIZE, v)
     }),
+    rule(16, "root: size in the upper half", size_above),
     rule(16, "root: size 0, start not end of chain", start_without_mini_stream),
     rule(16, "root: start at no chain", |s, r| {
         s.layout.mini_stream.first()?;
@@ -123,6 +124,13 @@ fn size_off(s: &mut Sample, r: &mut Random) -> Option<()> {
     let size = s.layout.minis * 64;
     let sizes = [size + 512, size.checked_sub(512).unwrap_or(size + 512)];
     root(s, SIZE, r.pick(&sizes))
+}
+
+/// The lower half, which alone is read, is 0.
+fn size_above(s: &mut Sample, _: &mut Random) -> Option<()> {
+    s.layout.mini_stream.first()?;
+    s.set_field(0, UPPER, s.layout.minis * 64);
+    root(s, SIZE, 0)
 }
 
 fn wrong_cell(s: &mut Sample, r: &mut Random) -> Option<()> {

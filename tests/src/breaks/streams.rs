@@ -35,6 +35,8 @@ pub const BREAKS: &[Break] = &[
         let v = r.pick(&[FREE, 0x8000_0000, 0x0080_0000]);
         field(s, &node, SIZE, v)
     }),
+    rule(17, "large stream: size in the upper half", |s, r| size_above(s, r, Sample::large)),
+    rule(17, "small stream: size in the upper half", |s, r| size_above(s, r, Sample::small)),
     rule(17, "large stream: size below the cutoff, start no mini sector", large_as_small),
     rule(17, "small stream: size from the cutoff on, start no chain of it", small_as_large),
 ];
@@ -114,6 +116,13 @@ fn small_size(s: &mut Sample, r: &mut Random) -> Option<()> {
     let sizes = [room + 1, size + 64, room - 64];
     let off: Vec<u32> = sizes.into_iter().filter(|&size| 0 < size && size < CUTOFF as u32).collect();
     field(s, &node, SIZE, *r.some(&off)?)
+}
+
+/// The lower half, which alone is read, is 0.
+fn size_above(s: &mut Sample, r: &mut Random, choice: Choice) -> Option<()> {
+    let node = choice(s, r)?;
+    field(s, &node, UPPER, node.size?)?;
+    field(s, &node, SIZE, 0)
 }
 
 fn large_as_small(s: &mut Sample, r: &mut Random) -> Option<()> {

@@ -36,10 +36,10 @@ pub fn run(seed: u64, shown: bool, tally: &mut Tally) {
     tally.pass(&name, opened.close());
 }
 
-/// The tables and two other streams lie scattered among free sectors full of noise.
+/// The tables and two other streams lie scattered among free sectors full of noise. The upper half of each size is rubbish.
 fn sample(r: &mut Random) -> Sample {
     let free = Plan { sectors: Some(OF_64_MIB), fill: Fill::Noise, ..Plan::bare() };
-    let mut plan = Plan { order: Order::Scattered, spare_minis: 9, ..free };
+    let mut plan = Plan { order: Order::Scattered, spare_minis: 9, rubbish_once_in: 1, ..free };
     plan.add(0, names::of("log"), Some(0));
     plan.add(0, names::of("Jets"), Some(70));
     plan.add(0, names::of("timing"), Some(1_000_000));

@@ -1,7 +1,7 @@
-//! Cases on each side of the lines that the papers draw for lengths, the papers' own, and those of names.
+//! Cases on each side of the lines that the papers draw for lengths, the papers' own, and those of names and of sizes.
 
 use super::large::{OF_8_MIB, OF_64_MIB};
-use super::{Case, folding, names, papers};
+use super::{Case, folding, names, papers, sizes};
 use crate::images::Sample;
 use crate::images::plan::Plan;
 use crate::number::SECTOR;
@@ -24,7 +24,7 @@ pub fn run(then: &mut dyn FnMut(u64, Case)) {
     eight_mib(&mut next);
     greatest(&mut next);
     broken_with_short_work(smallest, &mut next);
-    papers::cases().into_iter().chain(names::cases()).chain(folding::cases()).for_each(next);
+    papers::cases().into_iter().chain(names::cases()).chain(folding::cases()).chain(sizes::cases()).for_each(next);
 }
 
 /// Nothing but a root, in so many sectors: the least FAT that covers them, the directory, and free sectors.

@@ -59,6 +59,7 @@ fn random_plan(r: &mut Random, number: u64) -> Plan {
     let shape = r.pick(&[Shape::Random, Shape::Balanced, Shape::RightOnly, Shape::LeftOnly, Shape::ZigZag]);
     let mut plan = if number < IMAGES { of_8_mib(r, number, shape) } else { longer(r, number, shape) };
     plan.red_once_in = r.below(3);
+    plan.rubbish_once_in = r.below(3);
     plan.scattered_entries = r.one_in(2);
     plan.mixed_parts = r.one_in(2);
     plan.order = r.pick(&[Order::Rising, Order::Falling, Order::Scattered]);

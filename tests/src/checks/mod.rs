@@ -4,6 +4,7 @@ mod calls;
 mod plain_owners;
 mod plain_tree;
 mod samples;
+mod sizes;
 
 use crate::images::letters::{self, IN_ORDER};
 use crate::images::{Sample, names, names::Alphabet, plan::*};

@@ -1,5 +1,6 @@
 //! Offsets and lengths.
 
+use crate::images::upper::RUBBISH;
 use crate::model::room::{Units, need};
 use crate::random::Random;
 
@@ -28,7 +29,9 @@ fn boundary(size: u64, r: &mut Random) -> u64 {
 
 /// Numbers that do not fit in 32 bits, or hardly.
 fn far(size: u64, r: &mut Random) -> u64 {
-    let lines = [1 << 31, 1 << 32, (1 << 32) + size, 1 << 33, 1 << 63, u64::MAX - size, u64::MAX - 511, u64::MAX];
+    // What a size with rubbish in its upper half would be in all its eight bytes.
+    let whole = ((r.pick(&RUBBISH) as u64) << 32) + size;
+    let lines = [1 << 31, 1 << 32, whole, whole, 1 << 33, 1 << 63, u64::MAX - size, u64::MAX - 511, u64::MAX];
     let line = r.pick(&lines);
     near(line, r)
 }

@@ -3,6 +3,7 @@
 use super::plan::Plan;
 use super::shape::{self, Links};
 use super::units::{self, Counts};
+use super::upper;
 use crate::random::Random;
 
 /// The root, a storage or a stream.
@@ -13,6 +14,8 @@ pub struct Node {
     pub name: Vec<u16>,
     /// None for a storage and the root.
     pub size: Option<u32>,
+    /// The upper half of its size, which is not looked at; 0 for a storage.
+    pub upper: u32,
     /// Its sectors or mini sectors, in order.
     pub units: Vec<u32>,
     pub links: Links,
@@ -49,7 +52,8 @@ impl Layout {
             let mut units = std::mem::take(&mut small[number]);
             units.append(&mut large[number]);
             let (name, links) = (object.name.clone(), links[number].clone());
-            Node { entry: entries[number], parent: object.parent, name, size: object.size, units, links }
+            let upper = if number == 0 || object.size.is_some() { upper::half(plan, random) } else { 0 };
+            Node { entry: entries[number], parent: object.parent, name, size: object.size, upper, units, links }
         };
         let nodes = (0..plan.objects.len()).map(node).collect();
         let [fat, difat, directory, mini_fat, mini_stream, free] = parts.try_into().expect("six parts");

@@ -8,6 +8,7 @@ pub mod plan;
 pub mod random_plan;
 pub mod shape;
 pub mod units;
+pub mod upper;
 pub mod write;
 
 use crate::random::Random;

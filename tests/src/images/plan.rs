@@ -42,6 +42,8 @@ pub struct Plan {
     pub shape: Shape,
     /// An entry that may be red is red once in so many; 0 for never.
     pub red_once_in: u32,
+    /// The upper half of the root's size and of a stream's is rubbish once in so many; 0 for never.
+    pub rubbish_once_in: u32,
     /// Entries in random places instead of one after the other.
     pub scattered_entries: bool,
     /// The parts' order in the file: tables first, or by chance.
@@ -66,6 +68,7 @@ impl Plan {
             objects: vec![Object { parent: 0, name: Vec::new(), size: None }],
             shape: Shape::Balanced,
             red_once_in: 0,
+            rubbish_once_in: 0,
             scattered_entries: false,
             mixed_parts: false,
             order: Order::Rising,

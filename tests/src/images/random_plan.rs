@@ -56,6 +56,7 @@ fn free_choices(random: &mut Random) -> Plan {
             Shape::ZigZag,
         ]),
         red_once_in: random.pick(&[0, 1, 2, 2, 5]),
+        rubbish_once_in: random.pick(&[0, 1, 2, 4]),
         scattered_entries: random.one_in(2),
         mixed_parts: random.one_in(2),
         order: random.pick(&[Order::Rising, Order::Falling, Order::Scattered, Order::Scattered]),

@@ -107,7 +107,7 @@ fn root_entry(image: &mut [u8], layout: &Layout) {
     image[at + 100..at + 108].fill(0);
     put_u32(image, at + 116, first(&layout.mini_stream));
     put_u32(image, at + 120, layout.minis * MINI_SECTOR as u32);
-    put_u32(image, at + 124, 0);
+    put_u32(image, at + 124, root.upper);
 }
 
 /// What is behind the name's end, a stream's state, and a storage's CLSID, state and times stay filling.
@@ -126,7 +126,7 @@ fn object_entry(image: &mut [u8], at: usize, node: &Node) {
             image[at + 100..at + 116].fill(0);
             put_u32(image, at + 116, first(&node.units));
             put_u32(image, at + 120, size);
-            put_u32(image, at + 124, 0);
+            put_u32(image, at + 124, node.upper);
         }
     }
 }

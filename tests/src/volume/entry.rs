@@ -42,8 +42,9 @@ impl Entry<'_> {
         u32_at(self.0, 116)
     }
 
+    /// The size as read: in version 3 the lower half of the field, whatever older programs left in the upper one (W-205).
     pub fn size(&self) -> u64 {
-        u64_at(self.0, 120)
+        u32_at(self.0, 120) as u64
     }
 
     fn created(&self) -> u64 {
@@ -69,13 +70,13 @@ impl Entry<'_> {
         by_count.then_with(|| self.name().map(fold).cmp(other.name().map(fold)))
     }
 
-    /// All of group 14 for the entry of this number.
+    /// All of group 14 for the entry of this number. A storage has no start, and all eight bytes of its size are zero.
     pub fn holds(&self, number: usize) -> bool {
         match self.kind() {
             ROOT => number == 0 && self.root_holds(),
             _ if number == 0 => false,
             BLANK => self.blank_holds(),
-            STORAGE => self.object_holds() && self.start() == 0 && self.size() == 0,
+            STORAGE => self.object_holds() && zero(&self.0[116..]),
             STREAM => self.object_holds() && self.stream_holds(),
             _ => false,
         }
@@ -86,16 +87,16 @@ impl Entry<'_> {
         unlinked && zero(&self.0[..68]) && zero(&self.0[80..])
     }
 
-    fn common_holds(&self) -> bool {
-        self.0[67] <= 1 && u32_at(self.0, 124) == 0
+    fn colour_holds(&self) -> bool {
+        self.0[67] <= 1
     }
 
     fn root_holds(&self) -> bool {
-        self.common_holds() && self.left() == NOSTREAM && self.right() == NOSTREAM && self.created() == 0
+        self.colour_holds() && self.left() == NOSTREAM && self.right() == NOSTREAM && self.created() == 0
     }
 
     fn object_holds(&self) -> bool {
-        self.common_holds() && self.name_holds()
+        self.colour_holds() && self.name_holds()
     }
 
     fn stream_holds(&self) -> bool {

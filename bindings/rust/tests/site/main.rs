@@ -8,6 +8,7 @@ mod opened;
 mod queries;
 mod readme;
 mod refusals;
+mod sizes;
 mod streams;
 
 use gyomrelas::{path, read, work_need};

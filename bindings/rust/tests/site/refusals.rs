@@ -6,7 +6,7 @@ use gyomrelas::{find, list, overwrite, path, read, set_len, validate, work_need,
 /// Where things stand in the sample: the sectors of the tables are a sector number more, times 512.
 const FAT: usize = 512;
 const MINI_FAT: usize = 11 * 512;
-const ROOT: usize = 4 * 512;
+pub const ROOT: usize = 4 * 512;
 pub const SITE: usize = ROOT + 128;
 pub const LOG: usize = ROOT + 2 * 128;
 pub const JETS: usize = ROOT + 3 * 128;
