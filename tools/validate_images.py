@@ -134,9 +134,11 @@ directories = [
     (one(patched(stream("log"), 67, [2])), 14),
     # group 14: each byte of the upper half of a size (W-205), which the root and streams may have, and all bytes of it
     *[(with_entries([patched(root(), at, [1])]), 0) for at in range(124, 128)], *[(one(patched(stream("log"), at, [1])), 0) for at in range(124, 128)],
-    (with_entries([root(size=ABOVE)]), 0), (one(stream("log", size=ABOVE)), 0), (with_entries([root(1, size=ABOVE), storage("Site", child=2), stream("log", size=ABOVE)]), 0),
+    (with_entries([root(size=ABOVE)]), 0), (one(stream("log", size=ABOVE)), 0),
+    (with_entries([root(1, size=ABOVE), storage("Site", child=2), stream("log", size=ABOVE)]), 0),
     # group 14: each byte of the size of a storage and of a blank entry, whatever the root and streams have
-    *[(one(patched(storage("Site"), at, [1])), 14) for at in range(121, 128)], *[(with_entries([root(), patched(entry(), at, [1])]), 14) for at in range(120, 127)],
+    *[(one(patched(storage("Site"), at, [1])), 14) for at in range(121, 128)],
+    *[(with_entries([root(), patched(entry(), at, [1])]), 14) for at in range(120, 127)],
     (one(patched(storage("Site"), 124, [255] * 4)), 14), (with_entries([root(), patched(entry(), 124, [255] * 4)]), 14),
     (with_entries([root(1, size=ABOVE), patched(storage("Site", child=2), 124, [1]), stream("log", size=ABOVE)]), 14),
     (with_entries([root(1, size=ABOVE), stream("log", size=ABOVE), patched(entry(), 124, [1])]), 14), (with_entries([root(), stream("log", size=ABOVE)]), 15),
@@ -228,12 +230,16 @@ spaces = [
     # group 17: chains of small streams, and empty ones
     (busy(log=(0, 129)), 17), (busy(log=(0, 64)), 17), (busy(log=(2, 64)), 17), (busy(log=(8, 64)), 17), (busy(log=(END, 1)), 17), (busy(log=(0, 0)), 17),
     (put(good, (mini(5), 0)), 17), (put(good, (mini(5), FREE)), 17),
-    # rubbish in the upper half of a size (W-205): the root's, a small stream's, a large one's, all of them, that of a stream of 4,095 bytes, that of an empty mini stream
-    (busy(size=BIT + 512), 0), (busy(log=(0, ABOVE + 70)), 0), (busy(jets=(1, BIT + 64)), 0), (busy(big=(4, ABOVE + 4096)), 0), (busy((0, BIT + 70), (1, BIT + 64), (4, BIT + 4096), size=BIT + 512), 0),
-    (busy((0, ABOVE + 70), (1, ABOVE + 64), (4, ABOVE + 4096), size=ABOVE + 512), 0), (edged(BIT), 0), (wide(0, 0, BIT), 0), (wide(0, 1, ABOVE), 0), (wide(8, 1, ABOVE), 0),
+    # rubbish in the upper half of a size (W-205): the root's, a small stream's, a large one's, all of them, that of a stream of 4,095 bytes,
+    # that of an empty mini stream
+    (busy(size=BIT + 512), 0), (busy(log=(0, ABOVE + 70)), 0), (busy(jets=(1, BIT + 64)), 0), (busy(big=(4, ABOVE + 4096)), 0),
+    (busy((0, BIT + 70), (1, BIT + 64), (4, BIT + 4096), size=BIT + 512), 0),
+    (busy((0, ABOVE + 70), (1, ABOVE + 64), (4, ABOVE + 4096), size=ABOVE + 512), 0),
+    (edged(BIT), 0), (wide(0, 0, BIT), 0), (wide(0, 1, ABOVE), 0), (wide(8, 1, ABOVE), 0),
     (busy(log=(0, BIT + 128)), 0), (busy(size=ABOVE + 448), 0),
     # the lower half alone is judged: the root's in group 16, those of streams in 17 and 18
-    (busy(size=BIT + 500), 16), (busy(size=ABOVE + 576), 16), (busy(size=BIT), 16), (busy(start=END, size=ABOVE + 512), 16), (wide(8, 0, BIT), 16), (put(wide(0, 0, ABOVE), (1024 + 116, 1)), 16),
+    (busy(size=BIT + 500), 16), (busy(size=ABOVE + 576), 16), (busy(size=BIT), 16), (busy(start=END, size=ABOVE + 512), 16),
+    (wide(8, 0, BIT), 16), (put(wide(0, 0, ABOVE), (1024 + 116, 1)), 16),
     (busy(big=(4, BIT + 4608)), 17), (busy(big=(4, ABOVE + 4095)), 17), (busy(big=(4, BIT)), 17), (busy(big=(END, ABOVE + 4096)), 17),
     (busy(log=(0, ABOVE + 129)), 17), (busy(log=(0, BIT + 64)), 17), (busy(log=(0, ABOVE)), 17), (busy(log=(END, BIT + 1)), 17),
     (busy(jets=(0, BIT + 70)), 18), (busy(jets=(END, ABOVE)), 18), (busy(big=(END, BIT)), 18),

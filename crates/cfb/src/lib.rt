@@ -1,6 +1,5 @@
 // The public calls. Nobody has to check first: no call requires anything, and every call ends and answers.
 ghost use mathlib.Core.Path.{_≡_};
-ghost use Rattle.format.specs.Layout.Geometry.{version3};
 ghost use Rattle.format.specs.Calls.Call.{validate as validateCall, find as findCall, read as readCall, overwrite as overwriteCall, setLength as lengthCall, list as listCall};
 ghost use Rattle.format.specs.Calls.Reply.{plain, reply};
 ghost use Rattle.format.specs.Calls.Buffers.{imageAfter, outAfter, workAfter};
@@ -21,8 +20,8 @@ use volume::Opened;
 
 // Whether an image keeps all rules; where not, the first group that it breaks.
 pub fn validate(image: &[u8], work: &mut [u32]) -> Answer
-    ensures { λ r. ⌜ plain (numberOf r) ≡ reply version3 (now (image .entry)) (validateCall (now (work .entry))) ⌝ }
-    ensures { λ _. ⌜ now (work .exit) ≡ workAfter version3 (now (image .entry)) (validateCall (now (work .entry))) ⌝ }
+    ensures { λ r. ⌜ plain (numberOf r) ≡ reply (now (image .entry)) (validateCall (now (work .entry))) ⌝ }
+    ensures { λ _. ⌜ now (work .exit) ≡ workAfter (now (image .entry)) (validateCall (now (work .entry))) ⌝ }
 {
     match open_image(image, work) {
         Opened::Refused(a) => return Answer::Refused(a),
@@ -33,8 +32,8 @@ pub fn validate(image: &[u8], work: &mut [u32]) -> Answer
 
 // The entry that a path leads to: its number, its type and its size.
 pub fn find(image: &[u8], work: &mut [u32], path: &[u16]) -> Find
-    ensures { λ r. ⌜ findReply r ≡ reply version3 (now (image .entry)) (findCall (now (path .entry)) (now (work .entry))) ⌝ }
-    ensures { λ _. ⌜ now (work .exit) ≡ workAfter version3 (now (image .entry)) (findCall (now (path .entry)) (now (work .entry))) ⌝ }
+    ensures { λ r. ⌜ findReply r ≡ reply (now (image .entry)) (findCall (now (path .entry)) (now (work .entry))) ⌝ }
+    ensures { λ _. ⌜ now (work .exit) ≡ workAfter (now (image .entry)) (findCall (now (path .entry)) (now (work .entry))) ⌝ }
 {
     match open_image(image, work) {
         Opened::Refused(a) => Find::Refused(a),
@@ -48,9 +47,9 @@ pub fn find(image: &[u8], work: &mut [u32], path: &[u16]) -> Find
 
 // Bytes of the stream that a path leads to, from an offset on: as many as are left of it and as the out buffer holds.
 pub fn read(image: &[u8], work: &mut [u32], path: &[u16], offset: u64, out: &mut [u8]) -> Read
-    ensures { λ r. ⌜ readReply r ≡ reply version3 (now (image .entry)) (readCall (now (path .entry)) offset (now (out .entry)) (now (work .entry))) ⌝ }
-    ensures { λ _. ⌜ now (out .exit) ≡ outAfter version3 (now (image .entry)) (readCall (now (path .entry)) offset (now (out .entry)) (now (work .entry))) ⌝ }
-    ensures { λ _. ⌜ now (work .exit) ≡ workAfter version3 (now (image .entry)) (readCall (now (path .entry)) offset (now (out .entry)) (now (work .entry))) ⌝ }
+    ensures { λ r. ⌜ readReply r ≡ reply (now (image .entry)) (readCall (now (path .entry)) offset (now (out .entry)) (now (work .entry))) ⌝ }
+    ensures { λ _. ⌜ now (out .exit) ≡ outAfter (now (image .entry)) (readCall (now (path .entry)) offset (now (out .entry)) (now (work .entry))) ⌝ }
+    ensures { λ _. ⌜ now (work .exit) ≡ workAfter (now (image .entry)) (readCall (now (path .entry)) offset (now (out .entry)) (now (work .entry))) ⌝ }
 {
     match open_image(image, work) {
         Opened::Refused(a) => Read::Refused(a),
@@ -71,11 +70,11 @@ pub fn overwrite(
     bytes: &[u8],
 ) -> Answer
     ensures { λ r. ⌜ plain (numberOf r)
-        ≡ reply version3 (now (image .entry)) (overwriteCall (now (path .entry)) offset (now (bytes .entry)) (now (work .entry))) ⌝ }
+        ≡ reply (now (image .entry)) (overwriteCall (now (path .entry)) offset (now (bytes .entry)) (now (work .entry))) ⌝ }
     ensures { λ _. ⌜ now (image .exit)
-        ≡ imageAfter version3 (now (image .entry)) (overwriteCall (now (path .entry)) offset (now (bytes .entry)) (now (work .entry))) ⌝ }
+        ≡ imageAfter (now (image .entry)) (overwriteCall (now (path .entry)) offset (now (bytes .entry)) (now (work .entry))) ⌝ }
     ensures { λ _. ⌜ now (work .exit)
-        ≡ workAfter version3 (now (image .entry)) (overwriteCall (now (path .entry)) offset (now (bytes .entry)) (now (work .entry))) ⌝ }
+        ≡ workAfter (now (image .entry)) (overwriteCall (now (path .entry)) offset (now (bytes .entry)) (now (work .entry))) ⌝ }
 {
     match open_image(image, work) {
         Opened::Refused(a) => Answer::Refused(a),
@@ -89,9 +88,9 @@ pub fn overwrite(
 
 // Gives the stream that a path leads to another length: cut there, or with zero bytes up to there.
 pub fn set_length(image: &mut [u8], work: &mut [u32], path: &[u16], new_len: u64) -> Answer
-    ensures { λ r. ⌜ plain (numberOf r) ≡ reply version3 (now (image .entry)) (lengthCall (now (path .entry)) «new_len» (now (work .entry))) ⌝ }
-    ensures { λ _. ⌜ now (image .exit) ≡ imageAfter version3 (now (image .entry)) (lengthCall (now (path .entry)) «new_len» (now (work .entry))) ⌝ }
-    ensures { λ _. ⌜ now (work .exit) ≡ workAfter version3 (now (image .entry)) (lengthCall (now (path .entry)) «new_len» (now (work .entry))) ⌝ }
+    ensures { λ r. ⌜ plain (numberOf r) ≡ reply (now (image .entry)) (lengthCall (now (path .entry)) «new_len» (now (work .entry))) ⌝ }
+    ensures { λ _. ⌜ now (image .exit) ≡ imageAfter (now (image .entry)) (lengthCall (now (path .entry)) «new_len» (now (work .entry))) ⌝ }
+    ensures { λ _. ⌜ now (work .exit) ≡ workAfter (now (image .entry)) (lengthCall (now (path .entry)) «new_len» (now (work .entry))) ⌝ }
 {
     match open_image(image, work) {
         Opened::Refused(a) => Answer::Refused(a),
@@ -105,9 +104,9 @@ pub fn set_length(image: &mut [u8], work: &mut [u32], path: &[u16], new_len: u64
 
 // A line for each object, in an out buffer that has room for all of them.
 pub fn list(image: &[u8], work: &mut [u32], out: &mut [u8]) -> List
-    ensures { λ r. ⌜ listReply r ≡ reply version3 (now (image .entry)) (listCall (now (out .entry)) (now (work .entry))) ⌝ }
-    ensures { λ _. ⌜ now (out .exit) ≡ outAfter version3 (now (image .entry)) (listCall (now (out .entry)) (now (work .entry))) ⌝ }
-    ensures { λ _. ⌜ now (work .exit) ≡ workAfter version3 (now (image .entry)) (listCall (now (out .entry)) (now (work .entry))) ⌝ }
+    ensures { λ r. ⌜ listReply r ≡ reply (now (image .entry)) (listCall (now (out .entry)) (now (work .entry))) ⌝ }
+    ensures { λ _. ⌜ now (out .exit) ≡ outAfter (now (image .entry)) (listCall (now (out .entry)) (now (work .entry))) ⌝ }
+    ensures { λ _. ⌜ now (work .exit) ≡ workAfter (now (image .entry)) (listCall (now (out .entry)) (now (work .entry))) ⌝ }
 {
     match open_image(image, work) {
         Opened::Refused(a) => List::Refused(a),

@@ -5,7 +5,7 @@ use mathlib.Core.Logic.{_≢_}
 use mathlib.Core.List.{List}
 use lib.ListN.{length}
 use Rattle.format.specs.Basics.Bytes.{Bytes}
-use Rattle.format.specs.Layout.Geometry.{version3}
+use Rattle.format.specs.Rules.Version.{versionOf}
 use Rattle.format.specs.Rules.Length.{workNeed}
 use Rattle.format.specs.Calls.Call.{validate}
 use Rattle.format.specs.Calls.Reply.{plain, reply}
@@ -25,17 +25,17 @@ use Rattle.cfb_c.proofs.Packing.{numbers-open}
 -- a volume's numbers p before, and q after
 abbrev OpeningSays : Bytes → List ℕ → List ℕ → List ℕ → List ℕ → ℕ → Type 0
 OpeningSays img w w₁ p q r =
-    (plain r ≡ reply version3 img (validate w))
-    × ((r ≡ 0 → OpenVolume version3 (unpacked q) img w₁)
-    × ((r ≡ 0 → Wrote w w₁ 0 (workNeed (length img))) × ((r ≢ 0 → w₁ ≡ workAfter version3 img (validate w)) × (r ≢ 0 → q ≡ p))))
+    (plain r ≡ reply img (validate w))
+    × ((r ≡ 0 → OpenVolume (unpacked q) img w₁)
+    × ((r ≡ 0 → Wrote w w₁ 0 (workNeed (length img))) × ((r ≢ 0 → w₁ ≡ workAfter img (validate w)) × (r ≢ 0 → q ≡ p))))
 
 module _ (img : Bytes) (w w₁ p : List ℕ) where
-  pub refused-opening : (r : ℕ) (a : Refusal) → OpeningRight version3 img w w₁ (Refused a) → r ≡ refusalNumber a → OpeningSays img w w₁ p p r
+  pub refused-opening : (r : ℕ) (a : Refusal) → OpeningRight img w w₁ (Refused a) → r ≡ refusalNumber a → OpeningSays img w w₁ p p r
   refused-opening r a o e =
-      let x = validate-refused version3 img w w₁ (Refused a) o refl in
+      let x = validate-refused (versionOf img) img w w₁ (Refused a) o refl in
       let no : r ≢ 0 = λ z. refusal-some a (sym e ∙ z) in
       (ap plain e ∙ x .0, ((λ z. absurd (no z)), ((λ z. absurd (no z)), ((λ _. x .1), (λ _. refl)))))
 
-  pub ready-opening : (q : List ℕ) (v : Volume) → OpeningRight version3 img w w₁ (Ready v) → unpacked q ≡ v → OpeningSays img w w₁ p q 0
+  pub ready-opening : (q : List ℕ) (v : Volume) → OpeningRight img w w₁ (Ready v) → unpacked q ≡ v → OpeningSays img w w₁ p q 0
   ready-opening q v o e =
-      (sym (reply-is version3 img w ∙ ap plain (o .0)), ((λ _. numbers-open e (o .1 .0)), ((λ _. o .1 .1), ((λ n. absurd (n refl)), (λ n. absurd (n refl))))))
+      (sym (reply-is (versionOf img) img w ∙ ap plain (o .0)), ((λ _. numbers-open e (o .1 .0)), ((λ _. o .1 .1), ((λ n. absurd (n refl)), (λ n. absurd (n refl))))))

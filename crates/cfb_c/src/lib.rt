@@ -1,6 +1,5 @@
 // The public calls for C. A slice passes as a pointer and a length; an answer is 01's number, and values go out through pointers.
 ghost use mathlib.Core.Path.{_≡_};
-ghost use Rattle.format.specs.Layout.Geometry.{version3};
 ghost use Rattle.format.specs.Calls.Call.{validate as validateCall, find as findCall, read as readCall, overwrite as overwriteCall, setLength as lengthCall, list as listCall};
 ghost use Rattle.format.specs.Calls.Reply.{plain, reply};
 ghost use Rattle.format.specs.Calls.Buffers.{imageAfter, outAfter, workAfter};
@@ -22,8 +21,8 @@ pub mod opened_calls;
 
 #[no_mangle]
 pub extern "C" fn cfb_validate(image: &[u8], work: &mut [u32]) -> u32
-    ensures { λ r. ⌜ plain r ≡ reply version3 (now (image .entry)) (validateCall (now (work .entry))) ⌝ }
-    ensures { λ _. ⌜ now (work .exit) ≡ workAfter version3 (now (image .entry)) (validateCall (now (work .entry))) ⌝ }
+    ensures { λ r. ⌜ plain r ≡ reply (now (image .entry)) (validateCall (now (work .entry))) ⌝ }
+    ensures { λ _. ⌜ now (work .exit) ≡ workAfter (now (image .entry)) (validateCall (now (work .entry))) ⌝ }
 {
     number(validate(image, work))
 }
@@ -38,8 +37,8 @@ pub extern "C" fn cfb_find(
     size: &mut u64,
 ) -> u32
     ensures { λ r. ⌜ record { number = r; entry = now (entry .exit); type = now (kind .exit); size = now (size .exit); count = 0 }
-        ≡ reply version3 (now (image .entry)) (findCall (now (path .entry)) (now (work .entry))) ⌝ }
-    ensures { λ _. ⌜ now (work .exit) ≡ workAfter version3 (now (image .entry)) (findCall (now (path .entry)) (now (work .entry))) ⌝ }
+        ≡ reply (now (image .entry)) (findCall (now (path .entry)) (now (work .entry))) ⌝ }
+    ensures { λ _. ⌜ now (work .exit) ≡ workAfter (now (image .entry)) (findCall (now (path .entry)) (now (work .entry))) ⌝ }
 {
     match find(image, work, path) {
         Find::Entry(e) => {
@@ -77,9 +76,9 @@ pub extern "C" fn cfb_read(
     count: &mut u64,
 ) -> u32
     ensures { λ r. ⌜ record { number = r; entry = 0; type = 0; size = 0; count = now (count .exit) }
-        ≡ reply version3 (now (image .entry)) (readCall (now (path .entry)) offset (now (out .entry)) (now (work .entry))) ⌝ }
-    ensures { λ _. ⌜ now (out .exit) ≡ outAfter version3 (now (image .entry)) (readCall (now (path .entry)) offset (now (out .entry)) (now (work .entry))) ⌝ }
-    ensures { λ _. ⌜ now (work .exit) ≡ workAfter version3 (now (image .entry)) (readCall (now (path .entry)) offset (now (out .entry)) (now (work .entry))) ⌝ }
+        ≡ reply (now (image .entry)) (readCall (now (path .entry)) offset (now (out .entry)) (now (work .entry))) ⌝ }
+    ensures { λ _. ⌜ now (out .exit) ≡ outAfter (now (image .entry)) (readCall (now (path .entry)) offset (now (out .entry)) (now (work .entry))) ⌝ }
+    ensures { λ _. ⌜ now (work .exit) ≡ workAfter (now (image .entry)) (readCall (now (path .entry)) offset (now (out .entry)) (now (work .entry))) ⌝ }
 {
     match read(image, work, path, offset, out) {
         Read::Done(n) => {
@@ -98,20 +97,20 @@ pub extern "C" fn cfb_overwrite(
     offset: u64,
     bytes: &[u8],
 ) -> u32
-    ensures { λ r. ⌜ plain r ≡ reply version3 (now (image .entry)) (overwriteCall (now (path .entry)) offset (now (bytes .entry)) (now (work .entry))) ⌝ }
+    ensures { λ r. ⌜ plain r ≡ reply (now (image .entry)) (overwriteCall (now (path .entry)) offset (now (bytes .entry)) (now (work .entry))) ⌝ }
     ensures { λ _. ⌜ now (image .exit)
-        ≡ imageAfter version3 (now (image .entry)) (overwriteCall (now (path .entry)) offset (now (bytes .entry)) (now (work .entry))) ⌝ }
+        ≡ imageAfter (now (image .entry)) (overwriteCall (now (path .entry)) offset (now (bytes .entry)) (now (work .entry))) ⌝ }
     ensures { λ _. ⌜ now (work .exit)
-        ≡ workAfter version3 (now (image .entry)) (overwriteCall (now (path .entry)) offset (now (bytes .entry)) (now (work .entry))) ⌝ }
+        ≡ workAfter (now (image .entry)) (overwriteCall (now (path .entry)) offset (now (bytes .entry)) (now (work .entry))) ⌝ }
 {
     number(overwrite(image, work, path, offset, bytes))
 }
 
 #[no_mangle]
 pub extern "C" fn cfb_set_len(image: &mut [u8], work: &mut [u32], path: &[u16], new_len: u64) -> u32
-    ensures { λ r. ⌜ plain r ≡ reply version3 (now (image .entry)) (lengthCall (now (path .entry)) «new_len» (now (work .entry))) ⌝ }
-    ensures { λ _. ⌜ now (image .exit) ≡ imageAfter version3 (now (image .entry)) (lengthCall (now (path .entry)) «new_len» (now (work .entry))) ⌝ }
-    ensures { λ _. ⌜ now (work .exit) ≡ workAfter version3 (now (image .entry)) (lengthCall (now (path .entry)) «new_len» (now (work .entry))) ⌝ }
+    ensures { λ r. ⌜ plain r ≡ reply (now (image .entry)) (lengthCall (now (path .entry)) «new_len» (now (work .entry))) ⌝ }
+    ensures { λ _. ⌜ now (image .exit) ≡ imageAfter (now (image .entry)) (lengthCall (now (path .entry)) «new_len» (now (work .entry))) ⌝ }
+    ensures { λ _. ⌜ now (work .exit) ≡ workAfter (now (image .entry)) (lengthCall (now (path .entry)) «new_len» (now (work .entry))) ⌝ }
 {
     number(set_length(image, work, path, new_len))
 }
@@ -119,9 +118,9 @@ pub extern "C" fn cfb_set_len(image: &mut [u8], work: &mut [u32], path: &[u16], 
 #[no_mangle]
 pub extern "C" fn cfb_list(image: &[u8], work: &mut [u32], out: &mut [u8], count: &mut u64) -> u32
     ensures { λ r. ⌜ record { number = r; entry = 0; type = 0; size = 0; count = now (count .exit) }
-        ≡ reply version3 (now (image .entry)) (listCall (now (out .entry)) (now (work .entry))) ⌝ }
-    ensures { λ _. ⌜ now (out .exit) ≡ outAfter version3 (now (image .entry)) (listCall (now (out .entry)) (now (work .entry))) ⌝ }
-    ensures { λ _. ⌜ now (work .exit) ≡ workAfter version3 (now (image .entry)) (listCall (now (out .entry)) (now (work .entry))) ⌝ }
+        ≡ reply (now (image .entry)) (listCall (now (out .entry)) (now (work .entry))) ⌝ }
+    ensures { λ _. ⌜ now (out .exit) ≡ outAfter (now (image .entry)) (listCall (now (out .entry)) (now (work .entry))) ⌝ }
+    ensures { λ _. ⌜ now (work .exit) ≡ workAfter (now (image .entry)) (listCall (now (out .entry)) (now (work .entry))) ⌝ }
 {
     match list(image, work, out) {
         List::Done(n) => {

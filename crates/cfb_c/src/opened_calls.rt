@@ -3,14 +3,13 @@
 ghost use mathlib.Core.Path.{_≡_};
 ghost use mathlib.Core.Logic.{_≢_};
 ghost use lib.ListN.{length};
-ghost use Rattle.format.specs.Layout.Geometry.{version3};
 ghost use Rattle.format.specs.Rules.Length.{workNeed};
 ghost use Rattle.format.specs.Calls.Call.{validate as validateCall, find as findCall, read as readCall, overwrite as overwriteCall, setLength as lengthCall, list as listCall};
 ghost use Rattle.format.specs.Calls.Reply.{plain, reply};
 ghost use Rattle.format.specs.Calls.Buffers.{workCleared, imageAfter, outAfter, workAfter};
 ghost use Rattle.tables.specs.Work.{Wrote};
 ghost use Rattle.opened.specs.OpenVolume.{OpenVolume};
-ghost use Rattle.cfb_c.specs.Packed.{sizes3, unpacked};
+ghost use Rattle.cfb_c.specs.Packed.{sizesFor, Known, unpacked};
 use super::refused;
 use directory::Directory;
 use kinds::Geometry;
@@ -33,15 +32,13 @@ use volume::Volume;
 
 // ---- a volume as numbers
 
-// The first is the version: there is one today, and the others do not depend on it.
+// The first is the version, which says the sizes.
 fn pack(v: Volume, volume: &mut [u64; 9])
-    requires { ⌜ v .tables .geometry ≡ sizes3 ⌝ }
-    requires { ⌜ v .directory .geometry ≡ sizes3 ⌝ }
-    requires { ⌜ v .minis .geometry ≡ sizes3 ⌝ }
+    requires { ⌜ Known v ⌝ }
     ensures { λ _. ⌜ unpacked (now (volume .exit)) ≡ v ⌝ }
 {
     *volume = [
-        3,
+        v.tables.geometry.major as u64,
         v.tables.sectors as u64,
         v.tables.list as u64,
         v.directory.sectors as u64,
@@ -53,10 +50,19 @@ fn pack(v: Volume, volume: &mut [u64; 9])
     ];
 }
 
+fn sizes_for(major: u64) -> Geometry
+    ensures { λ r. ⌜ r ≡ sizesFor major ⌝ }
+{
+    if major == 4 {
+        return Geometry::V4;
+    }
+    Geometry::V3
+}
+
 fn unpack(volume: &[u64; 9]) -> Volume
     ensures { λ r. ⌜ r ≡ unpacked (now (volume .entry)) ⌝ }
 {
-    let g = Geometry::V3;
+    let g = sizes_for(volume[0]);
     Volume {
         tables: Tables {
             geometry: g,
@@ -82,10 +88,10 @@ fn unpack(volume: &[u64; 9]) -> Volume
 
 #[no_mangle]
 pub extern "C" fn cfb_open(image: &[u8], work: &mut [u32], volume: &mut [u64; 9]) -> u32
-    ensures { λ r. ⌜ plain r ≡ reply version3 (now (image .entry)) (validateCall (now (work .entry))) ⌝ }
-    ensures { λ r. ⌜ (r ≡ 0 → OpenVolume version3 (unpacked (now (volume .exit))) (now (image .entry)) (now (work .exit))) ⌝ }
+    ensures { λ r. ⌜ plain r ≡ reply (now (image .entry)) (validateCall (now (work .entry))) ⌝ }
+    ensures { λ r. ⌜ (r ≡ 0 → OpenVolume (unpacked (now (volume .exit))) (now (image .entry)) (now (work .exit))) ⌝ }
     ensures { λ r. ⌜ (r ≡ 0 → Wrote (now (work .entry)) (now (work .exit)) 0 (workNeed (length (now (image .entry))))) ⌝ }
-    ensures { λ r. ⌜ (r ≢ 0 → now (work .exit) ≡ workAfter version3 (now (image .entry)) (validateCall (now (work .entry)))) ⌝ }
+    ensures { λ r. ⌜ (r ≢ 0 → now (work .exit) ≡ workAfter (now (image .entry)) (validateCall (now (work .entry)))) ⌝ }
     ensures { λ r. ⌜ (r ≢ 0 → now (volume .exit) ≡ now (volume .entry)) ⌝ }
 {
     match open_image(image, work) {
@@ -99,7 +105,7 @@ pub extern "C" fn cfb_open(image: &[u8], work: &mut [u32], volume: &mut [u64; 9]
 
 #[no_mangle]
 pub extern "C" fn cfb_close(image: &[u8], work: &mut [u32], volume: &[u64; 9])
-    requires { ⌜ OpenVolume version3 (unpacked (now volume)) (now image) (now work) ⌝ }
+    requires { ⌜ OpenVolume (unpacked (now volume)) (now image) (now work) ⌝ }
     ensures { λ _. ⌜ now (work .exit) ≡ workCleared (workNeed (length (now (image .entry)))) (now (work .entry)) ⌝ }
 {
     close(image, work, unpack(volume));
@@ -117,9 +123,9 @@ pub extern "C" fn cfb_opened_find(
     kind: &mut u32,
     size: &mut u64,
 ) -> u32
-    requires { ⌜ OpenVolume version3 (unpacked (now volume)) (now image) (now work) ⌝ }
+    requires { ⌜ OpenVolume (unpacked (now volume)) (now image) (now work) ⌝ }
     ensures { λ r. ⌜ record { number = r; entry = now (entry .exit); type = now (kind .exit); size = now (size .exit); count = 0 }
-        ≡ reply version3 (now (image .entry)) (findCall (now (path .entry)) (now (work .entry))) ⌝ }
+        ≡ reply (now (image .entry)) (findCall (now (path .entry)) (now (work .entry))) ⌝ }
 {
     match find_opened(image, work, unpack(volume), path) {
         Find::Entry(e) => {
@@ -148,11 +154,11 @@ pub extern "C" fn cfb_opened_read(
     out: &mut [u8],
     count: &mut u64,
 ) -> u32
-    requires { ⌜ OpenVolume version3 (unpacked (now volume)) (now image) (now work) ⌝ }
+    requires { ⌜ OpenVolume (unpacked (now volume)) (now image) (now work) ⌝ }
     ensures { λ r. ⌜ record { number = r; entry = 0; type = 0; size = 0; count = now (count .exit) }
-        ≡ reply version3 (now (image .entry)) (readCall (now (path .entry)) offset (now (out .entry)) (now (work .entry))) ⌝ }
+        ≡ reply (now (image .entry)) (readCall (now (path .entry)) offset (now (out .entry)) (now (work .entry))) ⌝ }
     ensures { λ _. ⌜ now (out .exit)
-        ≡ outAfter version3 (now (image .entry)) (readCall (now (path .entry)) offset (now (out .entry)) (now (work .entry))) ⌝ }
+        ≡ outAfter (now (image .entry)) (readCall (now (path .entry)) offset (now (out .entry)) (now (work .entry))) ⌝ }
 {
     match read_opened(image, work, unpack(volume), path, offset, out) {
         Read::Done(n) => {
@@ -172,12 +178,12 @@ pub extern "C" fn cfb_opened_overwrite(
     offset: u64,
     bytes: &[u8],
 ) -> u32
-    requires { ⌜ OpenVolume version3 (unpacked (now volume)) (now image) (now work) ⌝ }
+    requires { ⌜ OpenVolume (unpacked (now volume)) (now image) (now work) ⌝ }
     ensures { λ r. ⌜ plain r
-        ≡ reply version3 (now (image .entry)) (overwriteCall (now (path .entry)) offset (now (bytes .entry)) (now (work .entry))) ⌝ }
+        ≡ reply (now (image .entry)) (overwriteCall (now (path .entry)) offset (now (bytes .entry)) (now (work .entry))) ⌝ }
     ensures { λ _. ⌜ now (image .exit)
-        ≡ imageAfter version3 (now (image .entry)) (overwriteCall (now (path .entry)) offset (now (bytes .entry)) (now (work .entry))) ⌝ }
-    ensures { λ _. ⌜ OpenVolume version3 (unpacked (now (volume .entry))) (now (image .exit)) (now (work .exit)) ⌝ }
+        ≡ imageAfter (now (image .entry)) (overwriteCall (now (path .entry)) offset (now (bytes .entry)) (now (work .entry))) ⌝ }
+    ensures { λ _. ⌜ OpenVolume (unpacked (now (volume .entry))) (now (image .exit)) (now (work .exit)) ⌝ }
     ensures { λ _. ⌜ Wrote (now (work .entry)) (now (work .exit)) 0 (workNeed (length (now (image .entry)))) ⌝ }
 {
     number(overwrite_opened(image, work, unpack(volume), path, offset, bytes))
@@ -191,11 +197,11 @@ pub extern "C" fn cfb_opened_set_len(
     path: &[u16],
     new_len: u64,
 ) -> u32
-    requires { ⌜ OpenVolume version3 (unpacked (now volume)) (now image) (now work) ⌝ }
-    ensures { λ r. ⌜ plain r ≡ reply version3 (now (image .entry)) (lengthCall (now (path .entry)) «new_len» (now (work .entry))) ⌝ }
+    requires { ⌜ OpenVolume (unpacked (now volume)) (now image) (now work) ⌝ }
+    ensures { λ r. ⌜ plain r ≡ reply (now (image .entry)) (lengthCall (now (path .entry)) «new_len» (now (work .entry))) ⌝ }
     ensures { λ _. ⌜ now (image .exit)
-        ≡ imageAfter version3 (now (image .entry)) (lengthCall (now (path .entry)) «new_len» (now (work .entry))) ⌝ }
-    ensures { λ _. ⌜ OpenVolume version3 (unpacked (now (volume .entry))) (now (image .exit)) (now (work .exit)) ⌝ }
+        ≡ imageAfter (now (image .entry)) (lengthCall (now (path .entry)) «new_len» (now (work .entry))) ⌝ }
+    ensures { λ _. ⌜ OpenVolume (unpacked (now (volume .entry))) (now (image .exit)) (now (work .exit)) ⌝ }
     ensures { λ _. ⌜ Wrote (now (work .entry)) (now (work .exit)) 0 (workNeed (length (now (image .entry)))) ⌝ }
 {
     number(set_length_opened(image, work, unpack(volume), path, new_len))
@@ -209,11 +215,11 @@ pub extern "C" fn cfb_opened_list(
     out: &mut [u8],
     count: &mut u64,
 ) -> u32
-    requires { ⌜ OpenVolume version3 (unpacked (now volume)) (now image) (now work) ⌝ }
+    requires { ⌜ OpenVolume (unpacked (now volume)) (now image) (now work) ⌝ }
     ensures { λ r. ⌜ record { number = r; entry = 0; type = 0; size = 0; count = now (count .exit) }
-        ≡ reply version3 (now (image .entry)) (listCall (now (out .entry)) (now (work .entry))) ⌝ }
-    ensures { λ _. ⌜ now (out .exit) ≡ outAfter version3 (now (image .entry)) (listCall (now (out .entry)) (now (work .entry))) ⌝ }
-    ensures { λ _. ⌜ OpenVolume version3 (unpacked (now (volume .entry))) (now (image .entry)) (now (work .exit)) ⌝ }
+        ≡ reply (now (image .entry)) (listCall (now (out .entry)) (now (work .entry))) ⌝ }
+    ensures { λ _. ⌜ now (out .exit) ≡ outAfter (now (image .entry)) (listCall (now (out .entry)) (now (work .entry))) ⌝ }
+    ensures { λ _. ⌜ OpenVolume (unpacked (now (volume .entry))) (now (image .entry)) (now (work .exit)) ⌝ }
     ensures { λ _. ⌜ Wrote (now (work .entry)) (now (work .exit)) 0 (workNeed (length (now (image .entry)))) ⌝ }
 {
     match list_opened(image, work, unpack(volume), out) {

@@ -15,9 +15,9 @@ use Rattle.format.specs.Calls.Read.{over}
 use Rattle.format.specs.Calls.Listing.{listing}
 use Rattle.format.specs.Calls.Call.{list, workOf, outOf}
 use Rattle.format.specs.Calls.Answer.{answerIn, answer}
-use Rattle.format.specs.Calls.Reply.{plain, counted, onZero, done, reply}
-use Rattle.format.specs.Calls.Buffers.{handedOut, outAfter}
-use Rattle.format.specs.Calls.Program.{programCapacity, refusedLine, programCall, programOutput}
+use Rattle.format.specs.Calls.Reply.{plain, counted, onZero, done, replyBy}
+use Rattle.format.specs.Calls.Buffers.{handedOut, outAfterBy}
+use Rattle.format.specs.Calls.Program.{programCapacity, refusedLine, programCall, programOutputBy, programOutput}
 use Rattle.kinds.specs.Numbers.{refusalNumber}
 use Rattle.kinds.specs.declared.Refusal.{Refusal}
 use Rattle.kinds.proofs.Refusals.{refusal-some}
@@ -53,23 +53,23 @@ capacity-out e = e
 -- ---- too many bytes
 
 module _ (g : Geometry) (input : Bytes) where
-  pub output-over : 65536 < length input → programOutput g input ≡ refusedLine 1
-  unfolding programOutput programCapacity
+  pub output-over : 65536 < length input → programOutputBy g input ≡ refusedLine 1
+  unfolding programOutputBy programCapacity
   output-over h = rw (lt-ltb 65536 (length input) h)
 
   abbrev answered : ℕ → Bytes
   answered a = onZero a (listing (volume g input .directory)) (refusedLine a)
 
-  pub output-within : length input ≤ 65536 → programOutput g input ≡ answered (answer g input programCall)
-  unfolding programOutput programCapacity
+  pub output-within : length input ≤ 65536 → programOutputBy g input ≡ answered (answer g input programCall)
+  unfolding programOutputBy programCapacity
   output-within h = rw (le-ltb 65536 (length input) h)
 
 -- the first 65,537 bytes say what is written, whatever follows them
-pub first-bytes-decide : (g : Geometry) (input : Bytes) → programOutput g (take 65537 input) ≡ programOutput g input
-first-bytes-decide g input =
+pub first-bytes-decide : (input : Bytes) → programOutput (take 65537 input) ≡ programOutput input
+first-bytes-decide input =
     elim (decLt 65536 (length input)) [
-      | yes h ↦ output-over g (take 65537 input) (omega (arith, length-take-le 65537 input (omega arith))) ∙ sym (output-over g input h)
-      | no h ↦ ap (programOutput g) (take-all 65537 input (omega arith))
+      | yes h ↦ output-over _ (take 65537 input) (omega (arith, length-take-le 65537 input (omega arith))) ∙ sym (output-over _ input h)
+      | no h ↦ ap programOutput (take-all 65537 input (omega arith))
     ]
 
 -- ---- the call's answer goes by the lengths of its buffers
@@ -87,7 +87,7 @@ module _ (g : Geometry) (img : Bytes) where
 -- ---- the answers
 
 module _ (g : Geometry) (input out : Bytes) (work : List ℕ) (short : length input ≤ 65536) (f : length work ≡ workNeed programCapacity) (e : length out ≡ programCapacity) where
-  same : programOutput g input ≡ answered g input (answer g input (list out work))
+  same : programOutputBy g input ≡ answered g input (answer g input (list out work))
   same = output-within g input short ∙ ap (answered g input) (sym (program-answer g input out work f e))
 
   abbrev text : Bytes
@@ -104,11 +104,11 @@ module _ (g : Geometry) (input out : Bytes) (work : List ℕ) (short : length in
   refused-by (suc n) a r = ap (λ z. refusedLine (z .number)) r
 
   -- a count is the listing's
-  pub listed : (n : ℕ) {out₁ : Bytes} → counted n ≡ reply g input (list out work) → out₁ ≡ outAfter g input (list out work) → (n ≤ length out₁) × (take n out₁ ≡ programOutput g input)
-  unfolding reply done outAfter handedOut outOf
+  pub listed : (n : ℕ) {out₁ : Bytes} → counted n ≡ replyBy g input (list out work) → out₁ ≡ outAfterBy g input (list out work) → (n ≤ length out₁) × (take n out₁ ≡ programOutputBy g input)
+  unfolding replyBy done outAfterBy handedOut outOf
   listed n r o = rw same (listed-by (answer g input (list out work)) n r o)
 
   -- a refusal is the program's
-  pub refused : (a : Refusal) → plain (refusalNumber a) ≡ reply g input (list out work) → refusedLine (refusalNumber a) ≡ programOutput g input
-  unfolding reply done
+  pub refused : (a : Refusal) → plain (refusalNumber a) ≡ replyBy g input (list out work) → refusedLine (refusalNumber a) ≡ programOutputBy g input
+  unfolding replyBy done
   refused a r = refused-by (answer g input (list out work)) a r ∙ sym same

@@ -2,7 +2,6 @@
 ghost use mathlib.Core.Path.{_≡_};
 ghost use Prim.Native.Nat.{_≤_};
 ghost use lib.ListN.{length, take};
-ghost use Rattle.format.specs.Layout.Geometry.{version3};
 ghost use Rattle.format.specs.Rules.Length.{workNeed};
 ghost use Rattle.format.specs.Calls.Read.{over};
 ghost use Rattle.format.specs.Calls.Program.{programCapacity, refusedLine, programOutput};
@@ -27,7 +26,7 @@ fn report(input: &[u8], work: &mut [u32], out: &mut [u8]) -> usize
     requires { ⌜ length (now work) ≡ workNeed programCapacity ⌝ }
     requires { ⌜ length (now out) ≡ programCapacity ⌝ }
     ensures { λ r. ⌜ r ≤ length (now (out .exit)) ⌝ }
-    ensures { λ r. ⌜ take r (now (out .exit)) ≡ programOutput version3 (now (input .entry)) ⌝ }
+    ensures { λ r. ⌜ take r (now (out .exit)) ≡ programOutput (now (input .entry)) ⌝ }
 {
     if 65536 < input.len() {
         return put_refused(out, Refusal::BadLength);

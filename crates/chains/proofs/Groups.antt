@@ -2,7 +2,7 @@
 use Prim.Native.Nat.{ℕ, zero, suc, _+_, _-_, _*_, _≤_, _<_}
 use mathlib.Core.Path.{_≡_, refl, sym, _∙_}
 use mathlib.Core.Logic.{_⊎_, inl, inr}
-use mathlib.Core.Bool.{Bool, _&&_, _||_}
+use mathlib.Core.Bool.{Bool, not, _&&_, _||_}
 use mathlib.Core.List.{List}
 use native.Mathlib.Nat.{zero-add, add-zero}
 use native.Mathlib.Omega.{arith}
@@ -11,14 +11,14 @@ use lib.ListN.{length}
 use borrow.Author.Tests.{lt-ltb, le-ltb}
 use Rattle.format.specs.Basics.Lists.{allBelow}
 use Rattle.format.specs.Basics.Bytes.{Bytes}
-use Rattle.format.specs.Layout.Geometry.{Geometry, sectorCount, cellsIn}
-use Rattle.format.specs.Layout.Header.{fatCount, directoryStart}
+use Rattle.format.specs.Layout.Geometry.{Geometry, countsDirectory, sectorCount, cellsIn}
+use Rattle.format.specs.Layout.Header.{fatCount, directoryCount, directoryStart}
 use Rattle.format.specs.Layout.Chain.{END, FREE, FATSECT, DIFSECT, chain, follow}
 use Rattle.format.specs.Layout.Tables.{fatCell, fatCells, sectorSpace}
 use Rattle.format.specs.Layout.Directory.{directorySectors}
 use Rattle.format.specs.Layout.Volume.{directorySectorsOf, volume}
 use Rattle.format.specs.Rules.Cells.{plainCell, tableMark, fatCellRight, restFree, cellRules}
-use Rattle.format.specs.Rules.Directory.{someChain, directoryRules}
+use Rattle.format.specs.Rules.Directory.{someChain, countRight, directoryRules}
 use Rattle.theory.proofs.Marks.{chain-end, chain-step}
 use Rattle.header.specs.Sized.{F}
 use Rattle.tables.specs.Listed.{FatListedAt}
@@ -91,6 +91,7 @@ module _ {cell : ℕ → ℕ} {limit s₀ : ℕ} where
 
 pub directory-is : (g : Geometry) (img : Bytes) (k s : ℕ)
     → (length (follow (fatCell g img) (sectorCount g img) (sectorCount g img) (directoryStart img)) ≡ k) × (chain (fatCell g img) (sectorCount g img) k (directoryStart img) ≡ eqb s END)
-    → lengthAnswer (directoryRules (volume g img)) (length (directorySectorsOf g img)) ≡ lengthAnswer (leb 1 k && eqb s END) k
-unfolding directoryRules someChain volume directorySectorsOf directorySectors sectorSpace
+    → lengthAnswer (directoryRules (volume g img)) (length (directorySectorsOf g img))
+    ≡ lengthAnswer ((leb 1 k && eqb s END) && (not (countsDirectory g) || eqb (directoryCount img) k)) k
+unfolding directoryRules someChain countRight volume directorySectorsOf directorySectors sectorSpace
 directory-is g img k s h = rw (h .0, h .1)

@@ -15,6 +15,7 @@ ghost use Rattle.tables.specs.Work.{Wrote, Holds};
 ghost use Rattle.tables.specs.Views.{volumeOf, sectorCountOf, cellsOf, sectorsOf};
 ghost use Rattle.tables.specs.Listed.{FatListed};
 ghost use Rattle.chains.specs.Answers.{isBroken, isShared, andThen, SectorMarks, SectorsWalked, unitAt, lengthAnswer};
+use header::count_right;
 use header::directory_start;
 use header::fat_count;
 use kinds::Sector;
@@ -194,14 +195,12 @@ pub enum Length {
     Never,
 }
 
-// The length of a chain of k sectors, by what comes after them.
-fn length_of(k: usize, next: Sector) -> Length
-    ensures { λ r. ⌜ r ≡ lengthAnswer (leb 1 k && eqb (next .0) END) k ⌝ }
+// The length of a chain of k sectors, by what comes after them, if it is right.
+fn length_of(k: usize, next: Sector, right: bool) -> Length
+    ensures { λ r. ⌜ r ≡ lengthAnswer ((leb 1 k && eqb (next .0) END) && right) k ⌝ }
 {
-    if 0 < k {
-        if next.is_end() {
-            return Length::Is(k);
-        }
+    if ((1 <= k) & next.is_end()) & right {
+        return Length::Is(k);
     }
     Length::Never
 }
@@ -213,15 +212,16 @@ pub fn directory_length(img: &[u8], work: &[u32], t: Tables) -> Length
         ≡ lengthAnswer (directoryRules (volumeOf (t .geometry) (now (img .entry))))
         (length (directorySectorsOf (geometryOf (t .geometry)) (now (img .entry)))) ⌝ }
 {
+    let g = t.geometry;
     let n = t.sectors;
     let mut s = directory_start(img);
     let mut m = n;
     while 0 < m {
         if !s.below(n) {
-            return length_of(n - m, s);
+            return length_of(n - m, s, count_right(img, g, n - m));
         }
         s = cell_at(img, work, t, s);
         m -= 1;
     }
-    length_of(n, s)
+    length_of(n, s, count_right(img, g, n))
 }

@@ -14,7 +14,7 @@ use Rattle.format.specs.Layout.Header.{directoryStart}
 use Rattle.format.specs.Layout.Tables.{fatCell, sectorSpace}
 use Rattle.format.specs.Layout.Directory.{directorySectors}
 use Rattle.format.specs.Layout.Volume.{directorySectorsOf, volume}
-use Rattle.format.specs.Rules.Directory.{someChain, directoryRules}
+use Rattle.format.specs.Rules.Directory.{someChain, countRight, directoryRules}
 use Rattle.kinds.specs.Sizes.{geometryOf}
 use Rattle.theory.specs.Links.{Linked}
 use Rattle.theory.proofs.Tests.{both}
@@ -27,10 +27,13 @@ use Rattle.chains.specs.Answers.{unitAt}
 use Rattle.directory.specs.Listed.{directoryAt, DirectoryListed}
 
 module _ (g : Geometry) (img : Bytes) (h : directoryRules (volume g img) ≡ true) where
-  -- the two parts of group 13
+  -- group 13's two rules on the chain
   rules : (leb 1 (length (directorySectorsOf g img)) ≡ true) × (chain (fatCell g img) (sectorCount g img) (length (directorySectorsOf g img)) (directoryStart img) ≡ true)
   unfolding directoryRules someChain volume sectorSpace
-  rules = both (leb 1 (length (directorySectorsOf g img))) (chain (fatCell g img) (sectorCount g img) (length (directorySectorsOf g img)) (directoryStart img)) h
+  rules =
+      let v = volume g img in
+      let there = both (someChain (v .sectors) (v .directorySectors) (v .directoryStart)) (countRight v) h .0 in
+      both (leb 1 (length (directorySectorsOf g img))) (chain (fatCell g img) (sectorCount g img) (length (directorySectorsOf g img)) (directoryStart img)) there
 
   pub directory-some : 1 ≤ length (directorySectorsOf g img)
   directory-some = leb-true 1 (length (directorySectorsOf g img)) (rules .0)

@@ -46,9 +46,9 @@ pub fn place(work: &[u32], d: Directory, x: EntryId) -> usize
 {
     let g = d.geometry;
     let list = d.list;
-    let per = g.entries();
     let i = x.index();
-    Sector(work[list + i / per]).place(g) + 128 * (i % per)
+    let s = Sector(work[list + g.entry_sector(i)]);
+    s.place(g) + 128 * g.entry_index(i)
 }
 
 pub fn type_of(img: &[u8], work: &[u32], d: Directory, x: EntryId) -> EntryType

@@ -1,5 +1,6 @@
 -- The rules that an image keeps, group by group, and the verdict.
 pub mod Length
+pub mod Version
 pub mod Header
 pub mod Tables
 pub mod Cells

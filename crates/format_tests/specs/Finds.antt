@@ -13,24 +13,24 @@ use Rattle.format_tests.specs.Images.{Site, log, LOG, gone, below, bare,
 
 -- ---- whole calls: the reply, and the work buffer
 
-root-found : reply version3 bare (find [] (replicate 39 9)) ≡ record { number = 0; entry = 0; type = 5; size = 0; count = 0 }
+root-found : reply bare (find [] (replicate 39 9)) ≡ record { number = 0; entry = 0; type = 5; size = 0; count = 0 }
 unfolding opened built
 root-found = refl
 
 -- with other letters of its name
-stream-found : reply version3 bare (find (below Site LOG) (replicate 39 0)) ≡ record { number = 0; entry = 2; type = 2; size = 0; count = 0 }
+stream-found : reply bare (find (below Site LOG) (replicate 39 0)) ≡ record { number = 0; entry = 2; type = 2; size = 0; count = 0 }
 unfolding opened built
 stream-found = refl
 
-not-found : reply version3 bare (find gone (replicate 39 0)) ≡ record { number = 21; entry = 0; type = 0; size = 0; count = 0 }
+not-found : reply bare (find gone (replicate 39 0)) ≡ record { number = 21; entry = 0; type = 0; size = 0; count = 0 }
 unfolding opened built
 not-found = refl
 
-work-cleared : workAfter version3 bare (find gone (replicate 41 9)) ≡ replicate 39 0 ++ 9 ∷ 9 ∷ []
+work-cleared : workAfter bare (find gone (replicate 41 9)) ≡ replicate 39 0 ++ 9 ∷ 9 ∷ []
 unfolding opened built
 work-cleared = refl
 
-work-untouched : workAfter version3 bare (find gone (replicate 38 9)) ≡ replicate 38 9
+work-untouched : workAfter bare (find gone (replicate 38 9)) ≡ replicate 38 9
 unfolding opened built
 work-untouched = refl
 

@@ -54,6 +54,6 @@ steady = (refl, refl)
 -- a path finds what it did not
 now-found :
     (formerReply version3 (twoSiblings 0xC5 0xC6) (find (0xE5 ∷ []) (replicate 39 0)) ≡ record { number = 21; entry = 0; type = 0; size = 0; count = 0 })
-    × (reply version3 (twoSiblings 0xC5 0xC6) (find (0xE5 ∷ []) (replicate 39 0)) ≡ record { number = 0; entry = 1; type = 2; size = 0; count = 0 })
+    × (reply (twoSiblings 0xC5 0xC6) (find (0xE5 ∷ []) (replicate 39 0)) ≡ record { number = 0; entry = 1; type = 2; size = 0; count = 0 })
 unfolding opened built
 now-found = (refl, refl)

@@ -41,6 +41,6 @@ rows-by-history : rowsAfter (settingOf version3 site) (rowsOf version3 site) cal
 unfolding opened built calls
 rows-by-history = refl
 
-image-after : summary (after version3 site calls) ≡ record { answer = 0; streams = rows; minis = 4 }
+image-after : summary (after site calls) ≡ record { answer = 0; streams = rows; minis = 4 }
 unfolding opened built calls
 image-after = refl

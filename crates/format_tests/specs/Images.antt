@@ -1,11 +1,11 @@
 -- The images that the tests compute on, and the names and paths in them.
-use Prim.Native.Nat.{ℕ, _+_, _*_}
+use Prim.Native.Nat.{ℕ, _+_, _-_, _*_, _/_}
 use mathlib.Core.List.{List, [], _∷_, _++_}
 use lib.ListN.{replicate}
 use Rattle.format.specs.Basics.Bytes.{Bytes}
 use Rattle.format.specs.Layout.Chain.{END, FATSECT}
 use Rattle.format.specs.Layout.Entry.{NOSTREAM}
-use Rattle.format_tests.specs.Build.{words, header, cells, nameField, entry, blank, rootEntry}
+use Rattle.format_tests.specs.Build.{words, header, header4, cells, cellsIn, nameField, entry, blank, blanks, rootEntry}
 
 -- ---- names and paths
 
@@ -125,7 +125,14 @@ smallAndLarge =
     ++ replicate 4096 0xA0
     ++ replicate 512 0xEE
 
+-- Version 4, in sectors of so many bytes: a root, and a stream `log` of no bytes.
+unfoldable pub fourth : (sector directory : ℕ) → Bytes
+fourth sector directory =
+    header4 sector directory
+    ++ cellsIn sector (FATSECT ∷ END ∷ [])
+    ++ (rootEntry 1 END 0 ++ entry log 2 1 NOSTREAM NOSTREAM NOSTREAM END 0 ++ blanks (sector / 128 - 2))
+
 -- all of these, opened at once
 unfoldable pub built : Unit {0}
-unfolding words header cells nameField entry blank rootEntry Site log LOG Jets gone below smallest withThird bare threeSiblings twoSiblings site large hollow smallAndLarge
+unfolding words header header4 cells cellsIn nameField entry blank blanks rootEntry Site log LOG Jets gone below smallest withThird bare threeSiblings twoSiblings site large hollow smallAndLarge fourth
 built = tt

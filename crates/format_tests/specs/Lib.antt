@@ -6,6 +6,7 @@ pub mod Values
 pub mod Tables
 pub mod Verdicts
 pub mod Folding
+pub mod Versions
 pub mod Finds
 pub mod Reads
 pub mod SmallLengths

@@ -25,11 +25,11 @@ site-listed : listing (volume version3 site .directory) ≡ siteListing
 unfolding opened built
 site-listed = refl
 
-listing-handed-out : outAfter version3 bare (list (replicate 48 1) (replicate 39 0)) ≡ bareListing ++ 1 ∷ 1 ∷ []
+listing-handed-out : outAfter bare (list (replicate 48 1) (replicate 39 0)) ≡ bareListing ++ 1 ∷ 1 ∷ []
 unfolding opened built
 listing-handed-out = refl
 
-listing-counted : reply version3 bare (list (replicate 46 1) (replicate 39 0)) ≡ record { number = 0; entry = 0; type = 0; size = 0; count = 46 }
+listing-counted : reply bare (list (replicate 46 1) (replicate 39 0)) ≡ record { number = 0; entry = 0; type = 0; size = 0; count = 46 }
 unfolding opened built
 listing-counted = refl
 
@@ -53,6 +53,6 @@ unit-that-does-not : printUnit 0x12AF ≡ 0x5C ∷ 0x31 ∷ 0x32 ∷ 0x41 ∷ 0x
 unfolding opened built
 unit-that-does-not = refl
 
-program-refuses : programOutput version3 [] ≡ 0x72 ∷ 0x65 ∷ 0x66 ∷ 0x75 ∷ 0x73 ∷ 0x65 ∷ 0x64 ∷ 0x20 ∷ 0x31 ∷ 0x0A ∷ []
+program-refuses : programOutput [] ≡ 0x72 ∷ 0x65 ∷ 0x66 ∷ 0x75 ∷ 0x73 ∷ 0x65 ∷ 0x64 ∷ 0x20 ∷ 0x31 ∷ 0x0A ∷ []
 unfolding opened built
 program-refuses = refl

@@ -2,11 +2,11 @@
 -- Written by tools/opened.py.
 use Rattle.format.specs.Basics.Lists.{allBelow as Basics·Lists·allBelow, all as Basics·Lists·all, listBelow as Basics·Lists·listBelow, joinBelow as Basics·Lists·joinBelow, member as Basics·Lists·member, distinct as Basics·Lists·distinct, equal as Basics·Lists·equal, sum as Basics·Lists·sum, fit as Basics·Lists·fit}
 use Rattle.format.specs.Basics.Bytes.{byteAt as Basics·Bytes·byteAt, part as Basics·Bytes·part, number as Basics·Bytes·number, u16at as Basics·Bytes·u16at, u32at as Basics·Bytes·u32at, u64at as Basics·Bytes·u64at, isZero as Basics·Bytes·isZero, allZero as Basics·Bytes·allZero, le16 as Basics·Bytes·le16, le32 as Basics·Bytes·le32, le64 as Basics·Bytes·le64, putBytes as Basics·Bytes·putBytes, put16 as Basics·Bytes·put16, put32 as Basics·Bytes·put32, put64 as Basics·Bytes·put64}
-use Rattle.format.specs.Layout.Geometry.{version3 as Layout·Geometry·version3, miniBytes as Layout·Geometry·miniBytes, entryBytes as Layout·Geometry·entryBytes, headerDifat as Layout·Geometry·headerDifat, sizeWidth as Layout·Geometry·sizeWidth, sectorCount as Layout·Geometry·sectorCount, sectorPlace as Layout·Geometry·sectorPlace, placeIn as Layout·Geometry·placeIn, cellsIn as Layout·Geometry·cellsIn, difatIn as Layout·Geometry·difatIn, entriesIn as Layout·Geometry·entriesIn}
+use Rattle.format.specs.Layout.Geometry.{version3 as Layout·Geometry·version3, version4 as Layout·Geometry·version4, miniBytes as Layout·Geometry·miniBytes, entryBytes as Layout·Geometry·entryBytes, headerBytes as Layout·Geometry·headerBytes, headerDifat as Layout·Geometry·headerDifat, sizeWidth as Layout·Geometry·sizeWidth, countsDirectory as Layout·Geometry·countsDirectory, sectorCount as Layout·Geometry·sectorCount, sectorPlace as Layout·Geometry·sectorPlace, placeIn as Layout·Geometry·placeIn, cellsIn as Layout·Geometry·cellsIn, difatIn as Layout·Geometry·difatIn, entriesIn as Layout·Geometry·entriesIn}
 use Rattle.format.specs.Layout.Need.{cutoff as Layout·Need·cutoff, roundUp as Layout·Need·roundUp, miniNeed as Layout·Need·miniNeed, sectorNeed as Layout·Need·sectorNeed}
 use Rattle.format.specs.Layout.Chain.{chain as Layout·Chain·chain, units as Layout·Chain·units, follow as Layout·Chain·follow}
 use Rattle.format.specs.Layout.Space.{freeUnits as Layout·Space·freeUnits, allocated as Layout·Space·allocated, chainFor as Layout·Space·chainFor, unitsFor as Layout·Space·unitsFor, block as Layout·Space·block}
-use Rattle.format.specs.Layout.Header.{fatCount as Layout·Header·fatCount, directoryStart as Layout·Header·directoryStart, miniFatStart as Layout·Header·miniFatStart, miniFatCount as Layout·Header·miniFatCount, difatStart as Layout·Header·difatStart, difatCount as Layout·Header·difatCount, difatPlace as Layout·Header·difatPlace}
+use Rattle.format.specs.Layout.Header.{majorVersion as Layout·Header·majorVersion, directoryCount as Layout·Header·directoryCount, fatCount as Layout·Header·fatCount, directoryStart as Layout·Header·directoryStart, miniFatStart as Layout·Header·miniFatStart, miniFatCount as Layout·Header·miniFatCount, difatStart as Layout·Header·difatStart, difatCount as Layout·Header·difatCount, difatPlace as Layout·Header·difatPlace}
 use Rattle.format.specs.Layout.Tables.{difatSector as Layout·Tables·difatSector, difatSectors as Layout·Tables·difatSectors, difatEntry as Layout·Tables·difatEntry, fatSectors as Layout·Tables·fatSectors, cellPlaceIn as Layout·Tables·cellPlaceIn, cellIn as Layout·Tables·cellIn, fatCells as Layout·Tables·fatCells, fatCell as Layout·Tables·fatCell, sectorSpace as Layout·Tables·sectorSpace}
 use Rattle.format.specs.Layout.Name.{illegal as Layout·Name·illegal, legalUnit as Layout·Name·legalUnit, legalName as Layout·Name·legalName, smallBy20 as Layout·Name·smallBy20, smallBy50 as Layout·Name·smallBy50, fold as Layout·Name·fold, unitsLess as Layout·Name·unitsLess, nameLess as Layout·Name·nameLess, nameEqual as Layout·Name·nameEqual}
 use Rattle.format.specs.Layout.Entry.{nameBytes as Layout·Entry·nameBytes, nameUnit as Layout·Entry·nameUnit, name as Layout·Entry·name, kind as Layout·Entry·kind, colour as Layout·Entry·colour, left as Layout·Entry·left, right as Layout·Entry·right, child as Layout·Entry·child, clsid as Layout·Entry·clsid, created as Layout·Entry·created, modified as Layout·Entry·modified, start as Layout·Entry·start, size as Layout·Entry·size}
@@ -15,10 +15,11 @@ use Rattle.format.specs.Layout.Tree.{treeOf as Layout·Tree·treeOf, grow as La
 use Rattle.format.specs.Layout.Volume.{directorySectorsOf as Layout·Volume·directorySectorsOf, directory as Layout·Volume·directory, miniFatSectors as Layout·Volume·miniFatSectors, miniStreamSectors as Layout·Volume·miniStreamSectors, miniCells as Layout·Volume·miniCells, miniSpace as Layout·Volume·miniSpace, volume as Layout·Volume·volume, root as Layout·Volume·root, rootSize as Layout·Volume·rootSize, systemSectors as Layout·Volume·systemSectors, fixedNumber as Layout·Volume·fixedNumber}
 use Rattle.format.specs.Layout.Stream.{spaceFor as Layout·Stream·spaceFor, streamSize as Layout·Stream·streamSize, streamUnits as Layout·Stream·streamUnits, contents as Layout·Stream·contents}
 use Rattle.format.specs.Rules.Length.{leastImage as Rules·Length·leastImage, greatestImage as Rules·Length·greatestImage, lengthAllowed as Rules·Length·lengthAllowed, workNeed as Rules·Length·workNeed}
+use Rattle.format.specs.Rules.Version.{versionOf as Rules·Version·versionOf}
 use Rattle.format.specs.Rules.Header.{signature as Rules·Header·signature, byteOrder as Rules·Header·byteOrder, miniShift as Rules·Header·miniShift, headerRules as Rules·Header·headerRules}
 use Rattle.format.specs.Rules.Tables.{difatNeed as Rules·Tables·difatNeed, tableCounts as Rules·Tables·tableCounts, difatEnds as Rules·Tables·difatEnds, spareEntryFree as Rules·Tables·spareEntryFree, difatRest as Rules·Tables·difatRest, isSector as Rules·Tables·isSector, tableSectors as Rules·Tables·tableSectors, markRight as Rules·Tables·markRight, tableMarks as Rules·Tables·tableMarks, tableRules as Rules·Tables·tableRules}
 use Rattle.format.specs.Rules.Cells.{plainCell as Rules·Cells·plainCell, spareCellFree as Rules·Cells·spareCellFree, restFree as Rules·Cells·restFree, tableMark as Rules·Cells·tableMark, fatCellRight as Rules·Cells·fatCellRight, cellRules as Rules·Cells·cellRules}
-use Rattle.format.specs.Rules.Directory.{someChain as Rules·Directory·someChain, directoryRules as Rules·Directory·directoryRules}
+use Rattle.format.specs.Rules.Directory.{someChain as Rules·Directory·someChain, countRight as Rules·Directory·countRight, directoryRules as Rules·Directory·directoryRules}
 use Rattle.format.specs.Rules.Entries.{blankFields as Rules·Entries·blankFields, nameFields as Rules·Entries·nameFields, streamFields as Rules·Entries·streamFields, storageFields as Rules·Entries·storageFields, rootFields as Rules·Entries·rootFields, commonFields as Rules·Entries·commonFields, entryFields as Rules·Entries·entryFields, entryRight as Rules·Entries·entryRight, entryRules as Rules·Entries·entryRules}
 use Rattle.format.specs.Rules.Trees.{sound as Rules·Trees·sound, reachedRight as Rules·Trees·reachedRight, reachedOnce as Rules·Trees·reachedOnce, everyNode as Rules·Trees·everyNode, less as Rules·Trees·less, greater as Rules·Trees·greater, sidesOrdered as Rules·Trees·sidesOrdered, red as Rules·Trees·red, topBlack as Rules·Trees·topBlack, coloured as Rules·Trees·coloured, treeRules as Rules·Trees·treeRules}
 use Rattle.format.specs.Rules.Mini.{miniCellRight as Rules·Mini·miniCellRight, miniFatChain as Rules·Mini·miniFatChain, miniStreamChain as Rules·Mini·miniStreamChain, miniRules as Rules·Mini·miniRules}
@@ -34,9 +35,9 @@ use Rattle.format.specs.Calls.Text.{digits as Calls·Text·digits, decimal as C
 use Rattle.format.specs.Calls.Listing.{line as Calls·Listing·line, lines as Calls·Listing·lines, firstLine as Calls·Listing·firstLine, listing as Calls·Listing·listing}
 use Rattle.format.specs.Calls.Call.{workOf as Calls·Call·workOf, outOf as Calls·Call·outOf}
 use Rattle.format.specs.Calls.Answer.{firstOf as Calls·Answer·firstOf, target as Calls·Answer·target, targetAnswer as Calls·Answer·targetAnswer, beyond as Calls·Answer·beyond, lengthAnswer as Calls·Answer·lengthAnswer, answerIn as Calls·Answer·answerIn, answer as Calls·Answer·answer}
-use Rattle.format.specs.Calls.Reply.{plain as Calls·Reply·plain, foundReply as Calls·Reply·foundReply, counted as Calls·Reply·counted, done as Calls·Reply·done, onZero as Calls·Reply·onZero, reply as Calls·Reply·reply}
-use Rattle.format.specs.Calls.Buffers.{edited as Calls·Buffers·edited, imageAfter as Calls·Buffers·imageAfter, handedOut as Calls·Buffers·handedOut, outAfter as Calls·Buffers·outAfter, workCleared as Calls·Buffers·workCleared, workAfter as Calls·Buffers·workAfter}
-use Rattle.format.specs.Calls.Program.{programCapacity as Calls·Program·programCapacity, refusedLine as Calls·Program·refusedLine, programCall as Calls·Program·programCall, programOutput as Calls·Program·programOutput}
+use Rattle.format.specs.Calls.Reply.{plain as Calls·Reply·plain, foundReply as Calls·Reply·foundReply, counted as Calls·Reply·counted, done as Calls·Reply·done, onZero as Calls·Reply·onZero, replyBy as Calls·Reply·replyBy}
+use Rattle.format.specs.Calls.Buffers.{edited as Calls·Buffers·edited, imageAfterBy as Calls·Buffers·imageAfterBy, handedOut as Calls·Buffers·handedOut, outAfterBy as Calls·Buffers·outAfterBy, workCleared as Calls·Buffers·workCleared, workAfterBy as Calls·Buffers·workAfterBy}
+use Rattle.format.specs.Calls.Program.{programCapacity as Calls·Program·programCapacity, refusedLine as Calls·Program·refusedLine, programCall as Calls·Program·programCall, programOutputBy as Calls·Program·programOutputBy}
 use Rattle.format.specs.History.Rows.{rowsIn as History·Rows·rowsIn, rowsOf as History·Rows·rowsOf, samePath as History·Rows·samePath, means as History·Rows·means, hasRow as History·Rows·hasRow, rowLength as History·Rows·rowLength, needOf as History·Rows·needOf, total as History·Rows·total}
 use Rattle.format.specs.History.Setting.{settingOf as History·Setting·settingOf, freeSectors as History·Setting·freeSectors, freeMinis as History·Setting·freeMinis}
 use Rattle.format.specs.History.Step.{reaches as History·Step·reaches, lacks as History·Step·lacks, accepts as History·Step·accepts, answers26 as History·Step·answers26, change as History·Step·change, putInto as History·Step·putInto, changed as History·Step·changed, rowsStep as History·Step·rowsStep, rowsAfter as History·Step·rowsAfter}
@@ -45,5 +46,5 @@ use Rattle.format.specs.Claims.Folding.{formerFold as Claims·Folding·formerFo
 use Rattle.format.specs.Claims.FoldingPaths.{formerEqual as Claims·FoldingPaths·formerEqual, formerChild as Claims·FoldingPaths·formerChild, formerEnter as Claims·FoldingPaths·formerEnter, formerDescend as Claims·FoldingPaths·formerDescend, formerResolve as Claims·FoldingPaths·formerResolve, formerStream as Claims·FoldingPaths·formerStream, formerAnswerIn as Claims·FoldingPaths·formerAnswerIn, formerDone as Claims·FoldingPaths·formerDone, formerAnswer as Claims·FoldingPaths·formerAnswer, formerReply as Claims·FoldingPaths·formerReply, pathOf as Claims·FoldingPaths·pathOf}
 
 unfoldable pub opened : Unit {0}
-unfolding Basics·Lists·allBelow Basics·Lists·all Basics·Lists·listBelow Basics·Lists·joinBelow Basics·Lists·member Basics·Lists·distinct Basics·Lists·equal Basics·Lists·sum Basics·Lists·fit Basics·Bytes·byteAt Basics·Bytes·part Basics·Bytes·number Basics·Bytes·u16at Basics·Bytes·u32at Basics·Bytes·u64at Basics·Bytes·isZero Basics·Bytes·allZero Basics·Bytes·le16 Basics·Bytes·le32 Basics·Bytes·le64 Basics·Bytes·putBytes Basics·Bytes·put16 Basics·Bytes·put32 Basics·Bytes·put64 Layout·Geometry·version3 Layout·Geometry·miniBytes Layout·Geometry·entryBytes Layout·Geometry·headerDifat Layout·Geometry·sizeWidth Layout·Geometry·sectorCount Layout·Geometry·sectorPlace Layout·Geometry·placeIn Layout·Geometry·cellsIn Layout·Geometry·difatIn Layout·Geometry·entriesIn Layout·Need·cutoff Layout·Need·roundUp Layout·Need·miniNeed Layout·Need·sectorNeed Layout·Chain·chain Layout·Chain·units Layout·Chain·follow Layout·Space·freeUnits Layout·Space·allocated Layout·Space·chainFor Layout·Space·unitsFor Layout·Space·block Layout·Header·fatCount Layout·Header·directoryStart Layout·Header·miniFatStart Layout·Header·miniFatCount Layout·Header·difatStart Layout·Header·difatCount Layout·Header·difatPlace Layout·Tables·difatSector Layout·Tables·difatSectors Layout·Tables·difatEntry Layout·Tables·fatSectors Layout·Tables·cellPlaceIn Layout·Tables·cellIn Layout·Tables·fatCells Layout·Tables·fatCell Layout·Tables·sectorSpace Layout·Name·illegal Layout·Name·legalUnit Layout·Name·legalName Layout·Name·smallBy20 Layout·Name·smallBy50 Layout·Name·fold Layout·Name·unitsLess Layout·Name·nameLess Layout·Name·nameEqual Layout·Entry·nameBytes Layout·Entry·nameUnit Layout·Entry·name Layout·Entry·kind Layout·Entry·colour Layout·Entry·left Layout·Entry·right Layout·Entry·child Layout·Entry·clsid Layout·Entry·created Layout·Entry·modified Layout·Entry·start Layout·Entry·size Layout·Directory·directorySectors Layout·Directory·entryPlace Layout·Directory·entryCount Layout·Directory·entryIn Layout·Directory·directoryOf Layout·Directory·sizeOf Layout·Tree·treeOf Layout·Tree·grow Layout·Tree·forest Layout·Tree·entries Layout·Tree·siblings Layout·Volume·directorySectorsOf Layout·Volume·directory Layout·Volume·miniFatSectors Layout·Volume·miniStreamSectors Layout·Volume·miniCells Layout·Volume·miniSpace Layout·Volume·volume Layout·Volume·root Layout·Volume·rootSize Layout·Volume·systemSectors Layout·Volume·fixedNumber Layout·Stream·spaceFor Layout·Stream·streamSize Layout·Stream·streamUnits Layout·Stream·contents Rules·Length·leastImage Rules·Length·greatestImage Rules·Length·lengthAllowed Rules·Length·workNeed Rules·Header·signature Rules·Header·byteOrder Rules·Header·miniShift Rules·Header·headerRules Rules·Tables·difatNeed Rules·Tables·tableCounts Rules·Tables·difatEnds Rules·Tables·spareEntryFree Rules·Tables·difatRest Rules·Tables·isSector Rules·Tables·tableSectors Rules·Tables·markRight Rules·Tables·tableMarks Rules·Tables·tableRules Rules·Cells·plainCell Rules·Cells·spareCellFree Rules·Cells·restFree Rules·Cells·tableMark Rules·Cells·fatCellRight Rules·Cells·cellRules Rules·Directory·someChain Rules·Directory·directoryRules Rules·Entries·blankFields Rules·Entries·nameFields Rules·Entries·streamFields Rules·Entries·storageFields Rules·Entries·rootFields Rules·Entries·commonFields Rules·Entries·entryFields Rules·Entries·entryRight Rules·Entries·entryRules Rules·Trees·sound Rules·Trees·reachedRight Rules·Trees·reachedOnce Rules·Trees·everyNode Rules·Trees·less Rules·Trees·greater Rules·Trees·sidesOrdered Rules·Trees·red Rules·Trees·topBlack Rules·Trees·coloured Rules·Trees·treeRules Rules·Mini·miniCellRight Rules·Mini·miniFatChain Rules·Mini·miniStreamChain Rules·Mini·miniRules Rules·Streams·streamChain Rules·Streams·streamRight Rules·Streams·streamRules Rules·Owners·ownSectors Rules·Owners·ownMinis Rules·Owners·ownedSectors Rules·Owners·ownedMinis Rules·Owners·ownerRule Rules·Owners·ownerRight Rules·Owners·ownersIn Rules·Owners·ownerRules Rules·Verdict·check Rules·Verdict·volumeGroups Rules·Verdict·groups Rules·Verdict·verdict Calls·Paths·pushFront Calls·Paths·split Calls·Paths·names Calls·Paths·wellFormed Calls·Find·orElse Calls·Find·childNamed Calls·Find·foundChild Calls·Find·enter Calls·Find·descend Calls·Find·resolve Calls·Find·needStream Calls·Find·resolveStream Calls·Find·answerOf Calls·Find·entryOf Calls·Read·readCount Calls·Read·readBytes Calls·Read·over Calls·Overwrite·bytePlace Calls·Overwrite·putChain Calls·Overwrite·overwritten Calls·SetLength·small Calls·SetLength·crosses Calls·SetLength·tooFew Calls·SetLength·putCell Calls·SetLength·release Calls·SetLength·link Calls·SetLength·relinked Calls·SetLength·editSpace Calls·SetLength·newUnits Calls·SetLength·zeroed Calls·SetLength·tailZeroed Calls·SetLength·entryWritten Calls·SetLength·resized Calls·Text·digits Calls·Text·decimal Calls·Text·hexDigit Calls·Text·printUnit Calls·Text·printName Calls·Listing·line Calls·Listing·lines Calls·Listing·firstLine Calls·Listing·listing Calls·Call·workOf Calls·Call·outOf Calls·Answer·firstOf Calls·Answer·target Calls·Answer·targetAnswer Calls·Answer·beyond Calls·Answer·lengthAnswer Calls·Answer·answerIn Calls·Answer·answer Calls·Reply·plain Calls·Reply·foundReply Calls·Reply·counted Calls·Reply·done Calls·Reply·onZero Calls·Reply·reply Calls·Buffers·edited Calls·Buffers·imageAfter Calls·Buffers·handedOut Calls·Buffers·outAfter Calls·Buffers·workCleared Calls·Buffers·workAfter Calls·Program·programCapacity Calls·Program·refusedLine Calls·Program·programCall Calls·Program·programOutput History·Rows·rowsIn History·Rows·rowsOf History·Rows·samePath History·Rows·means History·Rows·hasRow History·Rows·rowLength History·Rows·needOf History·Rows·total History·Setting·settingOf History·Setting·freeSectors History·Setting·freeMinis History·Step·reaches History·Step·lacks History·Step·accepts History·Step·answers26 History·Step·change History·Step·putInto History·Step·changed History·Step·rowsStep History·Step·rowsAfter History·Claim·after History·Claim·isEdit Claims·Folding·formerFold Claims·Folding·formerLess Claims·Folding·formerBefore Claims·Folding·formerAfter Claims·Folding·formerSides Claims·Folding·formerTrees Claims·Folding·formerLate Claims·Folding·formerVerdict Claims·Folding·steadyUnit Claims·Folding·steadyName Claims·Folding·steadyNames Claims·Folding·plainUnit Claims·Folding·plainName Claims·Folding·plainNames Claims·FoldingPaths·formerEqual Claims·FoldingPaths·formerChild Claims·FoldingPaths·formerEnter Claims·FoldingPaths·formerDescend Claims·FoldingPaths·formerResolve Claims·FoldingPaths·formerStream Claims·FoldingPaths·formerAnswerIn Claims·FoldingPaths·formerDone Claims·FoldingPaths·formerAnswer Claims·FoldingPaths·formerReply Claims·FoldingPaths·pathOf
+unfolding Basics·Lists·allBelow Basics·Lists·all Basics·Lists·listBelow Basics·Lists·joinBelow Basics·Lists·member Basics·Lists·distinct Basics·Lists·equal Basics·Lists·sum Basics·Lists·fit Basics·Bytes·byteAt Basics·Bytes·part Basics·Bytes·number Basics·Bytes·u16at Basics·Bytes·u32at Basics·Bytes·u64at Basics·Bytes·isZero Basics·Bytes·allZero Basics·Bytes·le16 Basics·Bytes·le32 Basics·Bytes·le64 Basics·Bytes·putBytes Basics·Bytes·put16 Basics·Bytes·put32 Basics·Bytes·put64 Layout·Geometry·version3 Layout·Geometry·version4 Layout·Geometry·miniBytes Layout·Geometry·entryBytes Layout·Geometry·headerBytes Layout·Geometry·headerDifat Layout·Geometry·sizeWidth Layout·Geometry·countsDirectory Layout·Geometry·sectorCount Layout·Geometry·sectorPlace Layout·Geometry·placeIn Layout·Geometry·cellsIn Layout·Geometry·difatIn Layout·Geometry·entriesIn Layout·Need·cutoff Layout·Need·roundUp Layout·Need·miniNeed Layout·Need·sectorNeed Layout·Chain·chain Layout·Chain·units Layout·Chain·follow Layout·Space·freeUnits Layout·Space·allocated Layout·Space·chainFor Layout·Space·unitsFor Layout·Space·block Layout·Header·majorVersion Layout·Header·directoryCount Layout·Header·fatCount Layout·Header·directoryStart Layout·Header·miniFatStart Layout·Header·miniFatCount Layout·Header·difatStart Layout·Header·difatCount Layout·Header·difatPlace Layout·Tables·difatSector Layout·Tables·difatSectors Layout·Tables·difatEntry Layout·Tables·fatSectors Layout·Tables·cellPlaceIn Layout·Tables·cellIn Layout·Tables·fatCells Layout·Tables·fatCell Layout·Tables·sectorSpace Layout·Name·illegal Layout·Name·legalUnit Layout·Name·legalName Layout·Name·smallBy20 Layout·Name·smallBy50 Layout·Name·fold Layout·Name·unitsLess Layout·Name·nameLess Layout·Name·nameEqual Layout·Entry·nameBytes Layout·Entry·nameUnit Layout·Entry·name Layout·Entry·kind Layout·Entry·colour Layout·Entry·left Layout·Entry·right Layout·Entry·child Layout·Entry·clsid Layout·Entry·created Layout·Entry·modified Layout·Entry·start Layout·Entry·size Layout·Directory·directorySectors Layout·Directory·entryPlace Layout·Directory·entryCount Layout·Directory·entryIn Layout·Directory·directoryOf Layout·Directory·sizeOf Layout·Tree·treeOf Layout·Tree·grow Layout·Tree·forest Layout·Tree·entries Layout·Tree·siblings Layout·Volume·directorySectorsOf Layout·Volume·directory Layout·Volume·miniFatSectors Layout·Volume·miniStreamSectors Layout·Volume·miniCells Layout·Volume·miniSpace Layout·Volume·volume Layout·Volume·root Layout·Volume·rootSize Layout·Volume·systemSectors Layout·Volume·fixedNumber Layout·Stream·spaceFor Layout·Stream·streamSize Layout·Stream·streamUnits Layout·Stream·contents Rules·Length·leastImage Rules·Length·greatestImage Rules·Length·lengthAllowed Rules·Length·workNeed Rules·Version·versionOf Rules·Header·signature Rules·Header·byteOrder Rules·Header·miniShift Rules·Header·headerRules Rules·Tables·difatNeed Rules·Tables·tableCounts Rules·Tables·difatEnds Rules·Tables·spareEntryFree Rules·Tables·difatRest Rules·Tables·isSector Rules·Tables·tableSectors Rules·Tables·markRight Rules·Tables·tableMarks Rules·Tables·tableRules Rules·Cells·plainCell Rules·Cells·spareCellFree Rules·Cells·restFree Rules·Cells·tableMark Rules·Cells·fatCellRight Rules·Cells·cellRules Rules·Directory·someChain Rules·Directory·countRight Rules·Directory·directoryRules Rules·Entries·blankFields Rules·Entries·nameFields Rules·Entries·streamFields Rules·Entries·storageFields Rules·Entries·rootFields Rules·Entries·commonFields Rules·Entries·entryFields Rules·Entries·entryRight Rules·Entries·entryRules Rules·Trees·sound Rules·Trees·reachedRight Rules·Trees·reachedOnce Rules·Trees·everyNode Rules·Trees·less Rules·Trees·greater Rules·Trees·sidesOrdered Rules·Trees·red Rules·Trees·topBlack Rules·Trees·coloured Rules·Trees·treeRules Rules·Mini·miniCellRight Rules·Mini·miniFatChain Rules·Mini·miniStreamChain Rules·Mini·miniRules Rules·Streams·streamChain Rules·Streams·streamRight Rules·Streams·streamRules Rules·Owners·ownSectors Rules·Owners·ownMinis Rules·Owners·ownedSectors Rules·Owners·ownedMinis Rules·Owners·ownerRule Rules·Owners·ownerRight Rules·Owners·ownersIn Rules·Owners·ownerRules Rules·Verdict·check Rules·Verdict·volumeGroups Rules·Verdict·groups Rules·Verdict·verdict Calls·Paths·pushFront Calls·Paths·split Calls·Paths·names Calls·Paths·wellFormed Calls·Find·orElse Calls·Find·childNamed Calls·Find·foundChild Calls·Find·enter Calls·Find·descend Calls·Find·resolve Calls·Find·needStream Calls·Find·resolveStream Calls·Find·answerOf Calls·Find·entryOf Calls·Read·readCount Calls·Read·readBytes Calls·Read·over Calls·Overwrite·bytePlace Calls·Overwrite·putChain Calls·Overwrite·overwritten Calls·SetLength·small Calls·SetLength·crosses Calls·SetLength·tooFew Calls·SetLength·putCell Calls·SetLength·release Calls·SetLength·link Calls·SetLength·relinked Calls·SetLength·editSpace Calls·SetLength·newUnits Calls·SetLength·zeroed Calls·SetLength·tailZeroed Calls·SetLength·entryWritten Calls·SetLength·resized Calls·Text·digits Calls·Text·decimal Calls·Text·hexDigit Calls·Text·printUnit Calls·Text·printName Calls·Listing·line Calls·Listing·lines Calls·Listing·firstLine Calls·Listing·listing Calls·Call·workOf Calls·Call·outOf Calls·Answer·firstOf Calls·Answer·target Calls·Answer·targetAnswer Calls·Answer·beyond Calls·Answer·lengthAnswer Calls·Answer·answerIn Calls·Answer·answer Calls·Reply·plain Calls·Reply·foundReply Calls·Reply·counted Calls·Reply·done Calls·Reply·onZero Calls·Reply·replyBy Calls·Buffers·edited Calls·Buffers·imageAfterBy Calls·Buffers·handedOut Calls·Buffers·outAfterBy Calls·Buffers·workCleared Calls·Buffers·workAfterBy Calls·Program·programCapacity Calls·Program·refusedLine Calls·Program·programCall Calls·Program·programOutputBy History·Rows·rowsIn History·Rows·rowsOf History·Rows·samePath History·Rows·means History·Rows·hasRow History·Rows·rowLength History·Rows·needOf History·Rows·total History·Setting·settingOf History·Setting·freeSectors History·Setting·freeMinis History·Step·reaches History·Step·lacks History·Step·accepts History·Step·answers26 History·Step·change History·Step·putInto History·Step·changed History·Step·rowsStep History·Step·rowsAfter History·Claim·after History·Claim·isEdit Claims·Folding·formerFold Claims·Folding·formerLess Claims·Folding·formerBefore Claims·Folding·formerAfter Claims·Folding·formerSides Claims·Folding·formerTrees Claims·Folding·formerLate Claims·Folding·formerVerdict Claims·Folding·steadyUnit Claims·Folding·steadyName Claims·Folding·steadyNames Claims·Folding·plainUnit Claims·Folding·plainName Claims·Folding·plainNames Claims·FoldingPaths·formerEqual Claims·FoldingPaths·formerChild Claims·FoldingPaths·formerEnter Claims·FoldingPaths·formerDescend Claims·FoldingPaths·formerResolve Claims·FoldingPaths·formerStream Claims·FoldingPaths·formerAnswerIn Claims·FoldingPaths·formerDone Claims·FoldingPaths·formerAnswer Claims·FoldingPaths·formerReply Claims·FoldingPaths·pathOf
 opened = tt

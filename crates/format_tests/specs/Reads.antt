@@ -15,7 +15,7 @@ use Rattle.format_tests.specs.Images.{Site, log, Jets, below, bare, site
 
 -- ---- reads
 
-read-across-units : outAfter version3 site (read (below Site log) 60 (replicate 12 1) (replicate 65 0)) ≡ replicate 10 0xA0 ++ 1 ∷ 1 ∷ []
+read-across-units : outAfter site (read (below Site log) 60 (replicate 12 1) (replicate 65 0)) ≡ replicate 10 0xA0 ++ 1 ∷ 1 ∷ []
 unfolding opened built
 read-across-units = refl
 
@@ -23,7 +23,7 @@ read-counts : done (volume version3 site) (read (below Site log) 60 (replicate 1
 unfolding opened built
 read-counts = refl
 
-read-refused : outAfter version3 bare (read (below Site log) 1 (1 ∷ 2 ∷ []) (replicate 39 0)) ≡ 1 ∷ 2 ∷ []
+read-refused : outAfter bare (read (below Site log) 1 (1 ∷ 2 ∷ []) (replicate 39 0)) ≡ 1 ∷ 2 ∷ []
 unfolding opened built
 read-refused = refl
 

@@ -87,6 +87,6 @@ not-a-stream : answerIn version3 (volume version3 site) (setLength Site 0 []) �
 unfolding opened built
 not-a-stream = refl
 
-refused-unchanged : imageAfter version3 bare (setLength (below Site log) 64 (replicate 39 0)) ≡ bare
+refused-unchanged : imageAfter bare (setLength (below Site log) 64 (replicate 39 0)) ≡ bare
 unfolding opened built
 refused-unchanged = refl

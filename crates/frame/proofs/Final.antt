@@ -1,9 +1,12 @@
--- The frame laws that the history uses, whole: for every sector size that is a multiple of 128 and at least 512, and so for version 3.
-use mathlib.Core.Path.{refl}
+-- The frame laws that the history uses, whole: for every sector size that is a multiple of 128 and at least 512, and so for versions 3 and 4.
+use mathlib.Core.Path.{refl, sym, subst}
+use mathlib.Core.Logic.{inl, inr}
 use native.Mathlib.Omega.{arith}
 use lib.ListN.{length}
-use Rattle.format.specs.Layout.Geometry.{Geometry, version3}
+use Rattle.format.specs.Basics.Bytes.{Bytes}
+use Rattle.format.specs.Layout.Geometry.{Geometry, version3, version4}
 use Rattle.format.specs.Layout.Volume.{volume}
+use Rattle.format.specs.Rules.Version.{versionOf}
 use Rattle.frame.specs.Kept.{Sized}
 use Rattle.frame.specs.Frame.{Frame}
 use Rattle.frame.proofs.Blocks.{block-length}
@@ -12,6 +15,7 @@ use Rattle.frame.proofs.Parts.{sector-units, mini-units}
 use Rattle.frame.proofs.Writing.{writing}
 use Rattle.frame.proofs.Resizing.{resizing}
 use Rattle.frame.proofs.Accepted.{accepted-kept}
+use Rattle.frame.proofs.Versions.{version-cases}
 
 pub frame : (g : Geometry) → Sized g → Frame g
 frame g z =
@@ -25,3 +29,15 @@ frame g z =
 pub sized3 : Sized version3
 unfolding version3
 sized3 = record { wide = omega arith; even = refl }
+
+pub sized4 : Sized version4
+unfolding version4
+sized4 = record { wide = omega arith; even = refl }
+
+-- an image's own version
+pub own-sized : (img : Bytes) → Sized (versionOf img)
+own-sized img =
+    elim (version-cases img) [
+      | inl e ↦ subst (λ (g : Geometry). Sized g) (sym e) sized3
+      | inr e ↦ subst (λ (g : Geometry). Sized g) (sym e) sized4
+    ]

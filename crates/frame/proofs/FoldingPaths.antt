@@ -19,7 +19,7 @@ use Rattle.format.specs.Calls.Paths.{Path, pushFront, split, names, wellFormed}
 use Rattle.format.specs.Calls.Find.{Child, missing, present, orElse, childNamed, Found, at, refused, foundChild, enter, descend, resolve, resolveStream, needStream}
 use Rattle.format.specs.Calls.Call.{Call, validate, find, read, overwrite, setLength, list, workOf}
 use Rattle.format.specs.Calls.Answer.{firstOf, target, targetAnswer, answerIn, answer}
-use Rattle.format.specs.Calls.Reply.{plain, onZero, done, reply}
+use Rattle.format.specs.Calls.Reply.{plain, onZero, done, replyBy}
 use Rattle.format.specs.Claims.Folding.{formerVerdict, steadyUnit, steadyNames, plainUnit}
 use Rattle.format.specs.Claims.FoldingPaths.{formerEqual, formerChild, formerEnter, formerDescend, formerResolve, formerStream, formerAnswerIn, formerAnswer, formerDone, formerReply, pathOf, KeepsReply, PlainKeepsReply}
 use Rattle.theory.proofs.Tests.{both, and-true-of}
@@ -154,7 +154,7 @@ module _ (g : Geometry) (v : Volume) (fields : entryRules (v .directory) ≡ tru
   done-same (list out work) h = refl
 
 pub keeps-reply : (g : Geometry) → KeepsReply g
-unfolding formerReply formerAnswer reply answer firstOf onZero volume
+unfolding formerReply formerAnswer replyBy answer firstOf onZero volume
 keeps-reply g img call ok h = rw (keeps-verdict g img (length (workOf call)) ok) (go (verdict g img (length (workOf call))) refl)
   where
     go : (n : ℕ) → verdict g img (length (workOf call)) ≡ n

@@ -30,7 +30,7 @@ use Rattle.frame.specs.Good.{spaceOf, systemOf, unitsOf, entryUnits, Cha
 use Rattle.frame.specs.Groups.{ImageGroups}
 use Rattle.frame.proofs.Accepted.{accepted-kept}
 use Rattle.frame.proofs.OwnerFacts.{units-linked, make-owned, owned-sectors-count, owned-minis-count}
-use Rattle.frame.proofs.SystemFacts.{bounded, sector-bytes, sector-limit, directory-chain, directory-long, mini-table, mini-cells, mini-rest, root-size, mini-fat-chain, mini-stream-chain, system-facts}
+use Rattle.frame.proofs.SystemFacts.{bounded, sector-bytes, sector-limit, directory-chain, directory-long, directory-counted, mini-table, mini-cells, mini-rest, root-size, mini-fat-chain, mini-stream-chain, system-facts}
 
 module _ {g : Geometry} {img : Bytes} (pos : 0 < g .sectorBytes) (ok : ImageGroups g img) where
   abbrev vol : Volume
@@ -113,6 +113,7 @@ module _ {g : Geometry} {img : Bytes} (pos : 0 < g .sectorBytes) (ok : ImageGrou
         trees = ok .volume .trees;
         directory = directory-chain pos ok;
         directoryLong = directory-long pos ok;
+        directoryCounted = directory-counted pos ok;
         miniFat = mini-fat-chain pos ok;
         miniStream = mini-stream-chain pos ok;
         rootSize = root-size pos ok;

@@ -14,7 +14,7 @@ use Rattle.format.specs.Layout.Entry.{isStream, start}
 use Rattle.format.specs.Layout.Directory.{directorySectors}
 use Rattle.format.specs.Layout.Volume.{Volume, systemSectors, directory, rootSize}
 use Rattle.format.specs.Layout.Stream.{spaceFor, streamUnits, streamSize}
-use Rattle.format.specs.Rules.Directory.{someChain, directoryRules}
+use Rattle.format.specs.Rules.Directory.{someChain, directoryRules, countRight}
 use Rattle.format.specs.Rules.Mini.{miniRules, miniFatChain, miniStreamChain, miniCellRight}
 use Rattle.format.specs.Rules.Streams.{streamChain, streamRules, streamRight}
 use Rattle.format.specs.Rules.Owners.{ownedSectors, ownedMinis, ownersIn, ownerRules}
@@ -44,7 +44,10 @@ unfolding directoryRules someChain miniRules streamRules streamRight streamChain
 good-groups v h =
     record {
       cells = h .cells;
-      directory = and-true-of (leb 1 (length (v .directorySectors))) _ (h .directoryLong) (chain-of (v .sectors) _ _ _ (h .directory));
+      directory =
+          and-true-of (someChain (v .sectors) (v .directorySectors) (v .directoryStart)) (countRight v)
+          (and-true-of (leb 1 (length (v .directorySectors))) _ (h .directoryLong) (chain-of (v .sectors) _ _ _ (h .directory)))
+          (h .directoryCounted);
       entries = h .entries;
       trees = h .trees;
       minis = rw (mini-chains v h .0, mini-chains v h .1, h .miniTable, mini-cells v h) (h .miniRest);

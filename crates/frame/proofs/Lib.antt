@@ -25,5 +25,6 @@ pub mod Change
 pub mod SectorChange
 pub mod MiniChange
 pub mod Resizing
+pub mod Versions
 pub mod Final
 pub mod FoldingPaths

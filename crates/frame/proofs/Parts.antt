@@ -29,7 +29,7 @@ use Rattle.frame.proofs.Places.{thing-fits, thing-index}
 use Rattle.frame.proofs.Things.{thing-far, thing-room}
 use Rattle.frame.proofs.Blocks.{Units}
 use Rattle.frame.proofs.Sound.{Sound, sys-count}
-use Rattle.frame.proofs.Views.{kept-cell, kept-sectorCount, kept-directoryStart, kept-miniFatStart, kept-miniFatCount, kept-fatCells, kept-fat, kept-difat, kept-header, kept-counts, kept-ends, kept-rest, kept-tableSectors}
+use Rattle.frame.proofs.Views.{kept-cell, kept-sectorCount, kept-directoryCount, kept-directoryStart, kept-miniFatStart, kept-miniFatCount, kept-fatCells, kept-fat, kept-difat, kept-header, kept-counts, kept-ends, kept-rest, kept-tableSectors}
 use Rattle.theory.proofs.Below.{length-below}
 use Rattle.frame.specs.Groups.{ImageGroups}
 use Rattle.theory.proofs.RoundUp.{round-enough}
@@ -203,6 +203,8 @@ module _ (g : Geometry) (z : Sized g) (T : List ℕ) (a b : Bytes) (x : Kept g (
           directorySectors = kept-dirs;
           miniFat = kept-miniFat;
           miniStream = kept-miniStream;
+          geometry = refl;
+          directoryCount = kept-directoryCount g z T a b x;
           directoryStart = kept-directoryStart g z T a b x;
           miniFatStart = kept-miniFatStart g z T a b x;
           miniFatCount = kept-miniFatCount g z T a b x;

@@ -22,7 +22,7 @@ use Rattle.format.specs.Layout.Directory.{directorySectors}
 use Rattle.format.specs.Layout.Volume.{Volume, volume, root, systemSectors, miniFatSectors, miniStreamSectors, directorySectorsOf, directory, rootSize}
 use Rattle.format.specs.Rules.Cells.{plainCell, restFree}
 use Rattle.format.specs.Rules.Tables.{tableRules, tableCounts, difatEnds, difatRest, tableSectors, tableMarks, isSector, markRight}
-use Rattle.format.specs.Rules.Directory.{someChain, directoryRules}
+use Rattle.format.specs.Rules.Directory.{someChain, directoryRules, countRight}
 use Rattle.format.specs.Rules.Mini.{miniRules, miniFatChain, miniStreamChain, miniCellRight}
 use Rattle.theory.specs.Links.{Linked}
 use Rattle.theory.proofs.Counts.{count-append}
@@ -60,18 +60,26 @@ module _ {g : Geometry} {img : Bytes} (pos : 0 < g .sectorBytes) (ok : ImageGrou
   pub sector-limit : N ≤ END
   sector-limit = omega (arith, bounded, sectors-below-length)
 
+  -- the parts of group 13
+  directory-parts : (someChain (vol .sectors) (vol .directorySectors) (vol .directoryStart) ≡ true) × (countRight vol ≡ true)
+  unfolding directoryRules
+  directory-parts = both (someChain (vol .sectors) (vol .directorySectors) (vol .directoryStart)) (countRight vol) (ok .volume .directory)
+
+  pub directory-counted : countRight vol ≡ true
+  directory-counted = directory-parts .1
+
   -- the system's chains
   pub directory-chain : Chain (vol .sectors) (vol .directorySectors) (vol .directoryStart) (length (vol .directorySectors))
-  unfolding directoryRules someChain volume directorySectorsOf directorySectors
+  unfolding someChain volume directorySectorsOf directorySectors
   directory-chain =
-      let h = both (leb 1 (length (vol .directorySectors))) (chain f N (length (vol .directorySectors)) (vol .directoryStart)) (ok .volume .directory) .1 in
+      let h = both (leb 1 (length (vol .directorySectors))) (chain f N (length (vol .directorySectors)) (vol .directoryStart)) (directory-parts .0) .1 in
       let c = chain-linked f N (length (vol .directorySectors)) (vol .directoryStart) h in
       let e = follow-units f N N (vol .directoryStart) in
       record { linked = subst (λ us. Linked f N us) e (c .0); head = subst (λ us. startOf us ≡ vol .directoryStart) e (c .1); long = refl }
 
   pub directory-long : leb 1 (length (vol .directorySectors)) ≡ true
-  unfolding directoryRules someChain volume
-  directory-long = both (leb 1 (length (vol .directorySectors))) (chain f N (length (vol .directorySectors)) (vol .directoryStart)) (ok .volume .directory) .0
+  unfolding someChain volume
+  directory-long = both (leb 1 (length (vol .directorySectors))) (chain f N (length (vol .directorySectors)) (vol .directoryStart)) (directory-parts .0) .0
 
   -- the parts of group 16
   mini-parts : (miniFatChain vol ≡ true) × (miniStreamChain vol ≡ true) × (leb (vol .minis .limit) (vol .minis .cells) ≡ true)

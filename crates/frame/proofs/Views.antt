@@ -10,9 +10,9 @@ use lib.ListN.{length, getD}
 use borrow.Author.Tests.{ltb-true, ltb-false}
 use Rattle.format.specs.Basics.Lists.{count}
 use Rattle.format.specs.Basics.Bytes.{Bytes, part, number, u16at, u32at}
-use Rattle.format.specs.Layout.Geometry.{Geometry, sectorPlace, placeIn, cellsIn, difatIn, headerDifat, sectorCount}
+use Rattle.format.specs.Layout.Geometry.{Geometry, sectorPlace, placeIn, cellsIn, difatIn, headerDifat, sectorCount, headerBytes}
 use Rattle.format.specs.Rules.Header.{headerRules}
-use Rattle.format.specs.Layout.Header.{fatCount, difatCount, difatStart, miniFatCount, directoryStart, miniFatStart, difatPlace}
+use Rattle.format.specs.Layout.Header.{fatCount, difatCount, difatStart, miniFatCount, directoryStart, miniFatStart, difatPlace, majorVersion, directoryCount}
 use Rattle.format.specs.Layout.Chain.{FREE}
 use Rattle.format.specs.Layout.Tables.{difatSector, difatEntry, cellPlaceIn, cellIn, fatSectors, difatSectors, fatCells}
 use Rattle.format.specs.Rules.Tables.{difatNeed, tableCounts, difatEnds, difatRest, tableSectors, spareEntryFree, isSector}
@@ -40,6 +40,10 @@ module _ (g : Geometry) (z : Sized g) (T : List ℕ) (a b : Bytes) (x : Kept g (
   pub kept-fatCount : fatCount b ≡ fatCount a
   unfolding fatCount u32at
   kept-fatCount = let w = z .wide in number-head g (Off T) a b x 44 4 (omega arith)
+
+  pub kept-directoryCount : directoryCount b ≡ directoryCount a
+  unfolding directoryCount u32at
+  kept-directoryCount = let w = z .wide in number-head g (Off T) a b x 40 4 (omega arith)
 
   pub kept-directoryStart : directoryStart b ≡ directoryStart a
   unfolding directoryStart u32at
@@ -69,8 +73,9 @@ module _ (g : Geometry) (z : Sized g) (T : List ℕ) (a b : Bytes) (x : Kept g (
   hp k n h = let w = z .wide in part-head g (Off T) a b x k n (omega arith)
 
   pub kept-header : headerRules g b ≡ headerRules g a
-  unfolding headerRules u16at u32at
+  unfolding headerRules majorVersion directoryCount headerBytes u16at u32at
   kept-header =
+      let w = z .wide in
       rw (
         hp 0 8 (omega arith),
         hp 8 16 (omega arith),
@@ -81,6 +86,7 @@ module _ (g : Geometry) (z : Sized g) (T : List ℕ) (a b : Bytes) (x : Kept g (
         hp 34 6 (omega arith),
         hp 40 4 (omega arith),
         hp 56 4 (omega arith),
+        part-head g (Off T) a b x 512 (g .sectorBytes - 512) (omega arith),
       )
 
   pub kept-fatCells : fatCells g b ≡ fatCells g a

@@ -43,6 +43,8 @@ pub record SameParts (v w : Volume) : Type 0 where
   pub directorySectors : w .directorySectors ≡ v .directorySectors
   pub miniFat : w .miniFat ≡ v .miniFat
   pub miniStream : w .miniStream ≡ v .miniStream
+  pub geometry : w .geometry ≡ v .geometry
+  pub directoryCount : w .directoryCount ≡ v .directoryCount
   pub directoryStart : w .directoryStart ≡ v .directoryStart
   pub miniFatStart : w .miniFatStart ≡ v .miniFatStart
   pub miniFatCount : w .miniFatCount ≡ v .miniFatCount

@@ -5,6 +5,7 @@ use mathlib.Core.Bool.{Bool, true, cond, _&&_, Bool·beq}
 use mathlib.Core.List.{List, []}
 use lib.Dec.{eqb, ltb, leb}
 use lib.ListN.{length}
+use Rattle.format.specs.Rules.Directory.{countRight}
 use Rattle.format.specs.Basics.Lists.{listBelow}
 use Rattle.format.specs.Layout.Need.{cutoff, roundUp}
 use Rattle.format.specs.Layout.Geometry.{miniBytes}
@@ -53,6 +54,7 @@ pub record Good (v : Volume) : Type 0 where
   -- 13
   pub directory : Chain (v .sectors) (v .directorySectors) (v .directoryStart) (length (v .directorySectors))
   pub directoryLong : leb 1 (length (v .directorySectors)) ≡ true
+  pub directoryCounted : countRight v ≡ true
   -- 16
   pub miniFat : Chain (v .sectors) (v .miniFat) (v .miniFatStart) (v .miniFatCount)
   pub miniStream : Chain (v .sectors) (v .miniStream) (start (root v)) (roundUp (rootSize v) (v .sectors .unit))

@@ -1,13 +1,14 @@
 -- Group 10 as the code reads it.
-use Prim.Native.Nat.{ℕ, zero, suc, _≤_, _<_}
+use Prim.Native.Nat.{ℕ, zero, suc, _-_, _≤_, _<_}
 use mathlib.Core.Path.{_≡_, refl, sym, _∙_, ap}
-use mathlib.Core.Bool.{_&&_}
+use mathlib.Core.Bool.{_&&_, _||_}
 use mathlib.Core.List.{[], _∷_}
 use native.Mathlib.Omega.{arith}
 use lib.Dec.{eqb}
 use lib.ListN.{length, getD}
-use Rattle.format.specs.Basics.Bytes.{Bytes, u16at, u32at, u64at, part, number}
-use Rattle.format.specs.Layout.Geometry.{Geometry}
+use Rattle.format.specs.Basics.Bytes.{Bytes, u16at, u32at, u64at, part, number, allZero}
+use Rattle.format.specs.Layout.Geometry.{Geometry, countsDirectory, headerBytes}
+use Rattle.format.specs.Layout.Header.{majorVersion, directoryCount}
 use Rattle.format.specs.Layout.Need.{cutoff}
 use Rattle.format.specs.Basics.Lists.{equal}
 use Rattle.format.specs.Rules.Header.{headerRules, signature, byteOrder, miniShift}
@@ -52,8 +53,9 @@ pub header-numbers : (g : Geometry) (img : Bytes) → 512 ≤ length img → ((i
     && eqb (u16at img 30) (g .shift)
     && eqb (u16at img 32) 6
     && (eqb (u32at img 34) 0 && eqb (u16at img 38) 0)
-    && eqb (u32at img 40) 0
-    && eqb (u32at img 56) 4096)
-unfolding headerRules byteOrder miniShift cutoff u64at u32at u16at
+    && (countsDirectory g || eqb (directoryCount img) 0)
+    && eqb (u32at img 56) 4096
+    && allZero (part img 512 (g .sectorBytes - 512)))
+unfolding headerRules majorVersion headerBytes byteOrder miniShift cutoff u64at u32at u16at
 header-numbers g img l h =
     rw (signed img l h, zero-split img 8 8 8, zero-split img 34 4 2, zero-number (part img 8 8), zero-number (part img 16 8), zero-number (part img 34 4), zero-number (part img 38 2))

@@ -1,16 +1,20 @@
 // The lengths of image and work buffer, and the header: its fields, and group 10.
 ghost use mathlib.Core.Path.{_≡_};
 ghost use Prim.Native.Nat.{_≤_, _<_};
+ghost use mathlib.Core.Bool.{not, _||_};
+ghost use lib.Dec.{eqb};
 ghost use lib.ListN.{length};
-ghost use Rattle.format.specs.Layout.Geometry.{sectorCount, headerDifat};
-ghost use Rattle.format.specs.Layout.Header.{directoryStart, miniFatStart, miniFatCount, difatStart};
+ghost use Rattle.format.specs.Layout.Geometry.{countsDirectory, sectorCount, headerDifat};
+ghost use Rattle.format.specs.Layout.Header.{directoryCount, directoryStart, miniFatStart, miniFatCount, difatStart};
 ghost use Rattle.format.specs.Layout.Tables.{difatEntry};
 ghost use Rattle.format.specs.Rules.Length.{lengthAllowed, workNeed};
+ghost use Rattle.format.specs.Rules.Version.{versionOf};
 ghost use Rattle.format.specs.Rules.Header.{headerRules};
 ghost use Rattle.kinds.specs.Sizes.{geometryOf};
 ghost use Rattle.header.specs.Sized.{ImageSized, F, D};
 use kinds::Geometry;
 use kinds::Sector;
+use le::all_zero;
 use le::u16_at;
 use le::u32_at;
 use le::u64_at;
@@ -34,6 +38,20 @@ pub fn work_need(n: usize) -> usize
     13 * (n / 512)
 }
 
+// ---- the version
+
+// The sizes that an image goes by. Its version is read only where version 3 allows its length; a number other than 4 counts as 3.
+pub fn version_of(img: &[u8]) -> Geometry
+    ensures { λ r. ⌜ geometryOf r ≡ versionOf (now (img .entry)) ⌝ }
+{
+    if length_allowed(img.len(), Geometry::V3) {
+        if u16_at(img, 26) == 4 {
+            return Geometry::V4;
+        }
+    }
+    Geometry::V3
+}
+
 // ---- group 10
 
 pub fn header_rules(img: &[u8], g: Geometry) -> bool
@@ -47,8 +65,9 @@ pub fn header_rules(img: &[u8], g: Geometry) -> bool
         & (u16_at(img, 30) == g.shift)
         & (u16_at(img, 32) == 6)
         & ((u32_at(img, 34) == 0) & (u16_at(img, 38) == 0))
-        & (u32_at(img, 40) == 0)
+        & (g.counts_directory() | (directory_count(img) == 0))
         & (u32_at(img, 56) == 4096)
+        & all_zero(img, 512, g.bytes - 512)
 }
 
 // How many sectors there are.
@@ -86,6 +105,22 @@ pub fn mini_fat_count(img: &[u8]) -> u32
     ensures { λ r. ⌜ r ≡ miniFatCount (now (img .entry)) ⌝ }
 {
     u32_at(img, 64)
+}
+
+// How many sectors the directory has, where the version says it.
+pub fn directory_count(img: &[u8]) -> u32
+    requires { ⌜ 512 ≤ length (now img) ⌝ }
+    ensures { λ r. ⌜ r ≡ directoryCount (now (img .entry)) ⌝ }
+{
+    u32_at(img, 40)
+}
+
+// Whether the header counts n sectors of the directory, or counts none at all.
+pub fn count_right(img: &[u8], g: Geometry, n: usize) -> bool
+    requires { ⌜ 512 ≤ length (now img) ⌝ }
+    ensures { λ r. ⌜ r ≡ not (countsDirectory (geometryOf g)) || eqb (directoryCount (now (img .entry))) n ⌝ }
+{
+    !g.counts_directory() | (directory_count(img) as usize == n)
 }
 
 // Where the directory's chain starts.

@@ -13,6 +13,7 @@ use Rattle.format.specs.Layout.Geometry.{Geometry}
 use Rattle.format.specs.Layout.Space.{freeUnits}
 use Rattle.format.specs.Layout.Stream.{streamSize}
 use Rattle.format.specs.Layout.Volume.{Volume, volume}
+use Rattle.format.specs.Rules.Version.{versionOf}
 use Rattle.format.specs.Rules.Verdict.{Accepted}
 use Rattle.format.specs.Calls.Answer.{target, answer, firstOf}
 use Rattle.format.specs.Calls.Reply.{onZero}
@@ -21,7 +22,7 @@ use Rattle.format.specs.Calls.Find.{Found, at, refused, resolveStream, answerOf
 use Rattle.format.specs.Calls.SetLength.{crosses, tooFew, resized}
 use Rattle.format.specs.Calls.Overwrite.{overwritten}
 use Rattle.format.specs.Calls.Call.{Call, validate, find, read, overwrite, setLength, list}
-use Rattle.format.specs.Calls.Buffers.{edited, imageAfter}
+use Rattle.format.specs.Calls.Buffers.{edited, imageAfterBy, imageAfter}
 use Rattle.format.specs.History.Rows.{rowsOf}
 use Rattle.format.specs.History.Setting.{settingOf}
 use Rattle.format.specs.History.Step.{accepts, changed, change, rowsStep, rowsAfter, putInto}
@@ -34,6 +35,7 @@ use Rattle.history.proofs.Answers.{answers-0-iff, answers-26-iff, write
 use Rattle.history.proofs.EditStep.{preserved-itself, write-step}
 use Rattle.history.proofs.LengthStep.{length-step}
 use Rattle.history.proofs.Filled.{frame-sized, Sized}
+use Rattle.frame.proofs.Versions.{version-cases, accepted-version}
 use Rattle.history.specs.Step.{Step, CallStep, After, lengthRows}
 
 on-zero-same : (n : ℕ) (x : Bytes) → onZero n x x ≡ x
@@ -63,9 +65,11 @@ module _ (g : Geometry) (pos : 0 < g .sectorBytes) (fr : Frame g) (img : Bytes) 
   sized = frame-sized fr img acc
 
   -- what holds of the image itself
-  pub holds-now : Holds g (settingOf g img) img (rowsOf g img)
-  holds-now =
+  pub holds-now : versionOf img ≡ g → Holds (settingOf g img) img (rowsOf g img)
+  unfolding settingOf
+  holds-now own =
       record {
+        version = own;
         accepted = acc;
         streams = refl;
         sectors = allocated-sectors g pos img acc sized;
@@ -111,7 +115,7 @@ module _ (g : Geometry) (pos : 0 < g .sectorBytes) (fr : Frame g) (img : Bytes) 
   accepted-step (list out work) h a = absurd (clash h refl)
 
   edit-call : (c : Call) → isEdit c ≡ true → CallStep g img c
-  unfolding imageAfter rowsStep onZero
+  unfolding imageAfterBy rowsStep onZero
   edit-call c h = go (answer g img c) refl
     where
       says : (answer g img c ≡ 0) ↔ (accepts (settingOf g img) (rowsOf g img) c ≡ true)
@@ -127,8 +131,8 @@ module _ (g : Geometry) (pos : 0 < g .sectorBytes) (fr : Frame g) (img : Bytes) 
       go (suc n) e = rw (refusal n e (accepts (settingOf g img) (rowsOf g img) c) refl) unchanged-step
 
   other-call : (c : Call) → edited v img c ≡ img → accepts (settingOf g img) (rowsOf g img) c ≡ false →
-      Step g img (imageAfter g img c) (rowsStep (settingOf g img) (rowsOf g img) c)
-  unfolding imageAfter rowsStep
+      Step g img (imageAfterBy g img c) (rowsStep (settingOf g img) (rowsOf g img) c)
+  unfolding imageAfterBy rowsStep
   other-call c e a = rw (e, a, on-zero-same (answer g img c) img) unchanged-step
 
   pub call-step : (c : Call) → CallStep g img c
@@ -140,16 +144,21 @@ module _ (g : Geometry) (pos : 0 < g .sectorBytes) (fr : Frame g) (img : Bytes) 
   call-step (setLength p new work) = edit-call (setLength p new work) refl
   call-step (list out work) = other-call (list out work) refl refl
 
--- ---- every list of calls
+-- ---- every list of calls: each call reads the image's version, and that stays
 
-list-after : (g : Geometry) → 0 < g .sectorBytes → Frame g → (img : Bytes) (calls : List Call) → Accepted g img → After g img calls
-unfolding after rowsAfter
-list-after g pos fr img [] acc = holds-now g pos fr img acc
-list-after g pos fr img (c ∷ calls) acc =
-    let s = call-step g pos fr img acc c in
-    let h = list-after g pos fr (imageAfter g img c) calls (s .accepted) in
-    subst (λ rows. Holds g (settingOf g img) (after g (imageAfter g img c) calls) (rowsAfter (settingOf g img) rows calls)) (s .rows)
-    (subst (λ st. Holds g st (after g (imageAfter g img c) calls) (rowsAfter st (rowsOf g (imageAfter g img c)) calls)) (s .setting) h)
+module _ (pos : (img : Bytes) → 0 < versionOf img .sectorBytes) (fr : (img : Bytes) → Frame (versionOf img)) where
+  list-after : (img : Bytes) (calls : List Call) → Accepted (versionOf img) img → After img calls
+  unfolding after rowsAfter
+  list-after img [] acc = holds-now (versionOf img) (pos img) (fr img) img acc refl
+  list-after img (c ∷ calls) acc =
+      let g = versionOf img in
+      let next = imageAfter img c in
+      let s = call-step g (pos img) (fr img) img acc c in
+      let e = accepted-version g next (version-cases img) (s .accepted) in
+      let h = list-after next calls (subst (λ (x : Geometry). Accepted x next) (sym e) (s .accepted)) in
+      let same = subst (λ (x : Geometry). Holds (settingOf x next) (after next calls) (rowsAfter (settingOf x next) (rowsOf x next) calls)) e h in
+      subst (λ rows. Holds (settingOf g img) (after next calls) (rowsAfter (settingOf g img) rows calls)) (s .rows)
+      (subst (λ st. Holds st (after next calls) (rowsAfter st (rowsOf g next) calls)) (s .setting) same)
 
-pub demand3 : (g : Geometry) → 0 < g .sectorBytes → Frame g → Demand3 g
-demand3 g pos fr = list-after g pos fr
+  pub demand3 : Demand3
+  demand3 = list-after

@@ -1,13 +1,9 @@
--- DEMAND 3: for every accepted image and every list of calls. For version 3, and for every sector size that the frame laws allow.
+-- DEMAND 3: for every accepted image of either version and every list of calls.
 use native.Mathlib.Omega.{arith}
-use Rattle.format.specs.Layout.Geometry.{Geometry, version3}
+use Rattle.format.specs.Rules.Version.{versionOf}
 use Rattle.format.specs.History.Claim.{Demand3}
-use Rattle.frame.specs.Kept.{Sized}
-use Rattle.frame.proofs.Final.{frame, sized3}
-use Rattle.history.proofs.Demand.{demand3}
+use Rattle.frame.proofs.Final.{frame, own-sized}
+use Rattle.history.proofs.Demand.{demand3 as demand3-for}
 
-pub demand3-for : (g : Geometry) → Sized g → Demand3 g
-demand3-for g z = demand3 g (let w = z .wide in omega arith) (frame g z)
-
-pub demand3-version3 : Demand3 version3
-demand3-version3 = demand3-for version3 sized3
+pub demand3 : Demand3
+demand3 = demand3-for (λ img. let w = own-sized img .wide in omega arith) (λ img. frame (versionOf img) (own-sized img))

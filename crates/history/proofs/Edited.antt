@@ -8,6 +8,7 @@ use native.Mathlib.Omega.{arith}
 use native.Mathlib.Decide.{ℕ-discrete}
 use lib.Dec.{ltb}
 use lib.ListN.{length}
+use Rattle.format.specs.Rules.Directory.{countRight}
 use Rattle.format.specs.Basics.Lists.{allBelow, count}
 use Rattle.format.specs.Basics.Bytes.{Bytes}
 use Rattle.format.specs.Layout.Need.{cutoff, roundUp}
@@ -138,6 +139,10 @@ module _ {v w : Volume} {img img′ : Bytes} {e new : ℕ} {ws : Bool → List �
   unfolding rootSize sizeOf root
   root-size-same = ap₂ size (x .parts .sizeWidth) root-same
 
+  counted-same : countRight w ≡ true
+  unfolding countRight
+  counted-same = rw (x .parts .geometry, x .parts .directoryCount, x .parts .directorySectors) (o .directoryCounted)
+
   streams-after : (i : ℕ) → i < w .directory .count → isStream (w .directory .entry i) ≡ true
       → Chain (spaceOf w (sideOf w i)) (streamUnits w i) (start (w .directory .entry i))
       (roundUp (streamSize w i) (spaceOf w (sideOf w i) .unit))
@@ -172,6 +177,7 @@ module _ {v w : Volume} {img img′ : Bytes} {e new : ℕ} {ws : Bool → List �
         directory = rw (x .parts .directorySectors, x .parts .directoryStart)
             (system-chain-stays (v .directorySectors) (v .directoryStart) (length (v .directorySectors)) (λ t q. omega (arith, counts-in-system t .0)) (o .directory));
         directoryLong = rw (x .parts .directorySectors) (o .directoryLong);
+        directoryCounted = counted-same;
         miniFat = rw (x .parts .miniFat, x .parts .miniFatStart, x .parts .miniFatCount)
             (system-chain-stays (v .miniFat) (v .miniFatStart) (v .miniFatCount) (λ t q. omega (arith, counts-in-system t .1)) (o .miniFat));
         miniStream =

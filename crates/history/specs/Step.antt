@@ -8,10 +8,11 @@ use Rattle.format.specs.Basics.Lists.{fit}
 use Rattle.format.specs.Layout.Geometry.{Geometry}
 use Rattle.format.specs.Layout.Need.{roundUp}
 use Rattle.format.specs.Layout.Space.{Space, freeUnits}
+use Rattle.format.specs.Rules.Version.{versionOf}
 use Rattle.format.specs.Rules.Verdict.{Accepted}
 use Rattle.format.specs.Calls.Paths.{Path}
 use Rattle.format.specs.Calls.Call.{Call}
-use Rattle.format.specs.Calls.Buffers.{imageAfter}
+use Rattle.format.specs.Calls.Buffers.{imageAfterBy}
 use Rattle.format.specs.History.Rows.{Row, rowsOf}
 use Rattle.format.specs.History.Setting.{settingOf}
 use Rattle.format.specs.History.Step.{change, rowsStep, rowsAfter}
@@ -27,7 +28,7 @@ pub record Step (g : Geometry) (img img′ : Bytes) (rows′ : List Row) : Type 
 
 -- a call leaves the image and the rows that the definitions say
 abbrev pub CallStep : Geometry → Bytes → Call → Type 0
-CallStep g img c = Step g img (imageAfter g img c) (rowsStep (settingOf g img) (rowsOf g img) c)
+CallStep g img c = Step g img (imageAfterBy g img c) (rowsStep (settingOf g img) (rowsOf g img) c)
 
 -- what an accepted change of length makes of a stream's bytes, and the rows after it
 abbrev pub resizedBytes : ℕ → Bytes → Bytes
@@ -41,5 +42,7 @@ abbrev pub Enough : Space → List ℕ → ℕ → Type 0
 Enough sp us new = roundUp new (sp .unit) ≤ length us + length (freeUnits sp)
 
 -- what holds after the whole list: demand 3 of one image
-abbrev pub After : Geometry → Bytes → List Call → Type 0
-After g img calls = Holds g (settingOf g img) (after g img calls) (rowsAfter (settingOf g img) (rowsOf g img) calls)
+abbrev pub After : Bytes → List Call → Type 0
+After img calls =
+    Holds (settingOf (versionOf img) img) (after img calls)
+    (rowsAfter (settingOf (versionOf img) img) (rowsOf (versionOf img) img) calls)

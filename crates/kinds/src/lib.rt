@@ -1,10 +1,10 @@
 // Kinds of number, each its own type with its special values: sectors, mini sectors, entries; the geometry; the order of names; answers.
 ghost use mathlib.Core.Path.{_≡_};
-ghost use Prim.Native.Nat.{_+_, _≤_, _<_, _*_};
+ghost use Prim.Native.Nat.{_+_, _≤_, _<_, _*_, _/_, _%_};
 ghost use lib.Dec.{eqb, ltb};
 ghost use Rattle.format.specs.Layout.Chain.{FREE, END, FATSECT, DIFSECT};
 ghost use Rattle.format.specs.Layout.Entry.{NOSTREAM};
-ghost use Rattle.format.specs.Layout.Geometry.{sectorPlace, cellsIn, difatIn, entriesIn};
+ghost use Rattle.format.specs.Layout.Geometry.{countsDirectory, sectorPlace, cellsIn, difatIn, entriesIn};
 ghost use Rattle.kinds.specs.Sizes.{geometryOf};
 ghost use Rattle.kinds.specs.Numbers.{refusalNumber, numberOf};
 
@@ -24,11 +24,52 @@ impl Geometry {
         bytes: 512,
     };
 
+    pub const V4: Geometry = Geometry {
+        major: 4,
+        shift: 12,
+        bytes: 4096,
+    };
+
+    // Whether the header says how many sectors the directory has.
+    pub fn counts_directory(self) -> bool
+        ensures { λ r. ⌜ r ≡ countsDirectory (geometryOf self) ⌝ }
+    {
+        self.major != 3
+    }
+
     // The cells of a FAT or mini FAT sector.
     pub fn cells(self) -> usize
         ensures { λ r. ⌜ r ≡ cellsIn (geometryOf self) ⌝ }
     {
         self.bytes / 4
+    }
+
+    // Which sector of a table has cell i, and which of its cells that is. Each version's count stands here as a constant, so that
+    // nothing is divided by a number that the compiler does not know.
+    pub fn cell_sector(self, i: usize) -> usize
+        requires { ⌜ 4 ≤ self .bytes ⌝ }
+        ensures { λ r. ⌜ r ≡ i / cellsIn (geometryOf self) ⌝ }
+    {
+        if self.bytes == Geometry::V3.bytes {
+            return i / 128;
+        }
+        if self.bytes == Geometry::V4.bytes {
+            return i / 1024;
+        }
+        i / (self.bytes / 4)
+    }
+
+    pub fn cell_index(self, i: usize) -> usize
+        requires { ⌜ 4 ≤ self .bytes ⌝ }
+        ensures { λ r. ⌜ r ≡ i % cellsIn (geometryOf self) ⌝ }
+    {
+        if self.bytes == Geometry::V3.bytes {
+            return i % 128;
+        }
+        if self.bytes == Geometry::V4.bytes {
+            return i % 1024;
+        }
+        i % (self.bytes / 4)
     }
 
     // The entries of a DIFAT sector, which ends with a link.
@@ -44,6 +85,33 @@ impl Geometry {
         ensures { λ r. ⌜ r ≡ entriesIn (geometryOf self) ⌝ }
     {
         self.bytes / 128
+    }
+
+    // Which sector of the directory has entry i, and which of its entries that is.
+    pub fn entry_sector(self, i: usize) -> usize
+        requires { ⌜ 128 ≤ self .bytes ⌝ }
+        ensures { λ r. ⌜ r ≡ i / entriesIn (geometryOf self) ⌝ }
+    {
+        if self.bytes == Geometry::V3.bytes {
+            return i / 4;
+        }
+        if self.bytes == Geometry::V4.bytes {
+            return i / 32;
+        }
+        i / (self.bytes / 128)
+    }
+
+    pub fn entry_index(self, i: usize) -> usize
+        requires { ⌜ 128 ≤ self .bytes ⌝ }
+        ensures { λ r. ⌜ r ≡ i % entriesIn (geometryOf self) ⌝ }
+    {
+        if self.bytes == Geometry::V3.bytes {
+            return i % 4;
+        }
+        if self.bytes == Geometry::V4.bytes {
+            return i % 32;
+        }
+        i % (self.bytes / 128)
     }
 }
 

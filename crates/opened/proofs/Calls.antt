@@ -10,6 +10,7 @@ use Rattle.format.specs.Basics.Bytes.{Bytes}
 use Rattle.format.specs.Layout.Geometry.{Geometry}
 use Rattle.format.specs.Layout.Volume.{volume}
 use Rattle.format.specs.Rules.Length.{workNeed}
+use Rattle.format.specs.Rules.Version.{versionOf}
 use Rattle.format.specs.Rules.Verdict.{verdict, Accepted}
 use Rattle.format.specs.Calls.Call.{Call, workOf}
 use Rattle.format.specs.Calls.Reply.{reply}
@@ -18,6 +19,7 @@ use Rattle.frame.specs.Groups.{ImageGroups}
 use Rattle.frame.specs.Kept.{Sized}
 use Rattle.frame.proofs.Accepted.{accepted-kept, kept-accepted}
 use Rattle.frame.proofs.Final.{frame}
+use Rattle.frame.proofs.Versions.{version-cases, accepted-version}
 use Rattle.history.specs.Step.{CallStep}
 use Rattle.history.proofs.Answers.{verdict-accepted}
 use Rattle.history.proofs.Demand.{call-step}
@@ -38,7 +40,10 @@ use Rattle.opened.specs.OpenVolume.{OpenVolume}
 use Rattle.opened.specs.Opening.{OpeningRight}
 use Rattle.opened.proofs.Kept.{readied-after}
 
-module _ {g : Geometry} {v : Volume} {img : Bytes} {w : List ℕ} (s : OpenVolume g v img w) where
+module _ {v : Volume} {img : Bytes} {w : List ℕ} (s : OpenVolume v img w) where
+  abbrev g : Geometry
+  g = versionOf img
+
   pub opened-accepted : Accepted g img
   opened-accepted = kept-accepted g img (subst (λ x. ImageGroups x img) (s .version) (s .opened .groups))
 
@@ -59,13 +64,13 @@ module _ {g : Geometry} {v : Volume} {img : Bytes} {w : List ℕ} (s : OpenVolum
     zero : verdict g img (length (workOf call)) ≡ 0
     zero = opened-zero (length (workOf call)) (omega (arith, ap length e, s .room))
 
-    pub opened-reply : replyIn (geometryOf (v .tables .geometry)) (volume (geometryOf (v .tables .geometry)) img) call ≡ reply g img call
+    pub opened-reply : replyIn (geometryOf (v .tables .geometry)) (volume (geometryOf (v .tables .geometry)) img) call ≡ reply img call
     opened-reply = rw (s .version) (sym (reply-in g img call zero))
 
-    pub opened-out : outIn (geometryOf (v .tables .geometry)) (volume (geometryOf (v .tables .geometry)) img) img call ≡ outAfter g img call
+    pub opened-out : outIn (geometryOf (v .tables .geometry)) (volume (geometryOf (v .tables .geometry)) img) img call ≡ outAfter img call
     opened-out = rw (s .version) (sym (out-in g img call zero))
 
-    pub opened-image : imageIn (geometryOf (v .tables .geometry)) (volume (geometryOf (v .tables .geometry)) img) img call ≡ imageAfter g img call
+    pub opened-image : imageIn (geometryOf (v .tables .geometry)) (volume (geometryOf (v .tables .geometry)) img) img call ≡ imageAfter img call
     opened-image = rw (s .version) (sym (image-in g img call zero))
 
   -- ---- what it leaves
@@ -73,29 +78,29 @@ module _ {g : Geometry} {v : Volume} {img : Bytes} {w : List ℕ} (s : OpenVolum
   step : (call : Call) → CallStep g img call
   step call = let z = opened-sized in call-step g (omega (arith, z .wide)) (frame g z) img opened-accepted call
 
-  pub opened-length : (call : Call) → length (imageAfter g img call) ≡ length img
+  pub opened-length : (call : Call) → length (imageAfter img call) ≡ length img
   opened-length call = step call .kept .length
 
   -- whatever the call answered
-  pub opened-after : (call : Call) {w₁ : List ℕ} → Wrote w w₁ 0 (v .stream) → OpenVolume g v (imageAfter g img call) w₁
+  pub opened-after : (call : Call) {w₁ : List ℕ} → Wrote w w₁ 0 (v .stream) → OpenVolume v (imageAfter img call) w₁
   opened-after call {w₁} r =
       let c = step call in
-      let o = accepted-kept g (imageAfter g img call) (c .accepted) in
+      let o = accepted-kept g (imageAfter img call) (c .accepted) in
       let k = c .kept in
       record {
         opened = record {
           ready = readied-after (rw (s .version) k) (rw (s .version) o) (ready-kept r (omega arith) (s .opened .ready));
           groups = rw (s .version) o;
         };
-        version = s .version;
+        version = s .version ∙ sym (accepted-version g (imageAfter img call) (version-cases img) (c .accepted));
         room = omega (arith, ap workNeed (k .length), s .room, r .long);
       }
 
-  pub opened-edited : (call : Call) {img₁ : Bytes} {w₁ : List ℕ} → img₁ ≡ imageAfter g img call → Wrote w w₁ 0 (v .stream) → OpenVolume g v img₁ w₁ × Wrote w w₁ 0 (workNeed (length img))
-  opened-edited call {w₁ = w₁} e r = (subst (λ i. OpenVolume g v i w₁) (sym e) (opened-after call r), gathered-within (s .opened .ready) r)
+  pub opened-edited : (call : Call) {img₁ : Bytes} {w₁ : List ℕ} → img₁ ≡ imageAfter img call → Wrote w w₁ 0 (v .stream) → OpenVolume v img₁ w₁ × Wrote w w₁ 0 (workNeed (length img))
+  opened-edited call {w₁ = w₁} e r = (subst (λ i. OpenVolume v i w₁) (sym e) (opened-after call r), gathered-within (s .opened .ready) r)
 
   -- a call that is lent the image to read
-  pub opened-same : {w₁ : List ℕ} → Wrote w w₁ 0 (v .stream) → OpenVolume g v img w₁ × Wrote w w₁ 0 (workNeed (length img))
+  pub opened-same : {w₁ : List ℕ} → Wrote w w₁ 0 (v .stream) → OpenVolume v img w₁ × Wrote w w₁ 0 (workNeed (length img))
   opened-same r = (
     record {
       opened = record { ready = ready-kept r (omega arith) (s .opened .ready); groups = s .opened .groups };
@@ -107,16 +112,15 @@ module _ {g : Geometry} {v : Volume} {img : Bytes} {w : List ℕ} (s : OpenVolum
 
 -- ---- opening
 
-pub opening-right : (g : Geometry) (img : Bytes) (w w₁ : List ℕ) (r : Opened) → OpenedRight g img w w₁ r → OpeningRight g img w w₁ r
-opening-right g img w w₁ (Refused a) o = o
-opening-right g img w w₁ (Ready v) o = (
-  o .0,
-  (record { opened = ready-open g img w w₁ (Ready v) o refl; version = o .1 .0; room = ready-room g img w w₁ (Ready v) o refl }, o .1 .1 .1 .1),
-)
+pub opening-right : (img : Bytes) (w w₁ : List ℕ) (r : Opened) → OpenedRight (versionOf img) img w w₁ r → OpeningRight img w w₁ r
+opening-right img w w₁ (Refused a) o = o
+opening-right img w w₁ (Ready v) o =
+    let g = versionOf img in
+    (o .0, (record { opened = ready-open g img w w₁ (Ready v) o refl; version = o .1 .0; room = ready-room g img w w₁ (Ready v) o refl }, o .1 .1 .1 .1))
 
-module _ (g : Geometry) (img : Bytes) (w w₁ : List ℕ) (r : Opened) (o : OpeningRight g img w w₁ r) where
-  pub opening-ready : {v : Volume} → r ≡ Ready v → OpeningRight g img w w₁ (Ready v)
-  opening-ready e = subst (λ y. OpeningRight g img w w₁ y) e o
+module _ (img : Bytes) (w w₁ : List ℕ) (r : Opened) (o : OpeningRight img w w₁ r) where
+  pub opening-ready : {v : Volume} → r ≡ Ready v → OpeningRight img w w₁ (Ready v)
+  opening-ready e = subst (λ y. OpeningRight img w w₁ y) e o
 
-  pub opening-refused : {a : Refusal} → r ≡ Refused a → OpenedRight g img w w₁ (Refused a)
-  opening-refused e = subst (λ y. OpeningRight g img w w₁ y) e o
+  pub opening-refused : {a : Refusal} → r ≡ Refused a → OpenedRight (versionOf img) img w w₁ (Refused a)
+  opening-refused e = subst (λ y. OpeningRight img w w₁ y) e o

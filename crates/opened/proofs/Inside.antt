@@ -21,8 +21,8 @@ use Rattle.format.specs.Calls.Listing.{listing}
 use Rattle.format.specs.Calls.Find.{Found, at, refused, answerOf, resolve, resolveStream}
 use Rattle.format.specs.Calls.Call.{Call, validate, find, read, overwrite, setLength, list, workOf}
 use Rattle.format.specs.Calls.Answer.{firstOf, target, targetAnswer, beyond, lengthAnswer, answerIn, answer}
-use Rattle.format.specs.Calls.Reply.{reply}
-use Rattle.format.specs.Calls.Buffers.{workCleared, imageAfter, outAfter, workAfter}
+use Rattle.format.specs.Calls.Reply.{replyBy}
+use Rattle.format.specs.Calls.Buffers.{workCleared, imageAfterBy, outAfterBy, workAfterBy}
 use Rattle.theory.proofs.Refusals.{RefusedLow, resolve-low, resolve-stream-low}
 use Rattle.tables.specs.Work.{Wrote}
 use Rattle.frame.proofs.Accepted.{accepted-kept}
@@ -83,19 +83,19 @@ module _ (g : Geometry) (img : Bytes) (c : Call) (h : verdict g img (length (wor
   unfolding answer firstOf
   answer-in = rw h
 
-  pub reply-in : reply g img c ≡ replyIn g (volume g img) c
-  unfolding reply replyIn
+  pub reply-in : replyBy g img c ≡ replyIn g (volume g img) c
+  unfolding replyBy replyIn
   reply-in = rw answer-in
 
-  pub out-in : outAfter g img c ≡ outIn g (volume g img) img c
-  unfolding outAfter outIn
+  pub out-in : outAfterBy g img c ≡ outIn g (volume g img) img c
+  unfolding outAfterBy outIn
   out-in = rw answer-in
 
-  pub image-in : imageAfter g img c ≡ imageIn g (volume g img) img c
-  unfolding imageAfter imageIn
+  pub image-in : imageAfterBy g img c ≡ imageIn g (volume g img) img c
+  unfolding imageAfterBy imageIn
   image-in = rw answer-in
 
-  pub work-in : {w₁ w₂ : List ℕ} → Wrote (workOf c) w₁ 0 (workNeed (length img)) → w₂ ≡ workCleared (workNeed (length img)) w₁ → w₂ ≡ workAfter g img c
+  pub work-in : {w₁ w₂ : List ℕ} → Wrote (workOf c) w₁ 0 (workNeed (length img)) → w₂ ≡ workCleared (workNeed (length img)) w₁ → w₂ ≡ workAfterBy g img c
   work-in r e =
       let l = late g (volume g img) c in
       left-cleared (answer g img c) img (workOf c) (⊎-elim (λ z. omega (arith, z, answer-in)) (λ z. omega (arith, z, answer-in)) l) (⊎-elim (λ z. omega (arith, z, answer-in)) (λ z. omega (arith, z, answer-in)) l) r e

@@ -8,8 +8,8 @@ use Rattle.format.specs.Layout.Volume.{Volume, volume}
 use Rattle.format.specs.Calls.Paths.{Path}
 use Rattle.format.specs.Calls.Call.{Call, validate, find, read, overwrite, setLength, list}
 use Rattle.format.specs.Calls.Answer.{answer}
-use Rattle.format.specs.Calls.Reply.{plain, foundReply, counted, done, onZero, reply}
-use Rattle.format.specs.Calls.Buffers.{edited, imageAfter}
+use Rattle.format.specs.Calls.Reply.{plain, foundReply, counted, done, onZero, replyBy}
+use Rattle.format.specs.Calls.Buffers.{edited, imageAfterBy}
 
 -- a call that is done has the number 0
 done-number : (v : Volume) (call : Call) → done v call .number ≡ 0
@@ -22,8 +22,8 @@ done-number v (setLength path new work) = refl
 done-number v (list out work) = refl
 
 module _ (g : Geometry) (img : Bytes) where
-  pub reply-number : (call : Call) → reply g img call .number ≡ answer g img call
-  unfolding reply onZero plain
+  pub reply-number : (call : Call) → replyBy g img call .number ≡ answer g img call
+  unfolding replyBy onZero plain
   reply-number call = go (answer g img call)
     where
       go : (n : ℕ) → onZero n (done (volume g img) call) (plain n) .number ≡ n
@@ -38,6 +38,6 @@ module _ (g : Geometry) (img : Bytes) where
 
   module _ (work : List ℕ) where
     pub reading-keeps : (path : Path) (offset : ℕ) (out : Bytes)
-        → (imageAfter g img (validate work) ≡ img) × ((imageAfter g img (find path work) ≡ img) × ((imageAfter g img (read path offset out work) ≡ img) × (imageAfter g img (list out work) ≡ img)))
-    unfolding imageAfter edited
+        → (imageAfterBy g img (validate work) ≡ img) × ((imageAfterBy g img (find path work) ≡ img) × ((imageAfterBy g img (read path offset out work) ≡ img) × (imageAfterBy g img (list out work) ≡ img)))
+    unfolding imageAfterBy edited
     reading-keeps path offset out = (kept _, (kept _, (kept _, kept _)))

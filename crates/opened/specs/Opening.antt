@@ -4,8 +4,8 @@ use mathlib.Core.List.{List}
 use Prim.Native.Nat.{ℕ}
 use lib.ListN.{length}
 use Rattle.format.specs.Basics.Bytes.{Bytes}
-use Rattle.format.specs.Layout.Geometry.{Geometry}
 use Rattle.format.specs.Rules.Length.{workNeed}
+use Rattle.format.specs.Rules.Version.{versionOf}
 use Rattle.format.specs.Rules.Verdict.{verdict}
 use Rattle.kinds.specs.Numbers.{refusalNumber}
 use Rattle.tables.specs.Work.{Wrote}
@@ -14,7 +14,9 @@ use Rattle.volume.specs.declared.Opened.{Opened}
 use Rattle.volume.specs.declared.Opened.the-variants.{Refused, Ready}
 use Rattle.opened.specs.OpenVolume.{OpenVolume}
 
-abbrev pub OpeningRight : Geometry → Bytes → List ℕ → List ℕ → Opened → Type 0
-OpeningRight g img before after (Refused a) =
-    (refusalNumber a ≡ verdict g img (length before)) × (after ≡ workLeft (verdict g img (length before)) img before)
-OpeningRight g img before after (Ready v) = (verdict g img (length before) ≡ 0) × (OpenVolume g v img after × Wrote before after 0 (workNeed (length img)))
+abbrev pub OpeningRight : Bytes → List ℕ → List ℕ → Opened → Type 0
+OpeningRight img before after (Refused a) =
+    let answer = verdict (versionOf img) img (length before) in
+    (refusalNumber a ≡ answer) × (after ≡ workLeft answer img before)
+OpeningRight img before after (Ready v) =
+    (verdict (versionOf img) img (length before) ≡ 0) × (OpenVolume v img after × Wrote before after 0 (workNeed (length img)))

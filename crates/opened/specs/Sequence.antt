@@ -4,7 +4,6 @@ use mathlib.Core.Path.{_≡_}
 use mathlib.Core.List.{List, [], _∷_}
 use lib.ListN.{length}
 use Rattle.format.specs.Basics.Bytes.{Bytes}
-use Rattle.format.specs.Layout.Geometry.{Geometry}
 use Rattle.format.specs.Rules.Length.{workNeed}
 use Rattle.format.specs.Calls.Call.{Call, validate, find, read, overwrite, setLength, list}
 use Rattle.format.specs.Calls.Reply.{Reply, reply}
@@ -27,35 +26,35 @@ pub record Given : Type 0 where
   pub reply : Reply
   pub out : Bytes
 
-abbrev pub given : Geometry → Bytes → Call → Given
-given g img c = record { reply = reply g img c; out = outAfter g img c }
+abbrev pub given : Bytes → Call → Given
+given img c = record { reply = reply img c; out = outAfter img c }
 
 -- ---- plain calls
 
-unfoldable pub plainGiven : Geometry → Bytes → List ℕ → List Call → List Given
-plainGiven g img w [] = []
-plainGiven g img w (c ∷ cs) = given g img (lent w c) ∷ plainGiven g (imageAfter g img (lent w c)) (workAfter g img (lent w c)) cs
+unfoldable pub plainGiven : Bytes → List ℕ → List Call → List Given
+plainGiven img w [] = []
+plainGiven img w (c ∷ cs) = given img (lent w c) ∷ plainGiven (imageAfter img (lent w c)) (workAfter img (lent w c)) cs
 
-unfoldable pub plainImage : Geometry → Bytes → List ℕ → List Call → Bytes
-plainImage g img w [] = img
-plainImage g img w (c ∷ cs) = plainImage g (imageAfter g img (lent w c)) (workAfter g img (lent w c)) cs
+unfoldable pub plainImage : Bytes → List ℕ → List Call → Bytes
+plainImage img w [] = img
+plainImage img w (c ∷ cs) = plainImage (imageAfter img (lent w c)) (workAfter img (lent w c)) cs
 
-unfoldable pub plainWork : Geometry → Bytes → List ℕ → List Call → List ℕ
-plainWork g img w [] = w
-plainWork g img w (c ∷ cs) = plainWork g (imageAfter g img (lent w c)) (workAfter g img (lent w c)) cs
+unfoldable pub plainWork : Bytes → List ℕ → List Call → List ℕ
+plainWork img w [] = w
+plainWork img w (c ∷ cs) = plainWork (imageAfter img (lent w c)) (workAfter img (lent w c)) cs
 
 -- ---- calls on an opened volume
 
 -- what one call leaves
-pub record Left (g : Geometry) (v : Volume) (img : Bytes) (w : List ℕ) (c : Call) (img₁ : Bytes) (w₁ : List ℕ) : Type 0 where
-  pub image : img₁ ≡ imageAfter g img (lent w c)
-  pub opened : OpenVolume g v img₁ w₁
+pub record Left (v : Volume) (img : Bytes) (w : List ℕ) (c : Call) (img₁ : Bytes) (w₁ : List ℕ) : Type 0 where
+  pub image : img₁ ≡ imageAfter img (lent w c)
+  pub opened : OpenVolume v img₁ w₁
   pub wrote : Wrote w w₁ 0 (workNeed (length img))
 
 -- from img and w to img′ and w′, with xs handed out
-abbrev pub OpenedCalls : Geometry → Volume → Bytes → List ℕ → List Call → List Given → Bytes → List ℕ → Type 0
-OpenedCalls g v img w [] [] img′ w′ = (img′ ≡ img) × (w′ ≡ w)
-OpenedCalls g v img w [] (x ∷ xs) img′ w′ = ⊥
-OpenedCalls g v img w (c ∷ cs) [] img′ w′ = ⊥
-OpenedCalls g v img w (c ∷ cs) (x ∷ xs) img′ w′ =
-    (img₁ : Bytes) × (w₁ : List ℕ) × ((x ≡ given g img (lent w c)) × (Left g v img w c img₁ w₁ × OpenedCalls g v img₁ w₁ cs xs img′ w′))
+abbrev pub OpenedCalls : Volume → Bytes → List ℕ → List Call → List Given → Bytes → List ℕ → Type 0
+OpenedCalls v img w [] [] img′ w′ = (img′ ≡ img) × (w′ ≡ w)
+OpenedCalls v img w [] (x ∷ xs) img′ w′ = ⊥
+OpenedCalls v img w (c ∷ cs) [] img′ w′ = ⊥
+OpenedCalls v img w (c ∷ cs) (x ∷ xs) img′ w′ =
+    (img₁ : Bytes) × (w₁ : List ℕ) × ((x ≡ given img (lent w c)) × (Left v img w c img₁ w₁ × OpenedCalls v img₁ w₁ cs xs img′ w′))

@@ -1,7 +1,6 @@
 // A volume opened once, for any number of calls, and closed. Each call gives what the plain call gives, and leaves the volume opened.
 ghost use mathlib.Core.Path.{_≡_};
 ghost use lib.ListN.{length};
-ghost use Rattle.format.specs.Layout.Geometry.{version3};
 ghost use Rattle.format.specs.Rules.Length.{workNeed};
 ghost use Rattle.format.specs.Calls.Call.{find as findCall, read as readCall, overwrite as overwriteCall, setLength as lengthCall, list as listCall};
 ghost use Rattle.format.specs.Calls.Reply.{plain, reply};
@@ -28,14 +27,14 @@ use volume::open_volume;
 
 // Validates an image and opens it.
 pub fn open_image(image: &[u8], work: &mut [u32]) -> Opened
-    ensures { λ r. ⌜ OpeningRight version3 (now (image .entry)) (now (work .entry)) (now (work .exit)) r ⌝ }
+    ensures { λ r. ⌜ OpeningRight (now (image .entry)) (now (work .entry)) (now (work .exit)) r ⌝ }
 {
     open_volume(image, work)
 }
 
 // Leaves the work buffer as a plain call does.
 pub fn close(image: &[u8], work: &mut [u32], v: Volume)
-    requires { ⌜ OpenVolume version3 v (now image) (now work) ⌝ }
+    requires { ⌜ OpenVolume v (now image) (now work) ⌝ }
     ensures { λ _. ⌜ now (work .exit) ≡ workCleared (workNeed (length (now (image .entry)))) (now (work .entry)) ⌝ }
 {
     zero_first(work, work_need(image.len()));
@@ -43,8 +42,8 @@ pub fn close(image: &[u8], work: &mut [u32], v: Volume)
 
 // The entry that a path leads to: its number, its type and its size.
 pub fn find_opened(image: &[u8], work: &[u32], v: Volume, path: &[u16]) -> Find
-    requires { ⌜ OpenVolume version3 v (now image) (now work) ⌝ }
-    ensures { λ r. ⌜ findReply r ≡ reply version3 (now (image .entry)) (findCall (now (path .entry)) (now (work .entry))) ⌝ }
+    requires { ⌜ OpenVolume v (now image) (now work) ⌝ }
+    ensures { λ r. ⌜ findReply r ≡ reply (now (image .entry)) (findCall (now (path .entry)) (now (work .entry))) ⌝ }
 {
     find_in(path, image, work, v)
 }
@@ -58,9 +57,9 @@ pub fn read_opened(
     offset: u64,
     out: &mut [u8],
 ) -> Read
-    requires { ⌜ OpenVolume version3 v (now image) (now work) ⌝ }
-    ensures { λ r. ⌜ readReply r ≡ reply version3 (now (image .entry)) (readCall (now (path .entry)) offset (now (out .entry)) (now (work .entry))) ⌝ }
-    ensures { λ _. ⌜ now (out .exit) ≡ outAfter version3 (now (image .entry)) (readCall (now (path .entry)) offset (now (out .entry)) (now (work .entry))) ⌝ }
+    requires { ⌜ OpenVolume v (now image) (now work) ⌝ }
+    ensures { λ r. ⌜ readReply r ≡ reply (now (image .entry)) (readCall (now (path .entry)) offset (now (out .entry)) (now (work .entry))) ⌝ }
+    ensures { λ _. ⌜ now (out .exit) ≡ outAfter (now (image .entry)) (readCall (now (path .entry)) offset (now (out .entry)) (now (work .entry))) ⌝ }
 {
     read_in(path, image, work, v, offset, out)
 }
@@ -74,12 +73,12 @@ pub fn overwrite_opened(
     offset: u64,
     bytes: &[u8],
 ) -> Answer
-    requires { ⌜ OpenVolume version3 v (now image) (now work) ⌝ }
+    requires { ⌜ OpenVolume v (now image) (now work) ⌝ }
     ensures { λ r. ⌜ plain (numberOf r)
-        ≡ reply version3 (now (image .entry)) (overwriteCall (now (path .entry)) offset (now (bytes .entry)) (now (work .entry))) ⌝ }
+        ≡ reply (now (image .entry)) (overwriteCall (now (path .entry)) offset (now (bytes .entry)) (now (work .entry))) ⌝ }
     ensures { λ _. ⌜ now (image .exit)
-        ≡ imageAfter version3 (now (image .entry)) (overwriteCall (now (path .entry)) offset (now (bytes .entry)) (now (work .entry))) ⌝ }
-    ensures { λ _. ⌜ OpenVolume version3 v (now (image .exit)) (now (work .exit)) ⌝ }
+        ≡ imageAfter (now (image .entry)) (overwriteCall (now (path .entry)) offset (now (bytes .entry)) (now (work .entry))) ⌝ }
+    ensures { λ _. ⌜ OpenVolume v (now (image .exit)) (now (work .exit)) ⌝ }
     ensures { λ _. ⌜ Wrote (now (work .entry)) (now (work .exit)) 0 (workNeed (length (now (image .entry)))) ⌝ }
 {
     overwrite_in(path, image, work, v, offset, bytes)
@@ -93,10 +92,10 @@ pub fn set_length_opened(
     path: &[u16],
     new_len: u64,
 ) -> Answer
-    requires { ⌜ OpenVolume version3 v (now image) (now work) ⌝ }
-    ensures { λ r. ⌜ plain (numberOf r) ≡ reply version3 (now (image .entry)) (lengthCall (now (path .entry)) «new_len» (now (work .entry))) ⌝ }
-    ensures { λ _. ⌜ now (image .exit) ≡ imageAfter version3 (now (image .entry)) (lengthCall (now (path .entry)) «new_len» (now (work .entry))) ⌝ }
-    ensures { λ _. ⌜ OpenVolume version3 v (now (image .exit)) (now (work .exit)) ⌝ }
+    requires { ⌜ OpenVolume v (now image) (now work) ⌝ }
+    ensures { λ r. ⌜ plain (numberOf r) ≡ reply (now (image .entry)) (lengthCall (now (path .entry)) «new_len» (now (work .entry))) ⌝ }
+    ensures { λ _. ⌜ now (image .exit) ≡ imageAfter (now (image .entry)) (lengthCall (now (path .entry)) «new_len» (now (work .entry))) ⌝ }
+    ensures { λ _. ⌜ OpenVolume v (now (image .exit)) (now (work .exit)) ⌝ }
     ensures { λ _. ⌜ Wrote (now (work .entry)) (now (work .exit)) 0 (workNeed (length (now (image .entry)))) ⌝ }
 {
     set_length_in(path, image, work, v, new_len)
@@ -104,10 +103,10 @@ pub fn set_length_opened(
 
 // A line for each object, in an out buffer that has room for all of them.
 pub fn list_opened(image: &[u8], work: &mut [u32], v: Volume, out: &mut [u8]) -> List
-    requires { ⌜ OpenVolume version3 v (now image) (now work) ⌝ }
-    ensures { λ r. ⌜ listReply r ≡ reply version3 (now (image .entry)) (listCall (now (out .entry)) (now (work .entry))) ⌝ }
-    ensures { λ _. ⌜ now (out .exit) ≡ outAfter version3 (now (image .entry)) (listCall (now (out .entry)) (now (work .entry))) ⌝ }
-    ensures { λ _. ⌜ OpenVolume version3 v (now (image .entry)) (now (work .exit)) ⌝ }
+    requires { ⌜ OpenVolume v (now image) (now work) ⌝ }
+    ensures { λ r. ⌜ listReply r ≡ reply (now (image .entry)) (listCall (now (out .entry)) (now (work .entry))) ⌝ }
+    ensures { λ _. ⌜ now (out .exit) ≡ outAfter (now (image .entry)) (listCall (now (out .entry)) (now (work .entry))) ⌝ }
+    ensures { λ _. ⌜ OpenVolume v (now (image .entry)) (now (work .exit)) ⌝ }
     ensures { λ _. ⌜ Wrote (now (work .entry)) (now (work .exit)) 0 (workNeed (length (now (image .entry)))) ⌝ }
 {
     list_in(image, work, v, out)

@@ -3,7 +3,6 @@ use Prim.Native.Nat.{ℕ}
 use mathlib.Core.Path.{_≡_}
 use mathlib.Core.List.{List, [], _∷_}
 use Rattle.format.specs.Basics.Bytes.{Bytes}
-use Rattle.format.specs.Layout.Geometry.{version3}
 use Rattle.format.specs.Calls.Paths.{Path}
 use Rattle.format.specs.Calls.Call.{Call, validate, find, read, overwrite, setLength, list}
 use Rattle.format.specs.Calls.Reply.{plain, reply}
@@ -44,11 +43,11 @@ accepted = record { reply = plain 0; out = [] }
 -- refused: what a validation that refuses gives and leaves. Made: what a validation and then the calls give and leave
 abbrev pub RowRight : List Call → Buffers → Buffers → Outcome → Type 0
 RowRight calls before after (Refused a) =
-    (plain (refusalNumber a) ≡ reply version3 (before .image) (validate (before .work)))
+    (plain (refusalNumber a) ≡ reply (before .image) (validate (before .work)))
     × ((after .image ≡ before .image)
-    × ((after .work ≡ workAfter version3 (before .image) (validate (before .work)))
+    × ((after .work ≡ workAfter (before .image) (validate (before .work)))
     × ((after .out ≡ before .out) × (after .text ≡ before .text))))
 RowRight calls before after (Made s) =
-    (accepted ∷ rowGiven s (after .out) (after .text) ≡ plainGiven version3 (before .image) (before .work) (validate [] ∷ calls))
-    × ((after .image ≡ plainImage version3 (before .image) (before .work) (validate [] ∷ calls))
-    × (after .work ≡ plainWork version3 (before .image) (before .work) (validate [] ∷ calls)))
+    (accepted ∷ rowGiven s (after .out) (after .text) ≡ plainGiven (before .image) (before .work) (validate [] ∷ calls))
+    × ((after .image ≡ plainImage (before .image) (before .work) (validate [] ∷ calls))
+    × (after .work ≡ plainWork (before .image) (before .work) (validate [] ∷ calls)))

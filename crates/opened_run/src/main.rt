@@ -1,6 +1,5 @@
 // Makes calls in a row on the image on standard input, opened once, and prints what they give and leave. `tools/opened_case.py` says what that is.
 ghost use mathlib.Core.Path.{_≡_};
-ghost use Rattle.format.specs.Layout.Geometry.{version3};
 ghost use Rattle.opened.specs.OpenVolume.{OpenVolume};
 ghost use Rattle.opened.specs.Sequence.{OpenedCalls};
 ghost use Rattle.opened_run.specs.Row.{rowCalls, rowGiven, RowRight};
@@ -49,8 +48,8 @@ fn calls(
     out: &mut [u8],
     text: &mut [u8],
 ) -> Steps
-    requires { ⌜ OpenVolume version3 v (now image) (now work) ⌝ }
-    ensures { λ r. ⌜ OpenedCalls version3 v (now (image .entry)) (now (work .entry))
+    requires { ⌜ OpenVolume v (now image) (now work) ⌝ }
+    ensures { λ r. ⌜ OpenedCalls v (now (image .entry)) (now (work .entry))
         (rowCalls (now (path .entry)) new offset (now (bytes .entry)) (now (out .entry)) (now (text .entry)))
         (rowGiven r (now (out .exit)) (now (text .exit))) (now (image .exit)) (now (work .exit)) ⌝ }
 {

@@ -38,8 +38,8 @@ pub fn table_word(img: &[u8], work: &[u32], g: Geometry, list: usize, i: usize) 
     ensures { λ r. ⌜ r
         ≡ wordIn (geometryOf g) (now (img .entry)) (sectorFor (geometryOf g) (now (work .entry)) list i) (i % cellsIn (geometryOf g)) ⌝ }
 {
-    let cells = g.cells();
-    word_in(img, g, Sector(work[list + i / cells]), i % cells)
+    let s = Sector(work[list + g.cell_sector(i)]);
+    word_in(img, g, s, g.cell_index(i))
 }
 
 // ---- cells

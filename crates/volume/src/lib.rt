@@ -1,10 +1,10 @@
 // A volume: an image that keeps every rule, opened for the calls. Each stage tests its groups and hands on to the next; the last one opens the volume.
-ghost use Rattle.format.specs.Layout.Geometry.{version3};
+ghost use Rattle.format.specs.Rules.Version.{versionOf};
 ghost use Rattle.volume.specs.Opened.{OpenedRight};
 use directory::Directory;
 use header::length_allowed;
+use header::version_of;
 use header::work_need;
-use kinds::Geometry;
 use kinds::Refusal;
 use le::zero_first;
 use minis::Minis;
@@ -31,9 +31,9 @@ pub enum Opened {
 
 // Validates an image and opens it. A refusal leaves the work buffer as every refusal does.
 pub fn open_volume(img: &[u8], work: &mut [u32]) -> Opened
-    ensures { λ r. ⌜ OpenedRight version3 (now (img .entry)) (now (work .entry)) (now (work .exit)) r ⌝ }
+    ensures { λ r. ⌜ OpenedRight (versionOf (now (img .entry))) (now (img .entry)) (now (work .entry)) (now (work .exit)) r ⌝ }
 {
-    let g = Geometry::V3;
+    let g = version_of(img);
     let n = img.len();
     if !length_allowed(n, g) {
         return Opened::Refused(Refusal::BadLength);

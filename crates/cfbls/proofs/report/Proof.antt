@@ -1,7 +1,6 @@
 use borrow.Author.Needs.{needs}
 use native.Mathlib.Omega.{arith}
 use mathlib.Core.Path.{sym}
-use Rattle.format.specs.Layout.Geometry.{version3}
 use Rattle.cfbls.proofs.Output.{written, room, output-over, listed, refused}
 use Rattle.cfbls.proofs.report.Statement.{statement}
 use Rattle.cfbls.proofs.report.Tie as tie
@@ -14,7 +13,7 @@ report-spec =
     (λ c. search needs)  -- same-length
     (λ c.
     let a = c .before .before .before .before .before .before .before .before in
-    written _ _ (c .before .before .put-refused .ensures .0) (c .before .before .put-refused .ensures .1) (sym (output-over version3 (a .args .input .now) (omega arith))))  -- returns
+    written _ _ (c .before .before .put-refused .ensures .0) (c .before .before .put-refused .ensures .1) (sym (output-over _ (a .args .input .now) (omega arith))))  -- returns
     (λ c κs. search needs)  -- list-requires
     (λ c. search needs)  -- enum-known-n
     (λ c. search needs)  -- enum-known-a
@@ -24,7 +23,7 @@ report-spec =
     (λ c.
     let l = c .before .before .before .before .before .before .before .list in
     let s = c .before .before .before .before .before .before .before .before .before .before .before .before .before .before in
-    listed version3 (s .args .input .now) (s .args .out .now) (s .args .work .now) (omega arith) (s .pre .0) (s .pre .1) (c .before .n .given .0 .0) (rw (c .before .n .given .1) at (l .ensures .0)) (l .ensures .1 .0))  -- returns-2
+    listed _ (s .args .input .now) (s .args .out .now) (s .args .work .now) (omega arith) (s .pre .0) (s .pre .1) (c .before .n .given .0 .0) (rw (c .before .n .given .1) at (l .ensures .0)) (l .ensures .1 .0))  -- returns-2
     (λ c. search needs)  -- same-length-4
     (λ c. search needs)  -- same-length-5
     (λ c.
@@ -32,5 +31,5 @@ report-spec =
     let s = c .before .before .before .before .before .before .before .before .before .before .before .before .before .before .before .before .before .before in
     let a = c .before .before .before .before .before .a .given in
     let p = c .before .before .put-refused2 .ensures in
-    let q = refused version3 (s .args .input .now) (s .args .out .now) (s .args .work .now) (omega arith) (s .pre .0) (s .pre .1) (a .0 .0) (rw (a .1) at (l .ensures .0)) in
+    let q = refused _ (s .args .input .now) (s .args .out .now) (s .args .work .now) (omega arith) (s .pre .0) (s .pre .1) (a .0 .0) (rw (a .1) at (l .ensures .0)) in
     written _ _ (p .0) (p .1) q))  -- returns-3

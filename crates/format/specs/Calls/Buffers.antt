@@ -9,6 +9,7 @@ use Rattle.format.specs.Layout.Geometry.{Geometry}
 use Rattle.format.specs.Layout.Volume.{Volume, volume}
 use Rattle.format.specs.Layout.Stream.{contents}
 use Rattle.format.specs.Rules.Length.{workNeed}
+use Rattle.format.specs.Rules.Version.{versionOf}
 use Rattle.format.specs.Calls.Read.{readBytes, over}
 use Rattle.format.specs.Calls.Overwrite.{overwritten}
 use Rattle.format.specs.Calls.SetLength.{resized}
@@ -28,10 +29,14 @@ edited v img (overwrite path offset bytes work) = overwritten v img (target v pa
 edited v img (setLength path new work) = resized v img (target v path) new
 edited v img (list out work) = img
 
-unfoldable pub imageAfter : Geometry → Bytes → Call → Bytes
-imageAfter g img call =
+unfoldable pub imageAfterBy : Geometry → Bytes → Call → Bytes
+imageAfterBy g img call =
     let accepted = edited (volume g img) img call in
     onZero (answer g img call) accepted img
+
+-- by the image's own version
+abbrev pub imageAfter : Bytes → Call → Bytes
+imageAfter img call = imageAfterBy (versionOf img) img call
 
 -- ---- the out buffer
 
@@ -45,18 +50,24 @@ handedOut v img (overwrite path offset bytes work) = []
 handedOut v img (setLength path new work) = []
 handedOut v img (list out work) = over (listing (v .directory)) out
 
-unfoldable pub outAfter : Geometry → Bytes → Call → Bytes
-outAfter g img call =
+unfoldable pub outAfterBy : Geometry → Bytes → Call → Bytes
+outAfterBy g img call =
     let accepted = handedOut (volume g img) img call in
     onZero (answer g img call) accepted (outOf call)
+
+abbrev pub outAfter : Bytes → Call → Bytes
+outAfter img call = outAfterBy (versionOf img) img call
 
 -- ---- the work buffer: answers 1 and 2 leave it, any other leaves W zeros and the rest
 
 unfoldable pub workCleared : ℕ → List ℕ → List ℕ
 workCleared w work = replicate w 0 ++ drop w work
 
-unfoldable pub workAfter : Geometry → Bytes → Call → List ℕ
-workAfter g img call =
+unfoldable pub workAfterBy : Geometry → Bytes → Call → List ℕ
+workAfterBy g img call =
     cond (eqb (answer g img call) 1 || eqb (answer g img call) 2)
     (workOf call)
     (workCleared (workNeed (length img)) (workOf call))
+
+abbrev pub workAfter : Bytes → Call → List ℕ
+workAfter img call = workAfterBy (versionOf img) img call

@@ -8,6 +8,7 @@ use Rattle.format.specs.Basics.Bytes.{Bytes}
 use Rattle.format.specs.Layout.Geometry.{Geometry}
 use Rattle.format.specs.Layout.Volume.{volume}
 use Rattle.format.specs.Rules.Length.{workNeed}
+use Rattle.format.specs.Rules.Version.{versionOf}
 use Rattle.format.specs.Calls.Text.{newline, space, decimal}
 use Rattle.format.specs.Calls.Listing.{listing}
 use Rattle.format.specs.Calls.Call.{Call, list}
@@ -26,8 +27,12 @@ refusedLine n = 0x72 ∷ 0x65 ∷ 0x66 ∷ 0x75 ∷ 0x73 ∷ 0x65 ∷ 0x64 ∷ s
 unfoldable pub programCall : Call
 programCall = list (replicate programCapacity 0) (replicate (workNeed programCapacity) 0)
 
-unfoldable pub programOutput : Geometry → Bytes → Bytes
-programOutput g input =
+unfoldable pub programOutputBy : Geometry → Bytes → Bytes
+programOutputBy g input =
     cond (ltb programCapacity (length input))
     (refusedLine 1)
     (onZero (answer g input programCall) (listing (volume g input .directory)) (refusedLine (answer g input programCall)))
+
+-- by the input's own version
+abbrev pub programOutput : Bytes → Bytes
+programOutput input = programOutputBy (versionOf input) input

@@ -6,6 +6,7 @@ use Rattle.format.specs.Layout.Geometry.{Geometry}
 use Rattle.format.specs.Layout.Entry.{kind}
 use Rattle.format.specs.Layout.Volume.{Volume, volume}
 use Rattle.format.specs.Layout.Stream.{streamSize}
+use Rattle.format.specs.Rules.Version.{versionOf}
 use Rattle.format.specs.Calls.Find.{resolve, entryOf}
 use Rattle.format.specs.Calls.Read.{readCount}
 use Rattle.format.specs.Calls.Listing.{listing}
@@ -46,7 +47,11 @@ unfoldable pub onZero : {A : Type 0} → ℕ → A → A → A
 onZero zero x y = x
 onZero (suc a) x y = y
 
-unfoldable pub reply : Geometry → Bytes → Call → Reply
-reply g img call =
+unfoldable pub replyBy : Geometry → Bytes → Call → Reply
+replyBy g img call =
     let accepted = done (volume g img) call in
     onZero (answer g img call) accepted (plain (answer g img call))
+
+-- by the image's own version
+abbrev pub reply : Bytes → Call → Reply
+reply img call = replyBy (versionOf img) img call

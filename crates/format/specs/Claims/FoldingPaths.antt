@@ -18,7 +18,7 @@ use Rattle.format.specs.Calls.Find.{Child, missing, present, orElse, Fou
 use Rattle.format.specs.Calls.Read.{readCount}
 use Rattle.format.specs.Calls.Call.{Call, validate, find, read, overwrite, setLength, list, workOf}
 use Rattle.format.specs.Calls.Answer.{firstOf, beyond, lengthAnswer, answerIn}
-use Rattle.format.specs.Calls.Reply.{Reply, plain, foundReply, counted, done, onZero, reply}
+use Rattle.format.specs.Calls.Reply.{Reply, plain, foundReply, counted, done, onZero, replyBy}
 use Rattle.format.specs.Claims.Folding.{formerFold, formerVerdict, steadyUnit, steadyNames, plainUnit, plainNames}
 
 -- ---- what a path led to: Calls/Find with the former equality of names
@@ -92,10 +92,10 @@ pathOf (list out work) = []
 abbrev pub KeepsReply : Geometry → Type 0
 KeepsReply g =
     (img : Bytes) (call : Call) → steadyNames (directory g img) ≡ true → all steadyUnit (pathOf call) ≡ true
-    → formerReply g img call ≡ reply g img call
+    → formerReply g img call ≡ replyBy g img call
 
 -- Among them are the calls on a file whose objects' names are all below 0080, with such a path.
 abbrev pub PlainKeepsReply : Geometry → Type 0
 PlainKeepsReply g =
     (img : Bytes) (call : Call) → plainNames (directory g img) ≡ true → all plainUnit (pathOf call) ≡ true
-    → formerReply g img call ≡ reply g img call
+    → formerReply g img call ≡ replyBy g img call

@@ -34,7 +34,7 @@ unfoldable pub units : (ℕ → ℕ) → ℕ → ℕ → List ℕ
 units cell zero s = []
 units cell (suc n) s = s ∷ units cell n (cell s)
 
--- the units from a start on, as far as cells name units, and at most n of them: for a chain whose length is written nowhere
+-- the units from a start on, as far as cells name units, and at most n of them: for a chain whose length is not given
 unfoldable pub follow : (ℕ → ℕ) → ℕ → ℕ → ℕ → List ℕ
 follow cell limit zero s = []
 follow cell limit (suc n) s = let more = s ∷ follow cell limit n (cell s) in cond (ltb s limit) more []

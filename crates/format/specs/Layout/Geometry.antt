@@ -1,6 +1,6 @@
--- The sizes and places that the sector size fixes. Version 3 is the one geometry of today, and every definition takes it as an argument.
+-- The sizes and places that the sector size fixes. Every definition takes the geometry as an argument.
 use Prim.Native.Nat.{ℕ, _+_, _-_, _*_, _/_, _%_}
-use mathlib.Core.Bool.{cond}
+use mathlib.Core.Bool.{Bool, not, cond}
 use mathlib.Core.List.{List}
 use lib.Dec.{eqb}
 use lib.ListN.{length, getD}
@@ -15,6 +15,9 @@ pub record Geometry : Type 0 where
 unfoldable pub version3 : Geometry
 version3 = record { major = 3; shift = 9; sectorBytes = 512 }
 
+unfoldable pub version4 : Geometry
+version4 = record { major = 4; shift = 12; sectorBytes = 4096 }
+
 -- ---- sizes that are the same for every sector size
 
 unfoldable pub miniBytes : ℕ
@@ -22,6 +25,10 @@ miniBytes = 64
 
 unfoldable pub entryBytes : ℕ
 entryBytes = 128
+
+-- the bytes of the header that hold fields; the rest of its sector is zero
+unfoldable pub headerBytes : ℕ
+headerBytes = 512
 
 -- the DIFAT entries that stand in the header
 unfoldable pub headerDifat : ℕ
@@ -32,6 +39,10 @@ headerDifat = 109
 -- how many of the eight bytes of a size count: in version 3, where old programs left the upper ones unset, the lower four
 unfoldable pub sizeWidth : Geometry → ℕ
 sizeWidth g = cond (eqb (g .major) 3) 4 8
+
+-- the header says how many sectors the directory has; in version 3 the field is 0
+unfoldable pub countsDirectory : Geometry → Bool
+countsDirectory g = not (eqb (g .major) 3)
 
 -- ---- what the sector size decides
 

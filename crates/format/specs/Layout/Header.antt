@@ -1,6 +1,13 @@
--- The header's fields that say where the tables are (group 10).
+-- The header's fields that say which version it is and where the tables are (group 10).
 use Prim.Native.Nat.{ℕ}
-use Rattle.format.specs.Basics.Bytes.{Bytes, u32at}
+use Rattle.format.specs.Basics.Bytes.{Bytes, u16at, u32at}
+
+unfoldable pub majorVersion : Bytes → ℕ
+majorVersion img = u16at img 26
+
+-- how many sectors the directory has, where the version says it
+unfoldable pub directoryCount : Bytes → ℕ
+directoryCount img = u32at img 40
 
 -- F, the number of FAT sectors
 unfoldable pub fatCount : Bytes → ℕ

@@ -6,7 +6,7 @@ use Rattle.format.specs.Basics.Bytes.{Bytes}
 use Rattle.format.specs.Layout.Geometry.{Geometry, miniBytes, placeIn, cellsIn}
 use Rattle.format.specs.Layout.Chain.{units}
 use Rattle.format.specs.Layout.Space.{Space, unitsFor}
-use Rattle.format.specs.Layout.Header.{directoryStart, miniFatStart, miniFatCount}
+use Rattle.format.specs.Layout.Header.{directoryCount, directoryStart, miniFatStart, miniFatCount}
 use Rattle.format.specs.Layout.Tables.{cellPlaceIn, cellIn, fatCell, fatSectors, difatSectors, sectorSpace}
 use Rattle.format.specs.Layout.Entry.{start}
 use Rattle.format.specs.Layout.Directory.{Directory, directorySectors, directoryOf, entryPlace, sizeOf}
@@ -48,6 +48,7 @@ miniSpace g img =
 -- ---- the whole
 
 pub record Volume : Type 0 where
+  pub geometry : Geometry
   pub sectors : Space
   pub minis : Space
   -- the system's sectors
@@ -57,6 +58,7 @@ pub record Volume : Type 0 where
   pub miniFat : List ℕ
   pub miniStream : List ℕ
   -- what the header says of the directory and of the mini FAT
+  pub directoryCount : ℕ
   pub directoryStart : ℕ
   pub miniFatStart : ℕ
   pub miniFatCount : ℕ
@@ -67,6 +69,7 @@ pub record Volume : Type 0 where
 unfoldable pub volume : Geometry → Bytes → Volume
 volume g img =
     record {
+      geometry = g;
       sectors = sectorSpace g img;
       minis = miniSpace g img;
       fat = fatSectors g img;
@@ -74,6 +77,7 @@ volume g img =
       directorySectors = directorySectorsOf g img;
       miniFat = miniFatSectors g img;
       miniStream = miniStreamSectors g img;
+      directoryCount = directoryCount img;
       directoryStart = directoryStart img;
       miniFatStart = miniFatStart img;
       miniFatCount = miniFatCount img;

@@ -1,11 +1,12 @@
 -- Group 10: the header.
-use Prim.Native.Nat.{ℕ}
-use mathlib.Core.Bool.{Bool, _&&_}
+use Prim.Native.Nat.{ℕ, _-_}
+use mathlib.Core.Bool.{Bool, _&&_, _||_}
 use mathlib.Core.List.{[], _∷_}
 use lib.Dec.{eqb}
 use Rattle.format.specs.Basics.Lists.{equal}
 use Rattle.format.specs.Basics.Bytes.{Bytes, u16at, u32at, part, allZero}
-use Rattle.format.specs.Layout.Geometry.{Geometry}
+use Rattle.format.specs.Layout.Geometry.{Geometry, countsDirectory, headerBytes}
+use Rattle.format.specs.Layout.Header.{majorVersion, directoryCount}
 use Rattle.format.specs.Layout.Need.{cutoff}
 
 unfoldable pub signature : Bytes
@@ -23,10 +24,11 @@ unfoldable pub headerRules : Geometry → Bytes → Bool
 headerRules g img =
     equal (part img 0 8) signature
     && allZero (part img 8 16)
-    && eqb (u16at img 26) (g .major)
+    && eqb (majorVersion img) (g .major)
     && eqb (u16at img 28) byteOrder
     && eqb (u16at img 30) (g .shift)
     && eqb (u16at img 32) miniShift
     && allZero (part img 34 6)
-    && eqb (u32at img 40) 0
+    && (countsDirectory g || eqb (directoryCount img) 0)
     && eqb (u32at img 56) cutoff
+    && allZero (part img headerBytes (g .sectorBytes - headerBytes))

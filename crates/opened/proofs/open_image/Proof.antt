@@ -1,5 +1,4 @@
 use borrow.Author.Needs.{needs}
-use Rattle.format.specs.Layout.Geometry.{version3}
 use Rattle.opened.proofs.Calls.{opening-right}
 use Rattle.opened.proofs.open_image.Statement.{statement}
 use Rattle.opened.proofs.open_image.Tie as tie
@@ -12,4 +11,4 @@ open-image-spec =
     (λ c. search needs)  -- same-length
     (λ c.
     let a = c .before .before .before .before .before .before .args in
-    opening-right version3 (a .image .now) (a .work .now) (c .before .before .open-volume .last .1 .0) (c .before .before .open-volume .result) (c .before .before .open-volume .ensures)))  -- returns
+    opening-right (a .image .now) (a .work .now) (c .before .before .open-volume .last .1 .0) (c .before .before .open-volume .result) (c .before .before .open-volume .ensures)))  -- returns

@@ -1,6 +1,5 @@
 use borrow.Author.Needs.{needs}
 use mathlib.Core.Path.{refl}
-use Rattle.format.specs.Layout.Geometry.{version3}
 use Rattle.volume.specs.declared.Opened.the-variants.{Refused}
 use Rattle.opened.proofs.Validated.{validate-refused}
 use Rattle.opened.proofs.Calls.{opening-ready, opening-refused}
@@ -18,24 +17,24 @@ in-a-row-spec =
     (λ c. search needs)  -- enum-known-v
     (λ c κs.
     let a = c .before .before .before .before .before .before .before .before .before .before .before .before .before .before .before .before .before .before .args in
-    let q = opening-ready version3 (a .image .now) (a .work .now) _ _ (c .before .before .before .before .before .before .before .before .before .open-image .ensures) (c .before .before .before .before .before .v .given .1) in
+    let q = opening-ready (a .image .now) (a .work .now) _ _ (c .before .before .before .before .before .before .before .before .before .open-image .ensures) (c .before .before .before .before .before .v .given .1) in
     q .1 .0)  -- calls-requires
     (λ c κs.
     let n = c .before .before .before .before .before .before .before .before .before .before .calls in
     let k = c .before .before .before .before .before .before .before .before .before .before .before .before .before .before .before .before in
     let o = k .before .before .before .before .open-image in
     let a = k .before .before .before .before .before .before .before .before .before .before .before .before .before .args in
-    let q = opening-ready version3 (a .image .now) (a .work .now) _ _ (o .ensures) (k .v .given .1) in
+    let q = opening-ready (a .image .now) (a .work .now) _ _ (o .ensures) (k .v .given .1) in
     let cs = rowCalls (a .path .now) (a .new) (a .offset) (a .bytes .now) (a .out .now) (a .text .now) in
     let xs = rowGiven (n .result) (n .last .1 .1 .1 .1 .1 .1 .1 .0) (n .last .1 .1 .1 .1 .1 .1 .1 .1 .0) in
-    still-opened version3 (k .v .given .0 .0) (a .image .now) (o .last .1 .0) cs xs (n .last .0) (n .last .1 .0) (q .1 .0) (n .ensures))  -- close-requires
+    still-opened (k .v .given .0 .0) (a .image .now) (o .last .1 .0) cs xs (n .last .0) (n .last .1 .0) (q .1 .0) (n .ensures))  -- close-requires
     (λ c. search needs)  -- same-length
     (λ c. search needs)  -- same-length-2
     (λ c.
     let a = c .before .before .before .before .before .before .before .before .before .before .before .before .before .before .args in
     let o = c .before .before .before .before .before .open-image in
-    let x = opening-refused version3 (a .image .now) (a .work .now) _ _ (o .ensures) (c .before .a .given .1) in
-    let r = validate-refused version3 (a .image .now) (a .work .now) (o .last .1 .0) (Refused (c .before .a .given .0 .0)) x refl in
+    let x = opening-refused (a .image .now) (a .work .now) _ _ (o .ensures) (c .before .a .given .1) in
+    let r = validate-refused _ (a .image .now) (a .work .now) (o .last .1 .0) (Refused (c .before .a .given .0 .0)) x refl in
     (r .0, (refl, (r .1, (refl, refl)))))  -- returns
     (λ c. search needs)  -- same-length-3
     (λ c. search needs)  -- same-length-4
@@ -47,7 +46,7 @@ in-a-row-spec =
     let k = c .before .before .before .before .before .before .before .before .before .before .before .before .before .before .before .before .before .before .before in
     let o = k .before .before .before .before .open-image in
     let a = k .before .before .before .before .before .before .before .before .before .before .before .before .before .args in
-    let q = opening-ready version3 (a .image .now) (a .work .now) _ _ (o .ensures) (k .v .given .1) in
+    let q = opening-ready (a .image .now) (a .work .now) _ _ (o .ensures) (k .v .given .1) in
     let cs = rowCalls (a .path .now) (a .new) (a .offset) (a .bytes .now) (a .out .now) (a .text .now) in
     let xs = rowGiven (n .result) (n .last .1 .1 .1 .1 .1 .1 .1 .0) (n .last .1 .1 .1 .1 .1 .1 .1 .1 .0) in
-    open-once version3 (k .v .given .0 .0) (a .image .now) (a .work .now) (o .last .1 .0) cs xs (n .last .0) (n .last .1 .0) (d .last .1 .0) q (n .ensures) (d .ensures)))  -- returns-2
+    open-once (k .v .given .0 .0) (a .image .now) (a .work .now) (o .last .1 .0) cs xs (n .last .0) (n .last .1 .0) (d .last .1 .0) q (n .ensures) (d .ensures)))  -- returns-2
