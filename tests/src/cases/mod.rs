@@ -13,6 +13,7 @@ pub mod names;
 pub mod opened;
 pub mod papers;
 pub mod samples;
+pub mod sectors;
 pub mod sizes;
 pub mod small;
 pub mod tables;

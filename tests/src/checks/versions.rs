@@ -2,6 +2,7 @@
 
 use crate::breaks::{self, edit::UPPER};
 use crate::calls::{Call, perform};
+use crate::cases::sectors;
 use crate::cases::versions::{cases, site};
 use crate::compare::Tally;
 use crate::geometry::{GREATEST_IMAGE, V3, V4, VERSIONS};
@@ -14,8 +15,9 @@ use std::collections::HashSet;
 #[test]
 fn cases_of_versions() {
     let mut tally = Tally::new();
-    for (number, case) in cases().iter().enumerate() {
-        assert!(tally.run(&format!("case {number}"), case).is_some());
+    let of_sectors = VERSIONS.into_iter().flat_map(sectors::cases);
+    for (number, case) in cases().into_iter().chain(of_sectors).enumerate() {
+        assert!(tally.run(&format!("case {number}"), &case).is_some());
     }
     assert!(tally.passed > 3_000, "{}", tally.passed);
 }
