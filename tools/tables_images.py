@@ -6,7 +6,7 @@ many. They are nearly all tables: the program reads fills, each so many numbers 
 from the image's bytes. The numbers to be printed are those that 01 gives, rule by rule; nothing is asked of the library."""
 import os
 import struct
-from images import DIFSECT, END, FATSECT, FREE, image, put
+from images import DIFSECT, END, FATSECT, FREE, V3, image, put
 
 ROOM = 583680
 STEP = 1 << 32
@@ -33,23 +33,24 @@ def fills(img):
 class Base:
     """A good image with these FAT and DIFAT sectors, and the directory in one sector."""
 
-    def __init__(self, sectors, fats, difats, directory):
-        self.sectors, self.fats, self.difats, self.directory = sectors, list(fats), list(difats), directory
-        img = image(sectors, self.fats, self.difats, [directory])
+    def __init__(self, sectors, fats, difats, directory, g=V3):
+        self.sectors, self.fats, self.difats, self.directory, self.g = sectors, list(fats), list(difats), directory, g
+        img = image(sectors, self.fats, self.difats, [directory], g=g)
         self.length, self.fills = len(img), fills(img)
         assert self.length <= ROOM
 
     def cell(self, s):
         """The place of a sector's cell."""
-        return 512 * (self.fats[s // 128] + 1) + 4 * (s % 128)
+        return self.g.place(self.fats[s // self.g.cells]) + 4 * (s % self.g.cells)
 
     def entry(self, i):
-        """The place of a DIFAT entry: the header has 109, each DIFAT sector 127."""
-        return 76 + 4 * i if i < 109 else 512 * (self.difats[(i - 109) // 127] + 1) + 4 * ((i - 109) % 127)
+        """The place of a DIFAT entry: the header has 109, each DIFAT sector as many as it has cells, less one."""
+        k, i = divmod(i - 109, self.g.difat) if i >= 109 else (-1, i)
+        return 76 + 4 * i if k < 0 else self.g.place(self.difats[k]) + 4 * i
 
     def link(self, k):
         """The place that names the DIFAT sector of number k, or the end: the header's field, then each DIFAT sector's last number."""
-        return 68 if k == 0 else 512 * self.difats[k - 1] + 512 + 508
+        return 68 if k == 0 else self.g.place(self.difats[k - 1] + 1) - 4
 
 
 cases = []
@@ -60,9 +61,9 @@ def case(base, number, *patches, length=None):
     cases.append((length or base.length, base.fills + [(at, 1, value, 0) for at, value in patches], number))
 
 
-def plain(fat, difat, spare=0):
+def plain(fat, difat, spare=0, g=V3):
     """FAT sectors first, then DIFAT sectors, the directory, and free sectors."""
-    return Base(fat + difat + 1 + spare, range(fat), range(fat, fat + difat), fat + difat)
+    return Base(fat + difat + 1 + spare, range(fat), range(fat, fat + difat), fat + difat, g)
 
 
 def each(base, number, place, values):

@@ -2,25 +2,11 @@
 """Writes the images that the program `validate_run` reads, and the numbers that it must print.
 
 The numbers are those that 01 and 02 give, rule by rule."""
-from images import DIFSECT, END, FATSECT, FREE, NONE, byte, entry, image, put, root, volume, with_entries, write
+from images import BLACK, DIFSECT, END, FATSECT, FREE, NONE, RED, ROOT, byte, entry, image, patched, put, root, storage, stream, volume, with_entries, write
 from letters import BESIDE, ENDS, IN_ORDER, OTHERS, OUT_OF_PLAIN_ORDER, order, respelled
 
-STORAGE, STREAM, ROOT = 1, 2, 5
-RED, BLACK = 0, 1
 # the upper half of a size: one bit of it, and all of it (W-205)
 BIT, ABOVE = 1 << 32, 0xFFFFFFFF << 32
-
-
-def stream(name, colour=BLACK, left=NONE, right=NONE, child=NONE, start=END, size=0):
-    return entry(name, STREAM, colour, left, right, child, start, size)
-
-
-def storage(name, colour=BLACK, left=NONE, right=NONE, child=NONE):
-    return entry(name, STORAGE, colour, left, right, child)
-
-
-def patched(e, at, new):
-    return e[:at] + bytes(new) + e[at + len(new):]
 
 
 def named(units, number=None, end=(0, 0)):
