@@ -1,4 +1,8 @@
-/* Compound files (MS-CFB, version 3): the C interface of a library in which every function is proved.
+/* Compound files (MS-CFB, versions 3 and 4): the C interface of a library in which every function is proved.
+ *
+ * An image is a whole file in memory. Its header names its version, and every call goes by it: a version 3 image is cut into
+ * sectors of 512 bytes and has 1,536 bytes at least, a version 4 image into sectors of 4,096 bytes and has 12,288 at least.
+ * Its length is a multiple of its sectors' and at most CFB_GREATEST_IMAGE.
  *
  * No call requires anything of the bytes that it is given: each call ends and answers. A pointer must point to as many
  * elements as its length says (where the length is 0, to anything but NULL; where it has no length, to one), and what a call
@@ -27,7 +31,7 @@ extern "C" {
 
 /* Answers. */
 #define CFB_DONE 0u
-#define CFB_BAD_LENGTH 1u  /* the image is shorter than 1,536 bytes, longer than 67,108,864, or no multiple of 512 */
+#define CFB_BAD_LENGTH 1u  /* the length is no multiple of 512 from 1,536 to 67,108,864; in version 4 of 4,096 from 12,288 */
 #define CFB_SHORT_WORK 2u  /* the work buffer has fewer numbers than CFB_WORK_NEED says */
 #define CFB_HEADER 10u     /* 10 to 18: the first group of rules that the image breaks */
 #define CFB_TABLES 11u
@@ -52,10 +56,10 @@ extern "C" {
 #define CFB_STREAM 2u
 #define CFB_ROOT 5u
 
-/* The longest image, in bytes. */
+/* The longest image, in bytes, of either version. */
 #define CFB_GREATEST_IMAGE 67108864u
 
-/* How many 32-bit numbers the work buffer needs for an image of n bytes. */
+/* How many 32-bit numbers the work buffer needs for an image of n bytes, of either version. */
 #define CFB_WORK_NEED(n) (13u * ((size_t)(n) / 512u))
 
 /* Whether an image keeps every rule: 0, or the number of the first group that it breaks. The time is linear in the image's
@@ -63,8 +67,9 @@ extern "C" {
 uint32_t cfb_validate(const uint8_t *image, size_t image_len, uint32_t *work, size_t work_len);
 
 /* The entry that a path leads to: its number in the directory, its type and its size in bytes (of the root, the size of the
- * stream that holds all small streams; of a storage 0). A size is the lower half of the eight bytes that the file has for it:
- * older programs left anything in the upper one. Answers 20, 21 and 22; of 21 and 22 the first name that fails decides. */
+ * stream that holds all small streams; of a storage 0). In version 3 a size is the lower half of the eight bytes that the file
+ * has for it: older programs left anything in the upper one. In version 4 all eight count. Answers 20, 21 and 22; of 21 and 22
+ * the first name that fails decides. */
 uint32_t cfb_find(const uint8_t *image, size_t image_len, uint32_t *work, size_t work_len, const uint16_t *path,
                   size_t path_len, uint32_t *entry, uint32_t *type, uint64_t *size);
 

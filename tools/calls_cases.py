@@ -1,7 +1,7 @@
 #!/usr/bin/env python3
 """Writes the calls that the program `calls_run` makes, and the lines that it must print.
 
-Every answer stands here, or in `edit_cases.py`, `letter_cases.py` and `size_cases.py`, as 01 and 02 give it; values and bytes come from the
+Every answer stands here, or in the modules `*_cases.py` that it takes groups from, as 01 and 02 give it; values and bytes come from the
 plan of the image and from the edits made, and images after edits from `edits.py`. Nothing is asked of the library.
 `groups.py` says how a call is laid out and what is printed of it."""
 import os
@@ -9,6 +9,8 @@ import struct
 import edit_cases
 import letter_cases
 import size_cases
+import version4_cases
+import version4_images
 from groups import FIND, LIST, OVERWRITE, READ, SET_LENGTH, VALIDATE, Group
 from images import END, byte, entry, image, put, root
 from plans import Plan, text
@@ -108,8 +110,8 @@ broken += [(image(3, [0], [], [1], [root(1), entry("!", 2)]), 14), (image(3, [0]
 # a storage and a blank entry that have a byte in the upper half of their size (W-205), where the root and a stream may have it
 above = image(3, [0], [], [1], [root(1, size=1 << 32), entry("s", 2, right=2, size=1 << 63), entry("Site", 1)])
 broken += [(byte(above, 1024 + 128 * i + at, value), 14) for i in (2, 3) for at, value in [(124, 1), (127, 0x80)]]
-groups = [g, s] + edit_cases.groups() + letter_cases.groups() + size_cases.groups()
-for img, number in broken:
+groups = [g, s] + edit_cases.groups() + letter_cases.groups() + size_cases.groups() + version4_cases.groups()
+for img, number in broken + version4_images.REFUSED:
     b = Group(img=img)
     b.call(VALIDATE, number)
     for path in ["", "s", "gone", "a//b", "!"]:

@@ -3,45 +3,49 @@
 Every answer stands here as 01 and 02 give it; the image after each edit is worked out by `edits.py`, and each stream's bytes by the edits made."""
 from edits import Edited
 from groups import VALIDATE, Group
+from images import V3, V4
 from plans import Plan, text
 
 most = 2 ** 64 - 1
 WASTE = 0xEE
 # lengths for which there is never room. Cut to 32 bits, counted in units cut to 32 bits, or rounded up beyond 64 bits, they would be small
-absurd = [2 ** 32, 2 ** 32 + 64, 2 ** 32 + 4096, 2 ** 38 + 64, 2 ** 41, 2 ** 41 + 4096, 2 ** 63, most - 511, most - 510, most - 63, most - 62, most - 1, most]
+absurd = [2 ** 32, 2 ** 32 + 64, 2 ** 32 + 4096, 2 ** 38 + 64, 2 ** 41, 2 ** 41 + 4096, 2 ** 44, 2 ** 44 + 4096, 2 ** 63, most - 4095, most - 4094, most - 511, most - 510,
+          most - 63, most - 62, most - 1, most]
 
 
-def room_for_a_large_stream():
-    """0 to 4096: with 8 free sectors, and with 7."""
-    eight = Group(Plan({"zero": b""}, free=8, waste=WASTE, fat=4))
+def room_for_a_large_stream(version, fat):
+    """0 to 4096: with as many free sectors as that needs (8 in version 3, one in version 4), and with one less."""
+    need = version.need(4096)
+    enough = Group(Plan({"zero": b""}, free=need, waste=WASTE, fat=fat, g=version))
     for length in [4097] + absurd:
-        eight.resize("zero", length, 26)
-    eight.resize("zero", 4096, 0)
-    eight.shows("zero")
-    eight.lists(100)
-    eight.resize("zero", 4097, 26)
-    eight.resize("zero", 4096, 0)
-    eight.resize("zero", 1, 25)
-    eight.resize("zero", 0, 0)
-    eight.shows("zero")
-    eight.lists(100)
-    eight.call(VALIDATE, 0)
-    seven = Group(Plan({"zero": b""}, free=7, waste=WASTE))
+        enough.resize("zero", length, 26)
+    enough.resize("zero", 4096, 0)
+    enough.shows("zero")
+    enough.lists(100)
+    enough.resize("zero", 4097, 26)
+    enough.resize("zero", 4096, 0)
+    enough.resize("zero", 1, 25)
+    enough.resize("zero", 0, 0)
+    enough.shows("zero")
+    enough.lists(100)
+    enough.call(VALIDATE, 0)
+    less = Group(Plan({"zero": b""}, free=need - 1, waste=WASTE, g=version))
     # no mini stream, so no mini sector either
     for length in [4096, 4097, 5120, 1, 64, 3584, 4095] + absurd:
-        seven.resize("zero", length, 26)
-    seven.resize("zero", 0, 0)
-    seven.overwrite("zero", 0, b"", 0)
-    seven.overwrite("zero", 1, b"", 24)
-    seven.overwrite("zero", 0, b"x", 24)
-    seven.shows("zero")
-    seven.lists(100)
-    return [eight, seven]
+        less.resize("zero", length, 26)
+    less.resize("zero", 0, 0)
+    less.overwrite("zero", 0, b"", 0)
+    less.overwrite("zero", 1, b"", 24)
+    less.overwrite("zero", 0, b"x", 24)
+    less.shows("zero")
+    less.lists(100)
+    return [enough, less]
 
 
-def over_the_cutoff():
+def over_the_cutoff(version, fat):
     """4095 to 4096 and back, with room for either, and two large streams that take what the other leaves."""
-    g = Group(Plan({"edge": text(5, 4095), "whole": text(13, 4096), "zero": b""}, free=8, free_minis=64, waste=WASTE, fat=11))
+    tree = {"edge": text(5, 4095), "whole": text(13, 4096), "zero": b""}
+    g = Group(Plan(tree, free=version.need(4096), free_minis=64, waste=WASTE, fat=fat, g=version))
     for path, lengths in [("edge", [4096, 4097, 8192] + absurd), ("whole", [4095, 4094, 4032, 65, 64, 63, 1])]:
         for length in lengths:
             g.resize(path, length, 25)
@@ -88,9 +92,9 @@ def over_the_cutoff():
     return [g]
 
 
-def room_for_small_streams():
+def room_for_small_streams(version):
     """64, 65 and 4095 from 0, with enough free mini sectors and with one too few."""
-    g = Group(Plan({"a": b"", "b": b"", "c": b""}, free_minis=64, waste=WASTE, fat=2))
+    g = Group(Plan({"a": b"", "b": b"", "c": b""}, free_minis=64, waste=WASTE, fat=2, g=version))
     for length in absurd:
         g.resize("a", length, 26)
     for path, length, number in [
@@ -109,7 +113,7 @@ def room_for_small_streams():
             g.shows(path)
     g.lists(100)
     g.call(VALIDATE, 0)
-    less = Group(Plan({"a": b"", "b": b""}, free_minis=63, waste=WASTE))
+    less = Group(Plan({"a": b"", "b": b""}, free_minis=63, waste=WASTE, g=version))
     less.resize("a", 4095, 26)
     less.resize("a", 4033, 26)
     less.resize("a", 4032, 0)
@@ -165,7 +169,7 @@ def tails(g):
 
 def overwrites(g):
     """Bytes inside one unit, over the ends of units, the whole stream, none; and those that would end behind the stream."""
-    for path, unit in [("log", 512), ("Site/deep/Pump", 64), ("jets", 64), ("Site/tail", 64)]:
+    for path, unit in [("log", g.plan.g.sector), ("Site/deep/Pump", 64), ("jets", 64), ("Site/tail", 64)]:
         size = len(g.rows[path])
         for place, count in [(0, 1), (3, 20), (unit - 1, 1), (unit, 1), (unit - 1, 2), (unit - 5, 10), (0, size), (size - 1, 1), (size - 3, 3), (0, 0), (1, 0), (size, 0)]:
             if place + count <= size:
@@ -257,9 +261,10 @@ def beside_the_exclamation_mark():
     return [g]
 
 
-def many_calls():
-    """One image, and all its calls."""
-    g = Group(Plan({"jets": text(11, 100), "log": text(7, 5000), "Site": {"tail": text(3, 70), "deep": {"Pump": text(9, 600)}}, "void": b""}, free=6, free_minis=16, waste=WASTE, fat=7))
+def many_calls(version, fat):
+    """One image, and all its calls. There is room for a log of 8192 bytes."""
+    tree = {"jets": text(11, 100), "log": text(7, 5000), "Site": {"tail": text(3, 70), "deep": {"Pump": text(9, 600)}}, "void": b""}
+    g = Group(Plan(tree, free=version.need(8192) - version.need(5000), free_minis=16, waste=WASTE, fat=fat, g=version))
     overwrites(g)
     tails(g)
     refusals(g)
@@ -267,4 +272,5 @@ def many_calls():
 
 
 def groups():
-    return room_for_a_large_stream() + over_the_cutoff() + room_for_small_streams() + two_mini_fat_sectors() + beside_the_exclamation_mark() + many_calls()
+    third = room_for_a_large_stream(V3, 4) + over_the_cutoff(V3, 11) + room_for_small_streams(V3) + two_mini_fat_sectors() + beside_the_exclamation_mark() + many_calls(V3, 7)
+    return third + room_for_a_large_stream(V4, 1) + over_the_cutoff(V4, 5) + room_for_small_streams(V4) + many_calls(V4, 3)

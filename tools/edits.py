@@ -2,17 +2,9 @@
 
 Nothing is judged here: the image is an accepted one of at most 109 FAT sectors."""
 import struct
-from images import END, FREE
+from images import END, FREE, version
 
 SECTORS, MINIS = 0, 1
-
-
-def need(kind, length):
-    """The units of a kind that a stream of this length needs."""
-    if (length < 4096) != (kind == MINIS):
-        return 0
-    unit = 64 if kind == MINIS else 512
-    return (length + unit - 1) // unit
 
 
 class Edited:
@@ -20,11 +12,13 @@ class Edited:
 
     def __init__(self, image):
         self.bytes = bytearray(image)
+        self.g = version(image)
+        self.unit_bytes = [self.g.sector, 64]
         self.fats = [self.word(76 + 4 * i) for i in range(self.word(44))]
         self.directory = self.chain(SECTORS, self.word(48))
         self.mini_fats = self.chain(SECTORS, self.word(60))
         self.mini_stream = self.chain(SECTORS, self.word(self.entry_at(0) + 116))
-        self.limits = [len(image) // 512 - 1, self.size(0) // 64]
+        self.limits = [len(image) // self.g.sector - 1, self.size(0) // 64]
 
     # ---- bytes of the image
 
@@ -35,27 +29,29 @@ class Edited:
         struct.pack_into(form, self.bytes, at, value)
 
     def entry_at(self, entry):
-        return 512 * (self.directory[entry // 4] + 1) + 128 * (entry % 4)
+        return self.g.place(self.directory[entry // self.g.entries]) + 128 * (entry % self.g.entries)
 
     def size(self, entry):
-        """The size as read: the lower half of its field (02, W-205)."""
-        return self.word(self.entry_at(entry) + 120)
+        return self.g.size(self.bytes[self.entry_at(entry):][:128])
 
     def upper(self, entry):
         return self.word(self.entry_at(entry) + 124)
 
     def cell_at(self, kind, unit):
         tables = self.mini_fats if kind == MINIS else self.fats
-        return 512 * (tables[unit // 128] + 1) + 4 * (unit % 128)
+        return self.g.place(tables[unit // self.g.cells]) + 4 * (unit % self.g.cells)
 
     def byte_at(self, kind, chain, offset):
         """Where a stream's byte stands."""
         if kind == SECTORS:
-            return 512 * (chain[offset // 512] + 1) + offset % 512
-        at = 64 * chain[offset // 64] + offset % 64
-        return 512 * (self.mini_stream[at // 512] + 1) + at % 512
+            return self.g.place(chain[offset // self.g.sector]) + offset % self.g.sector
+        return self.byte_at(SECTORS, self.mini_stream, 64 * chain[offset // 64] + offset % 64)
 
     # ---- units
+
+    def need(self, kind, length):
+        """The units of a kind that a stream of this length needs."""
+        return -(-length // self.unit_bytes[kind]) if (length < 4096) == (kind == MINIS) else 0
 
     def chain(self, kind, unit):
         units = []
@@ -93,14 +89,14 @@ class Edited:
             return 0
         if 0 < min(old, new) < 4096 <= max(old, new):
             return 25
-        if any(need(kind, new) - need(kind, old) > len(self.free(kind)) for kind in (SECTORS, MINIS)):
+        if any(self.need(kind, new) - self.need(kind, old) > len(self.free(kind)) for kind in (SECTORS, MINIS)):
             return 26
         kind = MINIS if max(old, new) < 4096 else SECTORS
         chain = self.stream(entry)[1]
         if new < old:
-            self.shorten(kind, chain, need(kind, new))
+            self.shorten(kind, chain, self.need(kind, new))
         else:
-            self.lengthen(kind, chain, need(kind, new), old)
+            self.lengthen(kind, chain, self.need(kind, new), old)
         at = self.entry_at(entry)
         if 0 in (old, new):
             self.put("<I", at + 116, chain[0] if chain else END)
@@ -122,5 +118,5 @@ class Edited:
                 self.put("<I", self.cell_at(kind, chain[-1]), unit)
             self.put("<I", self.cell_at(kind, unit), END)
             chain.append(unit)
-        for i in range(old, count * (64 if kind == MINIS else 512)):
+        for i in range(old, count * self.unit_bytes[kind]):
             self.bytes[self.byte_at(kind, chain, i)] = 0

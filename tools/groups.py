@@ -54,7 +54,7 @@ class Group:
     def finds(self, path, spelled=None):
         spelled = path if spelled is None else spelled
         kind = ROOT if spelled == "" else STORAGE if spelled in self.plan.storages else STREAM
-        size = struct.unpack_from("<I", self.plan.root, 120)[0] if kind == ROOT else len(self.rows.get(spelled, b""))
+        size = self.plan.g.size(self.plan.root) if kind == ROOT else len(self.rows.get(spelled, b""))
         self.call(FIND, 0, path, entry=self.plan.entries[spelled], type=kind, size=size)
 
     def reads(self, path, place, room, spelled=None):

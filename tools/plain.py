@@ -1,4 +1,4 @@
-"""A plain reader of compound files of version 3: it follows the links and judges nothing. For images that are known to be valid."""
+"""A plain reader of compound files: it follows the links and judges nothing. For images that are known to be valid."""
 import struct
 
 END, NONE = 0xFFFFFFFE, 0xFFFFFFFF
@@ -15,10 +15,13 @@ def u32(b, at):
 class Reader:
     def __init__(self, image):
         self.image = image
+        self.sector_bytes, self.cells_in = 1 << u16(image, 30), 1 << u16(image, 30) - 2
+        # in version 3 the upper half of a size does not count
+        self.size_bytes = 4 if u16(image, 26) == 3 else 8
         fats, difat = [u32(image, 76 + 4 * i) for i in range(109)], u32(image, 68)
         while difat != END:
-            numbers = [u32(self.sector(difat), 4 * i) for i in range(128)]
-            fats, difat = fats + numbers[:127], numbers[127]
+            numbers = self.numbers([difat])
+            fats, difat = fats + numbers[:-1], numbers[-1]
         self.cells = self.numbers(fats[:u32(image, 44)])
         directory = self.chained(u32(image, 48))
         self.entries = [directory[at:at + 128] for at in range(0, len(directory), 128)]
@@ -26,10 +29,10 @@ class Reader:
         self.mini_cells = self.numbers(self.chain(self.cells, u32(image, 60)))
 
     def sector(self, s):
-        return self.image[512 * (s + 1):512 * (s + 2)]
+        return self.image[self.sector_bytes * (s + 1):self.sector_bytes * (s + 2)]
 
     def numbers(self, sectors):
-        return [u32(self.sector(s), 4 * i) for s in sectors for i in range(128)]
+        return [u32(self.sector(s), 4 * i) for s in sectors for i in range(self.cells_in)]
 
     def chain(self, cells, s):
         found = []
@@ -41,9 +44,12 @@ class Reader:
     def chained(self, s):
         return b"".join(self.sector(t) for t in self.chain(self.cells, s))
 
+    def size(self, e):
+        return int.from_bytes(e[120:120 + self.size_bytes], "little")
+
     def stream(self, e):
         """The bytes of a stream's entry."""
-        start, size = u32(e, 116), u32(e, 120)
+        start, size = u32(e, 116), self.size(e)
         if 4096 <= size:
             return self.chained(start)[:size]
         return b"".join(self.pool[64 * m:64 * (m + 1)] for m in self.chain(self.mini_cells, start))[:size]
@@ -64,5 +70,5 @@ class Reader:
             yield from self.objects(x, path + "/")
 
     def listing(self):
-        lines = ["%s %d %s\n" % ("F" if x[66] == 2 else "D", u32(x, 120), path) for path, x in self.objects()]
+        lines = ["%s %d %s\n" % ("F" if x[66] == 2 else "D", self.size(x), path) for path, x in self.objects()]
         return ("objects %d\n" % len(lines) + "".join(lines)).encode()

@@ -2,7 +2,7 @@
 
 A storage is a dict from names to objects, a stream is its bytes."""
 import random
-from images import END, NONE, entry, root, volume
+from images import END, NONE, V3, entry, root, volume
 from letters import order, units
 
 
@@ -20,10 +20,10 @@ class Plan:
 
     Units are dealt out in an order that the seed shuffles, so that chains wander; `free` and `free_minis` units are left over. The byte `waste`
     stands wherever nothing is stored and nothing is judged: in free units, behind a stream's end and a name's, in a stream's state bits. `upper` has
-    the upper half of the sizes of streams and of the root, by path, where it is not zero."""
+    the upper half of the sizes of streams and of the root, by path, where it is not zero. `g` has the sizes of the image's version."""
 
-    def __init__(self, tree, free=0, free_minis=0, seed=1, waste=0, fat=0, upper={}):
-        self.tree, self.waste, self.fat, self.upper = tree, bytes([waste]), fat, upper
+    def __init__(self, tree, free=0, free_minis=0, seed=1, waste=0, fat=0, upper={}, g=V3):
+        self.tree, self.waste, self.fat, self.upper, self.g = tree, bytes([waste]), fat, upper, g
         self.entries, self.streams, self.storages = {"": 0}, {}, []
         self.number(tree, "")
         self.mix = random.Random(seed)
@@ -65,7 +65,8 @@ class Plan:
         large = {p: b for p, b in self.streams.items() if 4096 <= len(b)}
         minis = list(range(sum(-(-len(b) // 64) for b in small.values()) + free_minis))
         size = 64 * len(minis)
-        counts = [-(-len(self.entries) // 4), -(-len(minis) // 128), -(-size // 512)] + [-(-len(b) // 512) for b in large.values()]
+        g = self.g
+        counts = [-(-len(self.entries) // g.entries), -(-len(minis) // g.cells), g.need(size)] + [g.need(len(b)) for b in large.values()]
         total = 1 + sum(counts) + free
         sectors = [s for s in range(total) if s != self.fat]
         self.mix.shuffle(sectors)
@@ -79,16 +80,17 @@ class Plan:
                 cells[m] = t
         starts = {p: c[0] for p, c in list(chain_of.items()) + list(mini_of.items())}
         directory, mini_fat, mini_stream = chains[:3]
-        img = volume(total, directory, [c for c in [mini_stream] + list(chain_of.values()) if c], self.rows(tree, mini_stream, size, starts), mini_fat, cells, self.fat)
-        pool = bytearray(self.waste * 512 * len(mini_stream))
+        rows = self.rows(tree, mini_stream, size, starts)
+        img = volume(total, directory, [c for c in [mini_stream] + list(chain_of.values()) if c], rows, mini_fat, cells, self.fat, g)
+        pool = bytearray(self.waste * g.sector * len(mini_stream))
         for p, c in mini_of.items():
             for i, m in enumerate(c):
                 part = small[p][64 * i:64 * (i + 1)]
                 pool[64 * m:64 * m + len(part)] = part
         for data, chain in [(bytes(pool), mini_stream), (b"", sectors)] + [(large[p], c) for p, c in chain_of.items()]:
             for i, s in enumerate(chain):
-                part = data[512 * i:512 * (i + 1)].ljust(512, self.waste)
-                img = img[:512 * (s + 1)] + part + img[512 * (s + 2):]
+                part = data[g.sector * i:g.sector * (i + 1)].ljust(g.sector, self.waste)
+                img = img[:g.place(s)] + part + img[g.place(s + 1):]
         return img
 
     def rows(self, tree, mini_stream, size, starts):

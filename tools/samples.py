@@ -6,6 +6,7 @@ import os
 import struct
 import expected
 import printed
+from images import V4
 from plain import Reader
 from plans import Plan
 
@@ -29,16 +30,17 @@ def read(folder, name):
         return f.read()
 
 
-site = Plan({"Site": {"log": text("line 7 of the site's log\n", 5000), "Jets": text("jet 12 opens\n", 70)}})
+tree = {"Site": {"log": text("line 7 of the site's log\n", 5000), "Jets": text("jet 12 opens\n", 70)}}
+site, site4 = Plan(tree), Plan(tree, g=V4)
 nested = Plan({
     "Pumps": {"Nord": {"gauge": text("0123456789", 4095), "valve": b""}, "Süd": {}},
     "Timing": text("tick\n", 4096),
     "note": b"Read me first.\n",
 }, free=3, free_minis=2)
-plans = {"site.cfb": site, "nested.cfb": nested}
+plans = {"site.cfb": site, "nested.cfb": nested, "site4.cfb": site4}
 
 # 01 gives this listing, whole
-assert site.listing == b"objects 3\nD 0 Site\nF 5000 Site/log\nF 70 Site/Jets\n"
+assert site.listing == site4.listing == b"objects 3\nD 0 Site\nF 5000 Site/log\nF 70 Site/Jets\n"
 for name, plan in plans.items():
     assert Reader(plan.image).listing() == plan.listing
     write("samples/" + name, plan.image)

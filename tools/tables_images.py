@@ -3,10 +3,12 @@
 
 An image of 67,108,864 bytes has 1,024 FAT and 8 DIFAT sectors. A FAT may have more sectors than it needs, so that images of half a megabyte have as
 many. They are nearly all tables: the program reads fills, each so many numbers from a place on with a step between them, and these are worked out here
-from the image's bytes. The numbers to be printed are those that 01 gives, rule by rule; nothing is asked of the library."""
+from the image's bytes. Images of version 4 (02, W-207) are short so too: their sectors are nearly empty. The numbers to be printed are those that 01
+and 02 give, rule by rule; nothing is asked of the library."""
 import os
 import struct
-from images import DIFSECT, END, FATSECT, FREE, image, put
+from images import DIFSECT, END, FATSECT, FREE, V3, V4, image, put
+from version4_images import FILLED
 
 ROOM = 583680
 STEP = 1 << 32
@@ -33,23 +35,24 @@ def fills(img):
 class Base:
     """A good image with these FAT and DIFAT sectors, and the directory in one sector."""
 
-    def __init__(self, sectors, fats, difats, directory):
-        self.sectors, self.fats, self.difats, self.directory = sectors, list(fats), list(difats), directory
-        img = image(sectors, self.fats, self.difats, [directory])
+    def __init__(self, sectors, fats, difats, directory, g=V3):
+        self.sectors, self.fats, self.difats, self.directory, self.g = sectors, list(fats), list(difats), directory, g
+        img = image(sectors, self.fats, self.difats, [directory], g=g)
         self.length, self.fills = len(img), fills(img)
         assert self.length <= ROOM
 
     def cell(self, s):
         """The place of a sector's cell."""
-        return 512 * (self.fats[s // 128] + 1) + 4 * (s % 128)
+        return self.g.place(self.fats[s // self.g.cells]) + 4 * (s % self.g.cells)
 
     def entry(self, i):
-        """The place of a DIFAT entry: the header has 109, each DIFAT sector 127."""
-        return 76 + 4 * i if i < 109 else 512 * (self.difats[(i - 109) // 127] + 1) + 4 * ((i - 109) % 127)
+        """The place of a DIFAT entry: the header has 109, each DIFAT sector as many as it has cells, less one."""
+        k, i = divmod(i - 109, self.g.difat) if i >= 109 else (-1, i)
+        return 76 + 4 * i if k < 0 else self.g.place(self.difats[k]) + 4 * i
 
     def link(self, k):
         """The place that names the DIFAT sector of number k, or the end: the header's field, then each DIFAT sector's last number."""
-        return 68 if k == 0 else 512 * self.difats[k - 1] + 512 + 508
+        return 68 if k == 0 else self.g.place(self.difats[k - 1] + 1) - 4
 
 
 cases = []
@@ -60,9 +63,9 @@ def case(base, number, *patches, length=None):
     cases.append((length or base.length, base.fills + [(at, 1, value, 0) for at, value in patches], number))
 
 
-def plain(fat, difat, spare=0):
+def plain(fat, difat, spare=0, g=V3):
     """FAT sectors first, then DIFAT sectors, the directory, and free sectors."""
-    return Base(fat + difat + 1 + spare, range(fat), range(fat, fat + difat), fat + difat)
+    return Base(fat + difat + 1 + spare, range(fat), range(fat, fat + difat), fat + difat, g)
 
 
 def each(base, number, place, values):
@@ -202,6 +205,45 @@ case(eight, 10, (56, 4097), (F, 998))
 case(eight, 11, (eight.entry(999), 0), (eight.cell(1008), END))
 case(eight, 12, (eight.cell(1008), END), (48, END))
 each(eight, 13, 48, [END, FREE, 0, 998, 999, 1006, 1008])
+
+# ---- version 4: every rule, and then tables of 109 sectors, which the header names all, and of more. A DIFAT sector has 1,023 entries and a link
+for img, number in FILLED:
+    cases.append((len(img), fills(img + bytes(-len(img) % 4)), number))
+header, first, spare = plain(109, 0, g=V4), plain(110, 1, g=V4), plain(111, 1, spare=1, g=V4)
+falling, among = Base(112, range(111, 1, -1), [1], 0, V4), Base(120, [s for s in range(119) if s != 40][:111], [40], 119, V4)
+for base in [header, first, spare, falling, among]:
+    case(base, 0)
+    case(base, 1, length=base.length - 512)
+    case(base, 0, length=base.length + 4096)
+    each(base, 11, D, [1 - len(base.difats)])
+    each(base, 12, base.cell(1024 * len(base.fats) - 1), [END, FATSECT])
+for base in [header, first]:
+    # the counts, and where the DIFAT starts
+    behind = base.sectors
+    each(base, 11, F, [0, 1, len(base.fats) - 1, len(base.fats) + 1])
+    each(base, 11, D, [2, FREE])
+    each(base, 11, 68, [FREE, DIFSECT, base.fats[0], base.directory, behind] + [END] * len(base.difats))
+    # FAT sectors are below N and different; each has its mark, and no other sector has one
+    each(base, 11, base.entry(108), [base.fats[0], base.directory, behind, FREE])
+    for s in [base.fats[0], base.fats[-1]] + base.difats:
+        each(base, 11, base.cell(s), [FREE] + [FATSECT] * (s in base.difats))
+    each(base, 11, base.cell(base.directory), [FATSECT, DIFSECT])
+    # cells behind the last sector's, in the first FAT sector and in the second
+    for s in [behind, 1023, 1024]:
+        each(base, 12, base.cell(s), [END])
+    each(base, 12, base.cell(base.directory), [behind])
+for base in [first, falling, among]:
+    # the first entry of the DIFAT sector, those behind F, the last of 1,023, and the link
+    each(base, 11, base.entry(109), [base.fats[108], base.difats[0], base.directory, base.sectors])
+    for i in [len(base.fats), 109 + 126, 109 + 127, 109 + 1022]:
+        each(base, 11, base.entry(i), [base.fats[-1], END])
+    each(base, 11, base.link(1), [FREE, 0, base.difats[0]])
+# one FAT sector more would be right if F said so
+more = spare.sectors - 1
+free = put(image(spare.sectors, spare.fats + [more], spare.difats, [spare.directory], g=V4), (F, 111))
+case(spare, 11, (spare.entry(111), more))
+cases.append((len(free), fills(free), 11))
+cases.append((len(free), fills(put(free, (F, 112))), 0))
 
 out = os.path.join(os.path.dirname(os.path.abspath(__file__)), "..", "crates", "tables_run")
 with open(os.path.join(out, "stdin"), "wb") as f:

@@ -2,25 +2,12 @@
 """Writes the images that the program `validate_run` reads, and the numbers that it must print.
 
 The numbers are those that 01 and 02 give, rule by rule."""
-from images import DIFSECT, END, FATSECT, FREE, NONE, byte, entry, image, put, root, volume, with_entries, write
+import version4_images
+from images import DIFSECT, END, FATSECT, FREE, NONE, RED, ROOT, byte, entry, image, patched, put, root, storage, stream, volume, with_entries, write
 from letters import BESIDE, ENDS, IN_ORDER, OTHERS, OUT_OF_PLAIN_ORDER, order, respelled
 
-STORAGE, STREAM, ROOT = 1, 2, 5
-RED, BLACK = 0, 1
 # the upper half of a size: one bit of it, and all of it (W-205)
 BIT, ABOVE = 1 << 32, 0xFFFFFFFF << 32
-
-
-def stream(name, colour=BLACK, left=NONE, right=NONE, child=NONE, start=END, size=0):
-    return entry(name, STREAM, colour, left, right, child, start, size)
-
-
-def storage(name, colour=BLACK, left=NONE, right=NONE, child=NONE):
-    return entry(name, STORAGE, colour, left, right, child)
-
-
-def patched(e, at, new):
-    return e[:at] + bytes(new) + e[at + len(new):]
 
 
 def named(units, number=None, end=(0, 0)):
@@ -77,7 +64,7 @@ tables = [
     (small[:1535], 1), (small[:1024], 1), (small + bytes(511), 1), (b"", 1),
     # group 10, field by field; the minor version and the transaction number are free
     (byte(small, 0, 0xD1), 10), (byte(small, 7, 0), 10), (byte(small, 8, 1), 10), (byte(small, 23, 1), 10),
-    (byte(small, 26, 4), 10), (byte(small, 28, 0xFF), 10), (byte(small, 30, 12), 10), (byte(small, 32, 7), 10),
+    (byte(small, 26, 5), 10), (byte(small, 28, 0xFF), 10), (byte(small, 30, 12), 10), (byte(small, 32, 7), 10),
     (byte(small, 34, 1), 10), (byte(small, 39, 1), 10), (byte(small, 40, 1), 10), (byte(small, 56, 1), 10),
     (byte(small, 24, 0), 0), (byte(small, 52, 9), 0),
     # group 11: the counts, also far too large ones
@@ -254,4 +241,4 @@ spaces = [
     # the lowest number is given
     (put(busy(big=(4, 4095)), (64, 0)), 16), (put(busy(big=(4, 4095)), (cell(12), END)), 17), (put(busy(size=500), (cell(12), END)), 16),
 ]
-write("validate_run", tables + directories + spaces)
+write("validate_run", tables + directories + spaces + version4_images.WHOLE)

@@ -10,7 +10,8 @@ pub struct Entry {
     /// What it is.
     pub kind: Kind,
     /// Of a stream its length in bytes; of a storage 0; of the root the length of the stream that holds all small streams.
-    /// It is the lower half of the eight bytes that the file has for it: older programs left anything in the upper one.
+    /// In version 3 it is the lower half of the eight bytes that the file has for it, as older programs left anything in
+    /// the upper one; in version 4 it is all of them.
     pub size: u64,
 }
 

@@ -1,10 +1,13 @@
-//! Compound files (MS-CFB, version 3), by a library in which every function is proved.
+//! Compound files (MS-CFB, versions 3 and 4), by a library in which every function is proved.
 //!
-//! An image is a whole file in memory, a multiple of 512 bytes from 1,536 to 67,108,864. The caller lends it, with a work
-//! buffer of at least [`work_need`] numbers, which may hold anything and may be used again. A path is a slice of UTF-16
-//! units, with names parted by `/` and none at either end; the empty path is the root. [`path()`] makes one. Small and
-//! capital letters are the same: a to z, U+00E0 to U+00FF but U+00F7, U+03B1 to U+03C9 but U+03C2, U+0430 to U+045F, and
-//! their capitals. No other units are.
+//! An image is a whole file in memory. Its header names its version, and every call goes by it: a version 3 image is cut
+//! into sectors of 512 bytes and has 1,536 bytes at least, a version 4 image into sectors of 4,096 bytes and has 12,288 at
+//! least. Its length is a multiple of its sectors' and at most 67,108,864. The caller lends it, with a work buffer of at
+//! least [`work_need`] numbers, which may hold anything and may be used again.
+//!
+//! A path is a slice of UTF-16 units, with names parted by `/` and none at either end; the empty path is the root.
+//! [`path()`] makes one. Small and capital letters are the same: a to z, U+00E0 to U+00FF but U+00F7, U+03B1 to U+03C9 but
+//! U+03C2, U+0430 to U+045F, and their capitals. No other units are.
 //!
 //! Every call validates the whole image first, and refuses it as [`validate`] does. Only [`overwrite`] and [`set_len`]
 //! change it. After a refusal the image and an out buffer are as they were. The work buffer is as it was after
@@ -46,7 +49,7 @@ pub use volume::Volume;
 
 use answers::{answered, counted, found};
 
-/// How many numbers the work buffer needs for an image of so many bytes.
+/// How many numbers the work buffer needs for an image of so many bytes, of either version.
 pub const fn work_need(image_len: usize) -> usize {
     13 * (image_len / 512)
 }

@@ -32,7 +32,7 @@ macro_rules! refusals {
 }
 
 refusals! {
-    1 BadLength "the image is shorter than 1,536 bytes, longer than 67,108,864, or no multiple of 512"
+    1 BadLength "the image's length is no multiple of 512 from 1,536 to 67,108,864; in version 4 of 4,096 from 12,288"
     2 ShortWork "the work buffer is too short"
     10 Header "the image breaks a rule on the header"
     11 Tables "the image breaks a rule on the sectors of the tables"

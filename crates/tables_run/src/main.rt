@@ -1,5 +1,5 @@
-// Validates images that are nearly all tables, and prints the number that each gets. Standard input holds groups: the length of an image, the
-// number of its fills, and then those fills; bytes that no fill writes are zero. `tools/tables_images.py` writes them.
+// Validates images that are nearly all tables or nearly all zero, and prints the number that each gets. Standard input holds groups: the length of
+// an image, the number of its fills, and then those fills; bytes that no fill writes are zero. `tools/tables_images.py` writes them.
 ghost use mathlib.Core.Path.{_≡_};
 ghost use Prim.Native.Nat.{_≤_};
 ghost use lib.ListN.{length};

@@ -1,5 +1,6 @@
 //! The calls on samples/site.cfb: a storage Site with the streams log (5,000 bytes) and Jets (70 bytes), no sector and no
-//! mini sector free. What holds for any image is tried on samples/nested.cfb too.
+//! mini sector free. What holds for any image is tried on samples/nested.cfb too, and on samples/site4.cfb, which has the
+//! same objects in version 4.
 
 mod edits;
 mod letters;
@@ -10,6 +11,7 @@ mod readme;
 mod refusals;
 mod sizes;
 mod streams;
+mod versions;
 
 use gyomrelas::{path, read, work_need};
 

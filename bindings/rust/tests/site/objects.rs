@@ -37,7 +37,7 @@ fn they_are_those_of_the_listing() {
 
 #[test]
 fn each_is_found_by_its_path() {
-    for name in ["site.cfb", "nested.cfb"] {
+    for name in ["site.cfb", "nested.cfb", "site4.cfb"] {
         let (image, mut work) = sample(name);
         let mut volume = ReadOnlyVolume::open(&image, &mut work).expect("valid");
         for object in volume.objects().expect("short") {

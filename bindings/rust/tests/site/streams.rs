@@ -7,7 +7,7 @@ use gyomrelas::{path, Kind, ReadOnlyVolume, Refusal, Stream, Volume};
 
 #[test]
 fn all_bytes_are_those_of_a_read() {
-    for name in ["site.cfb", "nested.cfb"] {
+    for name in ["site.cfb", "nested.cfb", "site4.cfb"] {
         let (mut image, mut work) = sample(name);
         let before = image.clone();
         let mut volume = Volume::open(&mut image, &mut work).expect("valid");
