@@ -1,7 +1,7 @@
 -- The fields of one entry: of entry 0 and of the others, the rule of a name's, and what they say of a name's length.
 use Prim.Native.Nat.{ℕ, zero, suc, _-_, _/_, _%_, _≤_, _<_}
 use mathlib.Core.Path.{_≡_, refl, sym, _∙_}
-use mathlib.Core.Bool.{true, false, _&&_, _||_, and-true, and-false}
+use mathlib.Core.Bool.{true, false, _&&_, _||_, and-true, and-false, or-false}
 use native.Mathlib.Omega.{arith}
 use native.Mathlib.Decide.{decLt}
 use borrow.Author.Tests.{lt-leb, le-leb, ne-eqb}
@@ -9,7 +9,7 @@ use lib.Dec.{eqb}
 use Rattle.format.specs.Basics.Lists.{allBelow}
 use Rattle.format.specs.Basics.Bytes.{Bytes, part, number, u16at}
 use Rattle.format.specs.Layout.Name.{legalUnit, legalName}
-use Rattle.format.specs.Layout.Entry.{nameBytes, nameUnit, name, isRoot, isBlank, isStorage, isStream}
+use Rattle.format.specs.Layout.Entry.{nameBytes, nameUnit, name, kind, isRoot, isBlank, isStorage, isStream}
 use Rattle.format.specs.Rules.Entries.{nameFields, entryFields, rootFields, commonFields, blankFields, storageFields, streamFields}
 use Rattle.theory.proofs.Tests.{clash}
 use Rattle.theory.proofs.Below.{length-below}
@@ -29,6 +29,24 @@ pub fields-other : (i : ℕ) (e : Bytes) → (i ≡ 0 → ⊥) → entryFields i
 unfolding entryFields
 fields-other zero e h = absurd (h refl)
 fields-other (suc i) e h = refl
+
+-- an entry other than the root, by its colour and its type
+module _ (i : ℕ) (e : Bytes) (n : i ≡ 0 → ⊥) where
+  pub fields-colour : commonFields e ≡ false → entryFields i e ≡ false
+  fields-colour c = rw (fields-other i e n, c, and-false)
+
+  module _ (c : commonFields e ≡ true) where
+    fields-types : entryFields i e ≡ ((isBlank e && blankFields e) || (isStorage e && storageFields e) || (isStream e && streamFields e))
+    fields-types = rw (fields-other i e n, c, and-true)
+
+    pub fields-stream : kind e ≡ 2 → entryFields i e ≡ streamFields e
+    fields-stream k = rw (fields-types, k)
+
+    pub fields-storage : kind e ≡ 1 → entryFields i e ≡ storageFields e
+    fields-storage k = rw (fields-types, k, or-false)
+
+    pub fields-rest : (kind e ≡ 2 → ⊥) → (kind e ≡ 1 → ⊥) → entryFields i e ≡ (isBlank e && blankFields e)
+    fields-rest s d = rw (fields-types, ne-eqb (kind e) 2 s, ne-eqb (kind e) 1 d) (simp or-false)
 
 -- ---- the name's fields
 

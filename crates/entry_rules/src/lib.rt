@@ -100,7 +100,7 @@ fn common_fields(img: &[u8], p: usize) -> bool
 
 // ---- all of it
 
-// Group 14 of entry x, which stands at p.
+// Group 14 of entry x, which stands at p. Only the fields of its own type are looked at.
 fn entry_fields(img: &[u8], p: usize, x: EntryId) -> bool
     requires { ⌜ p + 128 ≤ length (now img) ⌝ }
     ensures { λ r. ⌜ r ≡ entryFields (x .0) (entryAt (now (img .entry)) p) ⌝ }
@@ -109,10 +109,16 @@ fn entry_fields(img: &[u8], p: usize, x: EntryId) -> bool
     if x.is_root() {
         return t.is_root() & root_fields(img, p) & common_fields(img, p);
     }
-    ((t.is_blank() & blank_fields(img, p))
-        | (t.is_storage() & storage_fields(img, p))
-        | (t.is_stream() & stream_fields(img, p)))
-        & common_fields(img, p)
+    if !common_fields(img, p) {
+        return false;
+    }
+    if t.is_stream() {
+        return stream_fields(img, p);
+    }
+    if t.is_storage() {
+        return storage_fields(img, p);
+    }
+    t.is_blank() & blank_fields(img, p)
 }
 
 pub fn entry_rules(img: &[u8], work: &[u32], d: Directory) -> bool
