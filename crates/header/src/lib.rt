@@ -115,7 +115,7 @@ pub fn directory_count(img: &[u8]) -> u32
     u32_at(img, 40)
 }
 
-// Whether the header counts n sectors of the directory, or counts none at all.
+// Whether the header's count of directory sectors is n. Where a version has no such count, any n is right.
 pub fn count_right(img: &[u8], g: Geometry, n: usize) -> bool
     requires { ⌜ 512 ≤ length (now img) ⌝ }
     ensures { λ r. ⌜ r ≡ not (countsDirectory (geometryOf g)) || eqb (directoryCount (now (img .entry))) n ⌝ }
