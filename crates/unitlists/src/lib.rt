@@ -53,7 +53,7 @@ pub fn list_free(
 ) -> usize
     requires { ⌜ Readied v (now img) (now work) ⌝ }
     requires { ⌜ k ≤ need ⌝ }
-    requires { ⌜ need ≤ spaceAt v (now img) kind .limit ⌝ }
+    requires { ⌜ need ≤ v .stream ⌝ }
     ensures { λ r. ⌜ r ≡ min need (k + length (freeUnits (spaceAt v (now (img .entry)) kind))) ⌝ }
     ensures { λ r. ⌜ take r (now (work .exit)) ≡ take need (take k (now (work .entry)) ++ freeUnits (spaceAt v (now (img .entry)) kind)) ⌝ }
     ensures { λ _. ⌜ Wrote (now (work .entry)) (now (work .exit)) 0 need ⌝ }

@@ -7,7 +7,7 @@ use Rattle.volume.proofs.ListsKept.{ready-kept}
 use Rattle.spaces.specs.Spaces.{spaceAt}
 use Rattle.spaces.specs.Units.{numberIn}
 use Rattle.unitlists.specs.Free.{LowestFree, NextFree}
-use Rattle.unitlists.proofs.Limits.{limit-room, limit-work, limit-end}
+use Rattle.unitlists.proofs.Limits.{limit-end}
 use Rattle.unitlists.proofs.Picking.{Picking, picking-start, picking-step, picking-none, picking-full}
 use Rattle.unitlists.proofs.list_free.Statement.{statement}
 use Rattle.unitlists.proofs.list_free.Tie as tie
@@ -20,10 +20,7 @@ abbrev μ-loop : tie.MeasureT-loop
 
 -- the list has room before the others
 room : (c : tie.Start Inv-loop μ-loop) → let a = c .args in (a .need ≤ a .v .stream) × (a .need ≤ length (a .work .now))
-room c =
-    let p = c .pre .0 in
-    let k = c .args .kind in
-    (omega (arith, c .pre .1 .1, limit-room p k), omega (arith, c .pre .1 .1, limit-work p k))
+room c = (c .pre .1 .1, omega (arith, c .pre .1 .1, c .pre .0 .stream .room))
 
 -- what the first k numbers are taken from
 enough : (c : tie.Start Inv-loop μ-loop) → c .args .k ≤ length (c .args .work .now)

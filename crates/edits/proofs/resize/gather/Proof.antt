@@ -7,6 +7,7 @@ use Rattle.tables.proofs.WorkLaws.{wrote-two}
 use Rattle.spaces.specs.Spaces.{spaceAt, unitCount}
 use Rattle.spaces.specs.Units.{kindOf}
 use Rattle.spaces.proofs.Listed.{count-same}
+use Rattle.unitlists.proofs.Limits.{limit-room}
 use Rattle.edits.proofs.Gathering.{gathered-wrote, gathered-ready, old-short, needs-more, own-enough, own-first, free-enough, own-still, all-listed}
 use Rattle.edits.proofs.resize.gather.Statement.{statement}
 use Rattle.edits.proofs.resize.gather.Tie as tie
@@ -43,7 +44,7 @@ gather-spec =
     let l = c .before .before .before .before .before .before .list-units .ensures in
     let k = kindOf (p .args .start) in
     let few = old-short (p .pre .0) k _ _ (p .pre .1) in
-    (gathered-ready (p .pre .0) (gathered-wrote (p .pre .0) k _ few (l .1)), (omega (arith, c .before .if2 .left), rw (c .before .before .before .before .before .before .before .before .kind .ensures) (omega (arith, c .before .before .if1 .left, many (c .before .before .before))))))  -- list-free-requires
+    (gathered-ready (p .pre .0) (gathered-wrote (p .pre .0) k _ few (l .1)), (omega (arith, c .before .if2 .left), omega (arith, c .before .before .if1 .left, many (c .before .before .before), limit-room (p .pre .0) k))))  -- list-free-requires
     (λ c. search needs)  -- same-length-3
     (λ c.
     let p = c .before .before .before .before .before .before .before .before .before .before .before .before .before .before in
