@@ -1,5 +1,5 @@
--- The number of units of either kind where a volume is ready: their list has room at the start of the work buffer.
-use Prim.Native.Nat.{ℕ, _*_, _/_, _≤_}
+-- The number of units of either kind where a volume is ready: a list of them all has room at the start of the work buffer.
+use Prim.Native.Nat.{ℕ, _+_, _*_, _/_, _≤_}
 use mathlib.Core.List.{List}
 use native.Mathlib.Omega.{arith}
 use lib.ListN.{length}
@@ -19,6 +19,11 @@ module _ {v : Volume} {img : Bytes} {work : List ℕ} (r : Readied v img work) w
   unfolding volume sectorSpace
   limit-bound Sectors = omega (arith, r .lists .mini .fat .sized .many)
   limit-bound Minis = omega (arith, count-same r Minis, r .lists .minis .counts .few)
+
+  -- the units of both kinds together
+  pub limits-room : spaceAt v img Sectors .limit + spaceAt v img Minis .limit ≤ v .stream
+  unfolding volume sectorSpace
+  limits-room = omega (arith, r .lists .mini .fat .sized .many, count-same r Minis, r .lists .minis .counts .few, r .room)
 
   pub limit-room : (kind : Kind) → spaceAt v img kind .limit ≤ v .stream
   limit-room kind = omega (arith, limit-bound kind, r .room)

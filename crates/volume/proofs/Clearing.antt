@@ -43,7 +43,7 @@ module _ {t : Tables} {img : Bytes} {w : List ℕ} {n : ℕ} (h : TablesHold (ge
   few = omega (arith, tables-apart g img (h .listed .sized) (h .tables) (h .chained), h .count)
 
   -- the directory's list starts behind all marks
-  pub list-room : 8 * (length img / 512) + 2 * sectorCount g img + n ≤ t .list
+  pub list-room : 9 * (length img / 512) + 2 * sectorCount g img + n ≤ t .list
   list-room = omega (arith, list-is, tables-apart g img (h .listed .sized) (h .tables) (h .chained), h .count, h .listed .sized .many)
 
   pub marks-in : t .sectors ≤ length w

@@ -25,12 +25,12 @@ use Rattle.volume.specs.declared.Opened.the-variants.{Refused, Ready}
 abbrev pub streamOf : Volume → Bytes → List ℕ
 streamOf v img = miniStreamSectors (geometryOf (v .tables .geometry)) img
 
--- every list stands in the work buffer, that of the mini stream's sectors first; before it there is room to list every unit of a kind
+-- every list stands in the work buffer, that of the mini stream's sectors first; before it there is room to list every sector and every mini sector
 pub record Readied (v : Volume) (img : Bytes) (work : List ℕ) : Type 0 where
   pub lists : ListsStand (v .tables) (v .directory) (v .minis) img work
   pub stream : Holds work (v .stream) (length (streamOf v img)) (unitAt (streamOf v img))
   pub before : v .stream ≤ v .minis .list
-  pub room : 8 * (length img / 512) ≤ v .stream
+  pub room : 9 * (length img / 512) ≤ v .stream
 
 -- a stage that answers `want`
 abbrev pub Outcome : Sizes → Bytes → ℕ → List ℕ → Opened → Type 0

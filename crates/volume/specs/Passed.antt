@@ -45,7 +45,7 @@ pub record Cleared (t : Tables) (d : Directory) (img : Bytes) (before after : Li
   pub fat : FatListed t img after
   pub directory : DirectoryListed d img after
   pub clear : Owning (cellsOf t img) (sectorCountOf t img) [] (marks after) false
-  pub room : 8 * (length img / 512) + 2 * sectorCountOf t img ≤ d .list
+  pub room : 9 * (length img / 512) + 2 * sectorCountOf t img ≤ d .list
   pub wrote : Wrote before after 0 (workNeed (length img))
 
 -- The chains of the mini FAT and of the mini stream are right; the directory's sectors stand listed before the FAT's, and before them there
@@ -59,7 +59,7 @@ pub record MiniRoom (t : Tables) (d : Directory) (img : Bytes) (work : List ℕ)
   pub stream : miniStreamChain (volumeOf (t .geometry) img) ≡ true
   pub before : d .list + d .sectors ≤ t .list
   pub within : t .list ≤ W img
-  pub room : 8 * (length img / 512) + 2 * sectorCountOf t img ≤ d .list
+  pub room : 9 * (length img / 512) + 2 * sectorCountOf t img ≤ d .list
 
 -- the rules on the mini FAT's cells
 unfoldable pub miniCellRules : Volume → Bool
@@ -79,7 +79,7 @@ pub record ListsStand (t : Tables) (d : Directory) (m : Minis) (img : Bytes) (wo
   pub minis : MiniListed m img work
   pub same : m .geometry ≡ t .geometry
   pub before : m .list + m .sectors ≤ d .list
-  pub room : 8 * (length img / 512) + sectorCountOf t img ≤ m .list
+  pub room : 9 * (length img / 512) + sectorCountOf t img ≤ m .list
 
 -- and the chains of the system are marked
 pub record SystemMarked (t : Tables) (d : Directory) (m : Minis) (img : Bytes) (work : List ℕ) (shared : Bool) : Type 0 where
