@@ -24,6 +24,30 @@ use Rattle.spaces.specs.Spaces.{spaceAt}
 use Rattle.spaces.specs.declared.Kind.{Kind}
 use Rattle.unitlists.proofs.Limits.{limit-room, limit-end}
 
+-- ---- units, and free ones behind them
+
+-- the units us stood listed, and m numbers of them and of the free ones do
+module _ (us free w₁ w₂ : List ℕ) (old need m : ℕ) (long : length us ≡ old) (own : take old w₁ ≡ us) (l : old ≤ need) (k : m ≡ min need (old + length free))
+    (e : take m w₂ ≡ take need (take old w₁ ++ free)) where
+  pub free-enough : eqb m need ≡ not (ltb (old + length free) need)
+  free-enough =
+      elim (decLt (old + length free) need) [
+        | yes h ↦ ne-eqb m need (omega (arith, k)) ∙ sym (ap not (lt-ltb (old + length free) need h))
+        | no h ↦ eq-eqb m need (omega (arith, k)) ∙ sym (ap not (le-ltb (old + length free) need (omega arith)))
+      ]
+
+  listed : take m w₂ ≡ take need (us ++ free)
+  listed = e ∙ ap (λ l. take need (l ++ free)) own
+
+  pub own-still : take old w₂ ≡ us
+  own-still =
+      let z : old ≤ m = omega (arith, k) in
+      sym (take-take old m w₂ z) ∙ ap (take old) listed ∙ take-take old need (us ++ free) l ∙ take-append-le old us free (omega (arith, long))
+      ∙ take-all old us (omega (arith, long))
+
+  pub all-listed : eqb m need ≡ true → take need w₂ ≡ take need (us ++ free)
+  all-listed h = subst (λ n. take n w₂ ≡ take need (us ++ free)) (eqb-true m need h) listed
+
 -- ---- the work buffer
 
 module _ {v : Opened} {img : Bytes} {w : List ℕ} (r : Readied v img w) where
@@ -51,8 +75,8 @@ module _ {v : Opened} {img : Bytes} {w : List ℕ} (r : Readied v img w) where
     abbrev us : List ℕ
     us = units (sp .cell) old f
 
-    long : length us ≡ old
-    long = length-units (sp .cell) old f
+    pub chain-long : length us ≡ old
+    chain-long = length-units (sp .cell) old f
 
     pub old-short : old ≤ sp .limit
     old-short = chain-short (sp .cell) (sp .limit) (limit-end r kind) old f c
@@ -60,7 +84,7 @@ module _ {v : Opened} {img : Bytes} {w : List ℕ} (r : Readied v img w) where
     -- own and free units are no more than there are
     pool : old + length (freeUnits sp) ≤ sp .limit
     unfolding freeUnits
-    pool = omega (arith, long, pool-short (sp .cell) (sp .limit) (limit-end r kind) us (chain-linked (sp .cell) (sp .limit) old f c .0))
+    pool = omega (arith, chain-long, pool-short (sp .cell) (sp .limit) (limit-end r kind) us (chain-linked (sp .cell) (sp .limit) old f c .0))
 
     pub needs-more : (need : ℕ) → sp .limit < need → false ≡ not (ltb (old + length (freeUnits sp)) need)
     needs-more need h = sym (ap not (lt-ltb (old + length (freeUnits sp)) need (omega (arith, pool))))
@@ -71,25 +95,4 @@ module _ {v : Opened} {img : Bytes} {w : List ℕ} (r : Readied v img w) where
       own-enough need h = sym (ap not (le-ltb (old + length (freeUnits sp)) need (omega arith)))
 
       pub own-first : (need : ℕ) → need ≤ old → take need w₁ ≡ take need (us ++ freeUnits sp)
-      own-first need h = sym (take-take need old w₁ h) ∙ ap (take need) own ∙ sym (take-append-le need us (freeUnits sp) (omega (arith, long)))
-
-      -- free ones too
-      module _ (w₂ : List ℕ) (need m : ℕ) (l : old ≤ need) (k : m ≡ min need (old + length (freeUnits sp))) (e : take m w₂ ≡ take need (take old w₁ ++ freeUnits sp)) where
-        pub free-enough : eqb m need ≡ not (ltb (old + length (freeUnits sp)) need)
-        free-enough =
-            elim (decLt (old + length (freeUnits sp)) need) [
-              | yes h ↦ ne-eqb m need (omega (arith, k)) ∙ sym (ap not (lt-ltb (old + length (freeUnits sp)) need h))
-              | no h ↦ eq-eqb m need (omega (arith, k)) ∙ sym (ap not (le-ltb (old + length (freeUnits sp)) need (omega arith)))
-            ]
-
-        listed : take m w₂ ≡ take need (us ++ freeUnits sp)
-        listed = e ∙ ap (λ l. take need (l ++ freeUnits sp)) own
-
-        pub own-still : take old w₂ ≡ us
-        own-still =
-            let z : old ≤ m = omega (arith, k) in
-            sym (take-take old m w₂ z) ∙ ap (take old) listed ∙ take-take old need (us ++ freeUnits sp) l ∙ take-append-le old us (freeUnits sp) (omega (arith, long))
-            ∙ take-all old us (omega (arith, long))
-
-        pub all-listed : eqb m need ≡ true → take need w₂ ≡ take need (us ++ freeUnits sp)
-        all-listed h = subst (λ n. take n w₂ ≡ take need (us ++ freeUnits sp)) (eqb-true m need h) listed
+      own-first need h = sym (take-take need old w₁ h) ∙ ap (take need) own ∙ sym (take-append-le need us (freeUnits sp) (omega (arith, chain-long)))

@@ -7,5 +7,4 @@ pub mod Targets
 pub mod Overwrites
 pub mod Rewriting
 pub mod Gathering
-pub mod LengthAnswers
 pub mod Resizes

@@ -98,6 +98,9 @@ module _ {v : Opened} {img : Bytes} {w : List ℕ} (o : Open v img w) {e : Objec
   pub over-chain : let sp = spaceAt v img (kindFor (e .size)) in chain (sp .cell) (sp .limit) n (start (volumeIn v img .directory .entry (e .id .0))) ≡ true
   over-chain = own .0
 
+  pub over-units : let sp = spaceAt v img (kindFor (e .size)) in units (sp .cell) n (start (volumeIn v img .directory .entry (e .id .0))) ≡ streamUnits (volumeIn v img) (e .id .0)
+  over-units = own .1
+
   module _ {w₁ : List ℕ} (r : Readied v img w₁) (l : take n w₁ ≡ units (spaceAt v img (kindFor (e .size)) .cell) n (start (volumeIn v img .directory .entry (e .id .0)))) (k : n ≤ length w₁) where
     below : (u : ℕ) → 0 < count u (take n w₁) → u < spaceAt v img (kindFor (e .size)) .limit
     below u q =

@@ -14,7 +14,7 @@ use borrow.Author.Tests.{ne-eqb, ltb-false, not-true, not-false}
 use Rattle.format.specs.Basics.Lists.{count}
 use Rattle.format.specs.Basics.Bytes.{Bytes}
 use Rattle.format.specs.Layout.Need.{cutoff, roundUp}
-use Rattle.format.specs.Layout.Chain.{chain, units, freeBelow}
+use Rattle.format.specs.Layout.Chain.{chain, units}
 use Rattle.format.specs.Layout.Entry.{start}
 use Rattle.format.specs.Layout.Directory.{entryPlace}
 use Rattle.format.specs.Layout.Space.{Space, freeUnits}
@@ -23,7 +23,7 @@ use Rattle.format.specs.Layout.Stream.{spaceFor, streamSize, streamUnits}
 use Rattle.format.specs.Calls.SetLength.{crosses, editSpace, newUnits, tailZeroed, entryWritten, resized}
 use Rattle.format.specs.Calls.Answer.{lengthAnswer}
 use Rattle.theory.specs.Links.{Linked}
-use Rattle.theory.proofs.Chains.{chain-linked, linked-below}
+use Rattle.theory.proofs.Chains.{chain-linked, linked-below, length-units}
 use Rattle.theory.proofs.FreeUnits.{resized-from, pool-short}
 use Rattle.theory.proofs.RoundUp.{round-enough}
 use Rattle.theory.proofs.Loops.{said-no, said-yes}
@@ -44,6 +44,7 @@ use Rattle.queries.specs.declared.find.Object.{Object}
 use Rattle.queries.specs.Streams.{StreamAt}
 use Rattle.queries.proofs.Streams.{entry-inside}
 use Rattle.edits.specs.Rewritten.{tailFilled, rewritten}
+use Rattle.edits.specs.Gathered.{Gathered}
 use Rattle.edits.proofs.Needs.{too-few-is}
 use Rattle.edits.proofs.Streams.{kind-side, bytes-some, stream-chain}
 use Rattle.edits.proofs.Writables.{writable, rewritten-listed}
@@ -76,7 +77,7 @@ module _ {v : Opened} {img : Bytes} {w : List ℕ} (o : Open v img w) {e : Objec
   pub room-is : lengthAnswer (geometryOf (v .tables .geometry)) vol (e .size) new ≡ cond (ltb (old + length (freeUnits sp)) need) 26 0
   unfolding lengthAnswer
   room-is =
-      rw (c, many, wanted, kind-side vol (max (e .size) new)) (ap (λ b. cond b 26 0) (too-few-is (geometryOf (v .tables .geometry)) img (bytes-some o) (e .size) new c))
+      rw (many, wanted, kind-side vol (max (e .size) new)) (ap (λ b. cond b 26 0) (too-few-is (geometryOf (v .tables .geometry)) img (bytes-some o) (e .size) new c))
 
   -- what gathering answers
   pub too-few : {b : Bool} → not b ≡ true → b ≡ not (ltb (old + length (freeUnits sp)) need) → 26 ≡ lengthAnswer (geometryOf (v .tables .geometry)) vol (e .size) new
@@ -101,26 +102,29 @@ module _ {v : Opened} {img : Bytes} {w : List ℕ} (o : Open v img w) {e : Objec
   abbrev us : List ℕ
   us = units (sp .cell) old (start (vol .directory .entry (e .id .0)))
 
-  module _ {w₁ : List ℕ} (r : Readied v img w₁) (own-is : take old w₁ ≡ us) (all-is : take need w₁ ≡ take need (us ++ freeUnits sp))
-      (enough : ltb (old + length (freeUnits sp)) need ≡ false) where
+  new-is : take need (us ++ freeUnits sp) ≡ newUnits vol (e .id .0) new
+  unfolding newUnits
+  new-is = ap₂ (λ l z. take z (l ++ freeUnits sp)) (own .1) wanted ∙ ap (λ z. take (roundUp new (z .unit)) (streamUnits vol (e .id .0) ++ freeUnits z)) space-is
+
+  pub gathered : {w₁ : List ℕ} → take old w₁ ≡ us → take need w₁ ≡ take need (us ++ freeUnits sp) → ltb (old + length (freeUnits sp)) need ≡ false → Gathered v img w₁ e new old need
+  gathered a b h = record { many = many; wanted = wanted; own = a ∙ own .1; all = b ∙ new-is; enough = ltb-false (old + length (freeUnits sp)) need h }
+
+  module _ {w₁ : List ℕ} (r : Readied v img w₁) (t : Gathered v img w₁ e new old need) where
     own-below : (u : ℕ) → 0 < count u (take old w₁) → u < sp .limit
-    own-below u q = linked-below (sp .cell) (sp .limit) us linked u (subst (λ l. 0 < count u l) own-is q)
+    own-below u q = linked-below (sp .cell) (sp .limit) us linked u (subst (λ l. 0 < count u l) (t .own ∙ sym (own .1)) q)
 
     all-below : (u : ℕ) → 0 < count u (take need w₁) → u < sp .limit
     unfolding freeUnits
-    all-below u q = resized-from (sp .cell) (sp .limit) (limit-end r k) us linked need u (subst (λ l. 0 < count u l) all-is q) .0
+    all-below u q = resized-from (sp .cell) (sp .limit) (limit-end r k) us linked need u (subst (λ l. 0 < count u l) (t .all ∙ sym new-is) q) .0
 
     -- they fit in the work buffer
     fits : (old ≤ length w₁) × (need ≤ length w₁)
     unfolding freeUnits
     fits =
         let a = pool-short (sp .cell) (sp .limit) (limit-end r k) us linked in
-        let b = theory-length in
+        let b = length-units (sp .cell) old (start (vol .directory .entry (e .id .0))) in
         let l = limit-work r k in
-        (omega (arith, a, b, l), omega (arith, a, b, l, ltb-false (old + length (freeBelow (sp .cell) (sp .limit))) need enough))
-      where
-        theory-length : length us ≡ old
-        theory-length = Rattle.theory.proofs.Chains.length-units (sp .cell) old (start (vol .directory .entry (e .id .0)))
+        (omega (arith, a, b, l), omega (arith, a, b, l, t .enough))
 
     both-below : (u : ℕ) → 0 < count u (take (max old need) w₁) → u < sp .limit
     both-below u q =
@@ -141,10 +145,6 @@ module _ {v : Opened} {img : Bytes} {w : List ℕ} (o : Open v img w) {e : Objec
     pub resize-tail : e .size < new → e .size ≤ need * unitBytes v k
     resize-tail h = rw (unit-same r k) (tail h)
 
-    new-is : take need w₁ ≡ newUnits vol (e .id .0) new
-    unfolding newUnits
-    new-is = all-is ∙ ap₂ (λ l z. take z (l ++ freeUnits sp)) (own .1) wanted ∙ ap (λ z. take (roundUp new (z .unit)) (streamUnits vol (e .id .0) ++ freeUnits z)) space-is
-
     place-same : placeOf (v .directory) w₁ (e .id .0) ≡ vol .entryPlace (e .id .0)
     unfolding volume
     place-same =
@@ -156,8 +156,8 @@ module _ {v : Opened} {img : Bytes} {w : List ℕ} (o : Open v img w) {e : Objec
     same =
         ap (λ z. rewritten z (placeOf (v .directory) w₁ (e .id .0)) (take old w₁) (take need w₁) (e .size) new img) space-is
         ∙ ap (λ z. rewritten (editSpace vol (e .id .0) new) z (take old w₁) (take need w₁) (e .size) new img) place-same
-        ∙ ap (λ z. rewritten (editSpace vol (e .id .0) new) (vol .entryPlace (e .id .0)) z (take need w₁) (e .size) new img) (own-is ∙ own .1)
-        ∙ ap (λ z. rewritten (editSpace vol (e .id .0) new) (vol .entryPlace (e .id .0)) (streamUnits vol (e .id .0)) z (e .size) new img) new-is
+        ∙ ap (λ z. rewritten (editSpace vol (e .id .0) new) (vol .entryPlace (e .id .0)) z (take need w₁) (e .size) new img) (t .own)
+        ∙ ap (λ z. rewritten (editSpace vol (e .id .0) new) (vol .entryPlace (e .id .0)) (streamUnits vol (e .id .0)) z (e .size) new img) (t .all)
         ∙ ap (λ z. rewritten (editSpace vol (e .id .0) new) (vol .entryPlace (e .id .0)) (streamUnits vol (e .id .0)) (newUnits vol (e .id .0) new) z new img) (s .sized)
 
     pub resize-written : new ≢ e .size

@@ -1,15 +1,14 @@
-// Changes of length: of the stream that a path leads to.
+// Changes of length that stay on one side of the cutoff.
 ghost use mathlib.Core.Path.{_≡_};
 ghost use mathlib.Core.Logic.{_≢_};
 ghost use mathlib.Core.Bool.{true, false, not};
-ghost use mathlib.Core.List.{[], _++_};
+ghost use mathlib.Core.List.{_++_};
 ghost use Prim.Native.Nat.{_+_, _*_, _-_, _≤_, _<_, max};
 ghost use lib.Dec.{ltb};
 ghost use lib.ListN.{length, take};
 ghost use Rattle.format.specs.Layout.Space.{freeUnits};
-ghost use Rattle.format.specs.Calls.Call.{setLength as lengthCall};
 ghost use Rattle.format.specs.Calls.SetLength.{crosses, resized};
-ghost use Rattle.format.specs.Calls.Answer.{answerIn, lengthAnswer};
+ghost use Rattle.format.specs.Calls.Answer.{lengthAnswer};
 ghost use Rattle.format.specs.Calls.Reply.{onZero};
 ghost use Rattle.kinds.specs.Sizes.{geometryOf};
 ghost use Rattle.kinds.specs.Numbers.{numberOf};
@@ -21,19 +20,15 @@ ghost use Rattle.spaces.specs.Units.{kindOf, chainFrom, unitsFrom};
 ghost use Rattle.writes.specs.Writable.{Writable, EntryRoom};
 ghost use Rattle.queries.specs.Inside.{Open};
 ghost use Rattle.queries.specs.Streams.{StreamAt};
-ghost use Rattle.edits.specs.Images.{imageIn};
 ghost use Rattle.edits.specs.Rewritten.{tailFilled, rewritten};
+ghost use Rattle.edits.specs.Gathered.{Gathered};
 use chains::units_for;
 use directory::place;
 use kinds::Answer;
-use kinds::CUTOFF;
 use kinds::Refusal;
 use le::greatest;
 use le::least;
-use queries::find::Find;
 use queries::find::Object;
-use queries::find::find_in;
-use queries::find::refusal;
 use spaces::Kind;
 use spaces::Unit;
 use spaces::kind_for;
@@ -48,16 +43,6 @@ use writes::chain_start;
 use writes::put_cells;
 use writes::put_entry;
 use writes::zero_from;
-
-// ---- lengths
-
-// Whether a change of length crosses the cutoff.
-fn crossing(old: u64, new: u64) -> bool
-    ensures { λ r. ⌜ r ≡ crosses old new ⌝ }
-{
-    ((1 <= old) & (old < CUTOFF) & (CUTOFF <= new))
-        | ((CUTOFF <= old) & ((1 <= new) & (new < CUTOFF)))
-}
 
 // ---- units
 
@@ -132,10 +117,31 @@ fn rewrite(
     put_entry(img, work, v.directory, e.id, first, new);
 }
 
+// Gives a stream another length that does not cross the cutoff, where its units stand listed and behind them the free ones that it gets.
+pub fn resize(img: &mut [u8], work: &[u32], v: Volume, e: Object, old: usize, need: usize, new: u64)
+    requires { ⌜ Open v (now img) (now work) ⌝ }
+    requires { ⌜ StreamAt (volumeIn v (now img)) e ⌝ }
+    requires { ⌜ crosses (e .size) new ≡ false ⌝ }
+    requires { ⌜ new ≢ e .size ⌝ }
+    requires { ⌜ Gathered v (now img) (now work) e new old need ⌝ }
+    ensures { λ _. ⌜ now (img .exit) ≡ resized (volumeIn v (now (img .entry))) (now (img .entry)) (e .id .0) new ⌝ }
+{
+    rewrite(
+        img,
+        work,
+        v,
+        kind_for(greatest(e.size, new)),
+        e,
+        old,
+        need,
+        new,
+    );
+}
+
 // ---- the change
 
 // Gives a stream another length that does not cross the cutoff, if there is room for it.
-fn change_length(img: &mut [u8], work: &mut [u32], v: Volume, e: Object, new: u64) -> Answer
+pub fn change_length(img: &mut [u8], work: &mut [u32], v: Volume, e: Object, new: u64) -> Answer
     requires { ⌜ Open v (now img) (now work) ⌝ }
     requires { ⌜ StreamAt (volumeIn v (now img)) e ⌝ }
     requires { ⌜ crosses (e .size) new ≡ false ⌝ }
@@ -152,38 +158,6 @@ fn change_length(img: &mut [u8], work: &mut [u32], v: Volume, e: Object, new: u6
     if !gather(img, work, v, first, old, need) {
         return Answer::Refused(Refusal::TooFewFree);
     }
-    rewrite(img, work, v, kind, e, old, need as usize, new);
+    resize(img, work, v, e, old, need as usize, new);
     Answer::Done
-}
-
-// Gives the stream that a path leads to another length.
-pub fn set_length_in(
-    path: &[u16],
-    img: &mut [u8],
-    work: &mut [u32],
-    v: Volume,
-    new_len: u64,
-) -> Answer
-    requires { ⌜ Open v (now img) (now work) ⌝ }
-    ensures { λ r. ⌜ numberOf r
-        ≡ answerIn (geometryOf (v .tables .geometry)) (volumeIn v (now (img .entry))) (lengthCall (now (path .entry)) «new_len» []) ⌝ }
-    ensures { λ _. ⌜ now (img .exit)
-        ≡ imageIn (geometryOf (v .tables .geometry)) (volumeIn v (now (img .entry))) (now (img .entry)) (lengthCall (now (path .entry)) «new_len» []) ⌝ }
-    ensures { λ _. ⌜ Wrote (now (work .entry)) (now (work .exit)) 0 (v .stream) ⌝ }
-{
-    let f = find_in(path, img, work, v);
-    let Find::Entry(e) = f else {
-        return Answer::Refused(refusal(f));
-    };
-    let t = e.entry_type;
-    if !t.is_stream() {
-        return Answer::Refused(Refusal::NotAStream);
-    }
-    if e.size == new_len {
-        return Answer::Done;
-    }
-    if crossing(e.size, new_len) {
-        return Answer::Refused(Refusal::Crosses);
-    }
-    change_length(img, work, v, e, new_len)
 }

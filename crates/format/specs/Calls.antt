@@ -4,6 +4,7 @@ pub mod Find
 pub mod Read
 pub mod Overwrite
 pub mod SetLength
+pub mod Move
 pub mod Text
 pub mod Listing
 pub mod Call

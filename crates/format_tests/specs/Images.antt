@@ -125,6 +125,10 @@ smallAndLarge =
     ++ replicate 4096 0xA0
     ++ replicate 512 0xEE
 
+-- `site` with free sectors behind it
+unfoldable pub roomy : (free : ℕ) → Bytes
+roomy free = site ++ replicate (512 * free) 0xEE
+
 -- Version 4, in sectors of so many bytes: a root, and a stream `log` of no bytes.
 unfoldable pub fourth : (sector directory : ℕ) → Bytes
 fourth sector directory =
@@ -134,5 +138,5 @@ fourth sector directory =
 
 -- all of these, opened at once
 unfoldable pub built : Unit {0}
-unfolding words header header4 cells cellsIn nameField entry blank blanks rootEntry Site log LOG Jets gone below smallest withThird bare threeSiblings twoSiblings site large hollow smallAndLarge fourth
+unfolding words header header4 cells cellsIn nameField entry blank blanks rootEntry Site log LOG Jets gone below smallest withThird bare threeSiblings twoSiblings site large hollow smallAndLarge roomy fourth
 built = tt

@@ -34,13 +34,9 @@ large-enough : answerIn version3 (volume version3 (large 4096 1)) (setLength log
 unfolding opened built
 large-enough = refl
 
-crosses-down : answerIn version3 (volume version3 (large 4096 0)) (setLength log 4095 []) ≡ 25
+to-zero-needs-no-room : answerIn version3 (volume version3 (large 4096 0)) (setLength log 0 []) ≡ 0
 unfolding opened built
-crosses-down = refl
-
-to-zero-crosses-nothing : answerIn version3 (volume version3 (large 4096 0)) (setLength log 0 []) ≡ 0
-unfolding opened built
-to-zero-crosses-nothing = refl
+to-zero-needs-no-room = refl
 
 from-zero-eight-free : answerIn version3 (volume version3 (hollow 8)) (setLength log 4096 []) ≡ 0
 unfolding opened built

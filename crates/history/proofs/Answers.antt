@@ -19,7 +19,7 @@ use Rattle.format.specs.Rules.Verdict.{check, groups, verdict, Accepted}
 use Rattle.format.specs.Calls.Answer.{firstOf, target, targetAnswer, beyond, lengthAnswer, answerIn, answer}
 use Rattle.format.specs.Calls.Paths.{Path}
 use Rattle.format.specs.Calls.Find.{Found, at, refused, resolve, resolveStream, answerOf, entryOf}
-use Rattle.format.specs.Calls.SetLength.{crosses, tooFew}
+use Rattle.format.specs.Calls.SetLength.{tooFew}
 use Rattle.format.specs.Calls.Listing.{listing}
 use Rattle.format.specs.Calls.Call.{Call, validate, find, read, overwrite, setLength, list, workOf}
 use Rattle.format.specs.History.Rows.{Row, rowsOf, hasRow, rowLength}
@@ -74,8 +74,7 @@ module _ (g : Geometry) (pos : 0 < g .sectorBytes) (img : Bytes) (acc : Accepted
 
   pub length-answer : (p : Path) (new : ℕ) (work : List ℕ) (f : Found) → resolveStream (v .directory) p ≡ f →
       answer g img (setLength p new work) ≡ firstOf (cond (workFits work) 0 2) (firstOf (answerOf f)
-      (cond (crosses (streamSize v (entryOf f)) new) 25 (cond
-      (tooFew g (length (freeUnits (v .sectors))) (length (freeUnits (v .minis))) (streamSize v (entryOf f)) new) 26 0)))
+      (cond (tooFew g (length (freeUnits (v .sectors))) (length (freeUnits (v .minis))) (streamSize v (entryOf f)) new) 26 0))
   unfolding answer answerIn workOf target targetAnswer lengthAnswer
   length-answer p new work f e = rw (verdict-accepted g img (length work) acc, e)
 
@@ -103,20 +102,16 @@ module _ (g : Geometry) (pos : 0 < g .sectorBytes) (img : Bytes) (acc : Accepted
       ∙ ap (λ n. tooFew g (length (freeUnits (v .sectors))) (length (freeUnits (v .minis))) n new) (row-length v img good sized rootPlain p f)
 
   length-accepts : (p : Path) (new : ℕ) (work : List ℕ) (e : ℕ) (b : Forest) → resolveStream (v .directory) p ≡ at e b →
-      accepts s rows (setLength p new work) ≡ (workFits work && true && not (crosses (streamSize v e) new)
-      && not (tooFew g (length (freeUnits (v .sectors))) (length (freeUnits (v .minis))) (streamSize v e) new))
+      accepts s rows (setLength p new work) ≡ (workFits work && true && not (tooFew g (length (freeUnits (v .sectors))) (length (freeUnits (v .minis))) (streamSize v e) new))
   unfolding accepts reaches settingOf
   length-accepts p new work e b f =
-      rw (lacks-found p new e b f) (rows-say p e b f (λ h n. workFits work && h && not (crosses n new)
-      && not (tooFew g (length (freeUnits (v .sectors))) (length (freeUnits (v .minis))) (streamSize v e) new)))
+      rw (lacks-found p new e b f) (rows-say p e b f (λ h n. workFits work && h && not (tooFew g (length (freeUnits (v .sectors))) (length (freeUnits (v .minis))) (streamSize v e) new)))
 
   length-answers26 : (p : Path) (new : ℕ) (work : List ℕ) (e : ℕ) (b : Forest) → resolveStream (v .directory) p ≡ at e b →
-      answers26 s rows (setLength p new work) ≡ (workFits work && true && not (crosses (streamSize v e) new)
-      && tooFew g (length (freeUnits (v .sectors))) (length (freeUnits (v .minis))) (streamSize v e) new)
+      answers26 s rows (setLength p new work) ≡ (workFits work && true && tooFew g (length (freeUnits (v .sectors))) (length (freeUnits (v .minis))) (streamSize v e) new)
   unfolding answers26 reaches settingOf
   length-answers26 p new work e b f =
-      rw (lacks-found p new e b f) (rows-say p e b f (λ h n. workFits work && h && not (crosses n new)
-      && tooFew g (length (freeUnits (v .sectors))) (length (freeUnits (v .minis))) (streamSize v e) new))
+      rw (lacks-found p new e b f) (rows-say p e b f (λ h n. workFits work && h && tooFew g (length (freeUnits (v .sectors))) (length (freeUnits (v .minis))) (streamSize v e) new))
 
   found-write : (offset : ℕ) (bytes : Bytes) (work : List ℕ) (e : ℕ) (b : Forest) →
       firstOf (cond (workFits work) 0 2) (firstOf (answerOf (at e b)) (cond (ltb (streamSize v (entryOf (at e b))) (offset + length bytes)) 24 0))
@@ -126,10 +121,8 @@ module _ (g : Geometry) (pos : 0 < g .sectorBytes) (img : Bytes) (acc : Accepted
 
   found-length : (new : ℕ) (work : List ℕ) (e : ℕ) (b : Forest) →
       firstOf (cond (workFits work) 0 2) (firstOf (answerOf (at e b))
-      (cond (crosses (streamSize v (entryOf (at e b))) new) 25
-      (cond (tooFew g (length (freeUnits (v .sectors))) (length (freeUnits (v .minis))) (streamSize v (entryOf (at e b))) new) 26 0)))
-      ≡ firstOf (cond (workFits work) 0 2) (cond (crosses (streamSize v e) new) 25
-      (cond (tooFew g (length (freeUnits (v .sectors))) (length (freeUnits (v .minis))) (streamSize v e) new) 26 0))
+      (cond (tooFew g (length (freeUnits (v .sectors))) (length (freeUnits (v .minis))) (streamSize v (entryOf (at e b))) new) 26 0))
+      ≡ firstOf (cond (workFits work) 0 2) (cond (tooFew g (length (freeUnits (v .sectors))) (length (freeUnits (v .minis))) (streamSize v e) new) 26 0)
   unfolding firstOf answerOf entryOf
   found-length new work e b = refl
 
@@ -140,15 +133,12 @@ module _ (g : Geometry) (pos : 0 < g .sectorBytes) (img : Bytes) (acc : Accepted
 
   refused-length : (new : ℕ) (work : List ℕ) (n : ℕ) → (20 ≤ n) × (n ≤ 23) →
       (firstOf (cond (workFits work) 0 2) (firstOf (answerOf (refused n))
-      (cond (crosses (streamSize v (entryOf (refused n))) new) 25
-      (cond (tooFew g (length (freeUnits (v .sectors))) (length (freeUnits (v .minis))) (streamSize v (entryOf (refused n))) new) 26 0))) ≢ 0)
+      (cond (tooFew g (length (freeUnits (v .sectors))) (length (freeUnits (v .minis))) (streamSize v (entryOf (refused n))) new) 26 0)) ≢ 0)
       × (firstOf (cond (workFits work) 0 2) (firstOf (answerOf (refused n))
-      (cond (crosses (streamSize v (entryOf (refused n))) new) 25
-      (cond (tooFew g (length (freeUnits (v .sectors))) (length (freeUnits (v .minis))) (streamSize v (entryOf (refused n))) new) 26 0))) ≢ 26)
+      (cond (tooFew g (length (freeUnits (v .sectors))) (length (freeUnits (v .minis))) (streamSize v (entryOf (refused n))) new) 26 0)) ≢ 26)
   unfolding answerOf
   refused-length new work n l =
-      refused-not-0-26 (workFits work) n (cond (crosses (streamSize v (entryOf (refused n))) new) 25
-      (cond (tooFew g (length (freeUnits (v .sectors))) (length (freeUnits (v .minis))) (streamSize v (entryOf (refused n))) new) 26 0)) (l .0) (l .1)
+      refused-not-0-26 (workFits work) n (cond (tooFew g (length (freeUnits (v .sectors))) (length (freeUnits (v .minis))) (streamSize v (entryOf (refused n))) new) 26 0) (l .0) (l .1)
 
   unreached-write : (p : Path) (offset : ℕ) (bytes : Bytes) (work : List ℕ) → reaches s rows p work ≡ false → accepts s rows (overwrite p offset bytes work) ≡ false
   unfolding accepts
@@ -179,13 +169,12 @@ module _ (g : Geometry) (pos : 0 < g .sectorBytes) (img : Bytes) (acc : Accepted
       ((answer g img (setLength p new work) ≡ 0) ↔ (accepts s rows (setLength p new work) ≡ true))
       × ((answer g img (setLength p new work) ≡ 26) ↔ (answers26 s rows (setLength p new work) ≡ true))
   length-iff p new work (at e b) h l =
-      let c = crosses (streamSize v e) new in
       let t = tooFew g (length (freeUnits (v .sectors))) (length (freeUnits (v .minis))) (streamSize v e) new in
       let a = length-answer p new work (at e b) h ∙ found-length new work e b in (
         iff-along (answer g img (setLength p new work)) _ (accepts s rows (setLength p new work)) _ 0 a (length-accepts p new work e b h)
-            (length-zero-iff (workFits work) c t),
+            (length-zero-iff (workFits work) t),
         iff-along (answer g img (setLength p new work)) _ (answers26 s rows (setLength p new work)) _ 26 a (length-answers26 p new work e b h)
-            (length-26-iff (workFits work) c t),
+            (length-26-iff (workFits work) t),
       )
   length-iff p new work (refused n) h l =
       let a = length-answer p new work (refused n) h in

@@ -20,6 +20,8 @@ use Rattle.format.specs.Calls.Reply.{onZero}
 use Rattle.format.specs.Calls.Paths.{Path}
 use Rattle.format.specs.Calls.Find.{Found, at, refused, resolveStream, answerOf, entryOf}
 use Rattle.format.specs.Calls.SetLength.{crosses, tooFew, resized}
+use Rattle.format.specs.Layout.Tree.{Forest}
+use Rattle.format.specs.Calls.Move.{moved, lengthChanged}
 use Rattle.format.specs.Calls.Overwrite.{overwritten}
 use Rattle.format.specs.Calls.Call.{Call, validate, find, read, overwrite, setLength, list}
 use Rattle.format.specs.Calls.Buffers.{edited, imageAfterBy, imageAfter}
@@ -34,6 +36,7 @@ use Rattle.history.proofs.Room.{allocated-sectors, allocated-minis}
 use Rattle.history.proofs.Answers.{answers-0-iff, answers-26-iff, write-answer, length-answer}
 use Rattle.history.proofs.EditStep.{preserved-itself, write-step}
 use Rattle.history.proofs.LengthStep.{length-step}
+use Rattle.history.proofs.MoveStep.{move-step}
 use Rattle.history.proofs.Filled.{frame-sized, Sized}
 use Rattle.frame.proofs.Versions.{version-cases, accepted-version}
 use Rattle.history.specs.Step.{Step, CallStep, After, lengthRows}
@@ -52,10 +55,9 @@ cond-24-zero : (t : Bool) → cond {A = ℕ} t 24 0 ≡ 0 → t ≡ false
 cond-24-zero true h = absurd (omega arith)
 cond-24-zero false h = refl
 
-cond-25-26-zero : (c t : Bool) → cond {A = ℕ} c 25 (cond t 26 0) ≡ 0 → (c ≡ false) × (t ≡ false)
-cond-25-26-zero true t h = absurd (omega arith)
-cond-25-26-zero false true h = absurd (omega arith)
-cond-25-26-zero false false h = (refl, refl)
+cond-26-zero : (t : Bool) → cond {A = ℕ} t 26 0 ≡ 0 → t ≡ false
+cond-26-zero true h = absurd (omega arith)
+cond-26-zero false h = refl
 
 module _ (g : Geometry) (pos : 0 < g .sectorBytes) (fr : Frame g) (img : Bytes) (acc : Accepted g img) where
   abbrev v : Volume
@@ -79,7 +81,7 @@ module _ (g : Geometry) (pos : 0 < g .sectorBytes) (fr : Frame g) (img : Bytes) 
       }
 
   unchanged-step : Step g img img (rowsOf g img)
-  unchanged-step = record { accepted = acc; kept = preserved-itself g img acc; setting = refl; rows = refl }
+  unchanged-step = record { accepted = acc; kept = preserved-itself g img acc; setting = refl; rows = refl; found = λ p. refl }
 
   -- ---- one call
 
@@ -94,13 +96,24 @@ module _ (g : Geometry) (pos : 0 < g .sectorBytes) (fr : Frame g) (img : Bytes) 
       let r = first-zero _ _ (first-zero _ _ (sym (write-answer g pos img acc sized p offset bytes work (refused n) h) ∙ a) .1) .0 in
       absurd (omega (arith, l .0))
 
+  -- on one side of the cutoff, or across it
+  any-length : (p : Path) (new : ℕ) {e : ℕ} {b : Forest} → resolveStream (v .directory) p ≡ at e b
+      → tooFew g (length (freeUnits (v .sectors))) (length (freeUnits (v .minis))) (streamSize v e) new ≡ false
+      → Step g img (lengthChanged v img e new) (lengthRows p new (rowsOf g img))
+  unfolding lengthChanged volume
+  any-length p new {e} h k = go (crosses (streamSize v e) new) refl
+    where
+      go : (t : Bool) → crosses (streamSize v e) new ≡ t → Step g img (cond t (moved g img e new) (resized v img e new)) (lengthRows p new (rowsOf g img))
+      go true q = move-step g pos fr img acc p new h q k
+      go false q = length-step g pos fr img acc p new h q k
+
   length-answered-0 : (p : Path) (new : ℕ) (work : List ℕ) (f : Found) → resolveStream (v .directory) p ≡ f → RefusedLow f → answer g img (setLength p new work) ≡ 0 →
-      Step g img (resized v img (entryOf f) new) (lengthRows p new (rowsOf g img))
+      Step g img (lengthChanged v img (entryOf f) new) (lengthRows p new (rowsOf g img))
   unfolding answerOf entryOf
   length-answered-0 p new work (at e b) h l a =
       let r = first-zero _ _ (first-zero _ _ (sym (length-answer g pos img acc sized p new work (at e b) h) ∙ a) .1) .1 in
-      let k = cond-25-26-zero (crosses (streamSize v e) new) (tooFew g (length (freeUnits (v .sectors))) (length (freeUnits (v .minis))) (streamSize v e) new) r in
-      length-step g pos fr img acc p new h (k .0) (k .1)
+      let k = cond-26-zero (tooFew g (length (freeUnits (v .sectors))) (length (freeUnits (v .minis))) (streamSize v e) new) r in
+      any-length p new h k
   length-answered-0 p new work (refused n) h l a =
       let r = first-zero _ _ (first-zero _ _ (sym (length-answer g pos img acc sized p new work (refused n) h) ∙ a) .1) .0 in
       absurd (omega (arith, l .0))

@@ -34,6 +34,7 @@ use Rattle.history.proofs.Rows.{rows-changed}
 use Rattle.history.proofs.Finding.{is-stream, is-inside, hit-is-found, found-hit-everywhere}
 use Rattle.history.proofs.Written.{write-changed, write-contents}
 use Rattle.frame.proofs.EntryFacts.{root-plain}
+use Rattle.history.proofs.SamePaths.{resolve-stream-same}
 use Rattle.history.specs.Step.{Step}
 
 -- an image that stays is preserved
@@ -113,22 +114,24 @@ module _ (g : Geometry) (pos : 0 < g .sectorBytes) (fr : Frame g) (img : Bytes) 
   rootPlain : isStream (v .directory .entry 0) ≡ false
   rootPlain = root-plain g img good
 
-  -- ---- an edit of the stream e that the path p leads to, with the function f on its bytes
+  -- ---- an edit of the stream e
+
+  pub edit-accepted : {img′ : Bytes} {e new : ℕ} {ws : Bool → List ℕ} {c : Bool → Bytes} → Changed v (volume g img′) img img′ e new ws c → Preserved g img img′ → Accepted g img′
+  edit-accepted {img′} x kept =
+      let j = accepted-kept g img acc in
+      kept-accepted g img′
+      (record {
+        allowed = ap (lengthAllowed g) (kept .length) ∙ j .allowed;
+        header = kept .header;
+        tables = kept .tables;
+        volume = good-groups (volume g img′) (changed-good good x);
+      })
+
+  -- ---- of the one that the path p leads to, with the function f on its bytes
 
   module _ (p : Path) {e new : ℕ} {b : Forest} (found : resolveStream (v .directory) p ≡ at e b) (img′ : Bytes) {ws : Bool → List ℕ} {c : Bool → Bytes}
       (f : Bytes → Bytes)
       (x : Changed v (volume g img′) img img′ e new ws c) (kept : Preserved g img img′) (mine : contents (volume g img′) img′ e ≡ f (contents v img e)) where
-    edit-accepted : Accepted g img′
-    edit-accepted =
-        let j = accepted-kept g img acc in
-        kept-accepted g img′
-        (record {
-          allowed = ap (lengthAllowed g) (kept .length) ∙ j .allowed;
-          header = kept .header;
-          tables = kept .tables;
-          volume = good-groups (volume g img′) (changed-good good x);
-        })
-
     edit-setting : settingOf g img′ ≡ settingOf g img
     unfolding settingOf fixedNumber setting
     edit-setting =
@@ -144,7 +147,14 @@ module _ (g : Geometry) (pos : 0 < g .sectorBytes) (fr : Frame g) (img : Bytes) 
         (inside-forest v img good sized) (hit-is-found v img good sized rootPlain p found) (found-hit-everywhere v img good sized rootPlain p found)
 
     pub edit-step : Step g img img′ (map (change p f) (rowsOf g img))
-    edit-step = record { accepted = edit-accepted; kept = kept; setting = edit-setting; rows = edit-rows }
+    edit-step =
+        record {
+          accepted = edit-accepted x kept;
+          kept = kept;
+          setting = edit-setting;
+          rows = edit-rows;
+          found = resolve-stream-same (v .directory) (volume g img′ .directory) (alike good x);
+        }
 
   -- ---- an overwrite that answers 0
 

@@ -43,7 +43,7 @@ use Rattle.history.proofs.Alike.{Alike}
 use Rattle.history.specs.Step.{Step, lengthRows, Enough}
 
 -- the same directory is like itself
-alike-itself : (v : Volume) → Alike (v .directory) (v .directory)
+pub alike-itself : (v : Volume) → Alike (v .directory) (v .directory)
 alike-itself v = record { count = refl; name = λ i. refl; kind = λ i. refl; colour = λ i. refl; left = λ i. refl; right = λ i. refl; child = λ i. refl }
 
 resized-same : (v : Volume) (img : Bytes) (e new : ℕ) → new ≡ streamSize v e → resized v img e new ≡ img
@@ -81,6 +81,13 @@ module _ (g : Geometry) (pos : 0 < g .sectorBytes) (fr : Frame g) (img : Bytes) 
   rootPlain : isStream (v .directory .entry 0) ≡ false
   rootPlain = root-plain g img good
 
+  -- another length
+  pub resize-step : (p : Path) (new : ℕ) {e : ℕ} {b : Forest} → resolveStream (v .directory) p ≡ at e b → MayResize g img e new
+      → Step g img (resized v img e new) (lengthRows p new (rowsOf g img))
+  resize-step p new {e} found may =
+      edit-step g pos fr img acc p found (resized v img e new) (fit new)
+      (resize-changed g pos fr img acc e new may) (fr .resizing img e new may .kept) (resize-contents g pos fr img acc e new may)
+
   module _ (p : Path) (new : ℕ) {e : ℕ} {b : Forest} (found : resolveStream (v .directory) p ≡ at e b) (within : crosses (streamSize v e) new ≡ false)
       (room : tooFew g (length (freeUnits (v .sectors))) (length (freeUnits (v .minis))) (streamSize v e) new ≡ false) where
     abbrev old : ℕ
@@ -105,6 +112,7 @@ module _ (g : Geometry) (pos : 0 < g .sectorBytes) (fr : Frame g) (img : Bytes) 
           kept = preserved-itself g img acc;
           setting = refl;
           rows = same-length-rows (sym (ap (λ n. fit n (contents v img e)) (z ∙ sym (length-contents v img good sized e inside stream)) ∙ fit-same (contents v img e)));
+          found = λ q. refl;
         }
 
     -- room enough, in the space of the edit
@@ -133,16 +141,15 @@ module _ (g : Geometry) (pos : 0 < g .sectorBytes) (fr : Frame g) (img : Bytes) 
     differ-step : new ≢ old → Step g img (resized v img e new) (lengthRows p new (rowsOf g img))
     unfolding editSpace spaceFor
     differ-step z =
-        let may : MayResize g img e new = record {
+        resize-step p new found
+        (record {
           accepted = acc;
           inside = inside;
           stream = stream;
           differs = ne-eqb new old z;
           within = within;
           enough = enough;
-        } in
-        edit-step g pos fr img acc p found (resized v img e new) (fit new)
-        (resize-changed g pos fr img acc e new may) (fr .resizing img e new may .kept) (resize-contents g pos fr img acc e new may)
+        })
 
     pub length-step : Step g img (resized v img e new) (lengthRows p new (rowsOf g img))
     length-step =

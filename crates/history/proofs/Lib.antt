@@ -1,5 +1,6 @@
 -- Demand 3, step by step.
 pub mod Alike
+pub mod SamePaths
 pub mod CellCases
 pub mod EditedUnits
 pub mod Edited
@@ -21,5 +22,8 @@ pub mod Room
 pub mod Answers
 pub mod EditStep
 pub mod LengthStep
+pub mod Moving
+pub mod MoveRows
+pub mod MoveStep
 pub mod Demand
 pub mod Demand3

@@ -4,7 +4,7 @@ use mathlib.Core.Path.{_≡_, sym, ap, _∙_}
 use mathlib.Core.Logic.{_⊎_, inl, inr}
 use mathlib.Core.Bool.{Bool, true, false, not, cond, Bool·beq}
 use mathlib.Core.List.{List, []}
-use lib.Dec.{ltb}
+use lib.Dec.{eqb, ltb}
 use lib.ListN.{length, take}
 use Rattle.format.specs.Basics.Bytes.{Bytes}
 use Rattle.format.specs.Basics.Lists.{fit}
@@ -14,10 +14,12 @@ use Rattle.format.specs.Layout.Space.{freeUnits, block}
 use Rattle.format.specs.Layout.Entry.{size, start}
 use Rattle.format.specs.Layout.Volume.{Volume, volume}
 use Rattle.format.specs.Layout.Stream.{spaceFor, streamUnits, contents, streamSize}
-use Rattle.format.specs.Layout.Chain.{startOf}
+use Rattle.format.specs.Layout.Chain.{FREE, startOf, isFree}
 use Rattle.format.specs.Rules.Verdict.{Accepted}
 use Rattle.format.specs.Calls.SetLength.{editSpace, newUnits, resized}
 use Rattle.theory.specs.Blocks.{target}
+use Rattle.theory.specs.Links.{freed, chained, rechain}
+use Rattle.theory.proofs.Picks.{pick-same}
 use Rattle.theory.proofs.Tests.{beq-self, beq-not}
 use Rattle.theory.proofs.RoundUp.{round-zero}
 use Rattle.theory.proofs.Fits.{fit-zero}
@@ -26,6 +28,7 @@ use Rattle.frame.specs.Frame.{Frame}
 use Rattle.frame.specs.Good.{spaceOf, systemOf, Good}
 use Rattle.frame.proofs.Good.{accepted-good}
 use Rattle.history.specs.Changed.{Changed}
+use Rattle.history.proofs.EditedUnits.{limit-same, edited-units}
 use Rattle.history.proofs.Filled.{Sized, edited-contents, frame-sized}
 use Rattle.frame.proofs.LengthUnits.{sides-uncrossed, new-units-become, new-units-length}
 use Rattle.history.proofs.Lengths.{old-units, new-content-length, new-content-fits, new-units-none}
@@ -146,3 +149,17 @@ module _ (g : Geometry) (pos : 0 < g .sectorBytes) (fr : Frame g) (img : Bytes) 
               ∙ new-content-fits v img good sized e new (may .inside) (may .stream) (may .within) enough h
           | inr z ↦ ap (λ n. take n (contentIn (ltb new cutoff))) z ∙ sym (ap (λ n. fit n (contents v img e)) z ∙ fit-zero (contents v img e))
         ]
+
+    -- its units are the new ones
+    pub resize-units : streamUnits (volume g (resized v img e new)) e ≡ newUnits v e new
+    resize-units = edited-units good resize-changed ∙ units-here
+
+    -- in the other space the same units are free
+    pub resize-free : (b : Bool) → Bool·beq b side ≡ false → freeUnits (spaceOf (volume g (resized v img e new)) b) ≡ freeUnits (spaceOf v b)
+    unfolding freeUnits rechain chained freed
+    resize-free b h =
+        rw (limit-same good resize-changed b)
+        (pick-same (isFree (spaceOf v b .cell)) (isFree (spaceOf (volume g (resized v img e new)) b .cell)) (spaceOf v b .limit) (λ u l. ap (λ c. eqb c FREE) (cell-same u l)))
+      where
+        cell-same : (u : ℕ) → u < spaceOf v b .limit → spaceOf (volume g (resized v img e new)) b .cell u ≡ spaceOf v b .cell u
+        cell-same u l = rw h at (new-cells b .cells u l)

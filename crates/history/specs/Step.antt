@@ -8,9 +8,11 @@ use Rattle.format.specs.Basics.Lists.{fit}
 use Rattle.format.specs.Layout.Geometry.{Geometry}
 use Rattle.format.specs.Layout.Need.{roundUp}
 use Rattle.format.specs.Layout.Space.{Space, freeUnits}
+use Rattle.format.specs.Layout.Volume.{volume}
 use Rattle.format.specs.Rules.Version.{versionOf}
 use Rattle.format.specs.Rules.Verdict.{Accepted}
 use Rattle.format.specs.Calls.Paths.{Path}
+use Rattle.format.specs.Calls.Find.{resolveStream}
 use Rattle.format.specs.Calls.Call.{Call}
 use Rattle.format.specs.Calls.Buffers.{imageAfterBy}
 use Rattle.format.specs.History.Rows.{Row, rowsOf}
@@ -19,12 +21,14 @@ use Rattle.format.specs.History.Step.{change, rowsStep, rowsAfter}
 use Rattle.format.specs.History.Claim.{after, Holds}
 use Rattle.frame.specs.Edits.{Preserved}
 
--- from img to an accepted image img′ of the same setting, whose rows are rows′. The system's sectors are where they were.
+-- from img to an accepted image img′ of the same setting, whose rows are rows′. The system's sectors are where they were, and every path leads to
+-- the stream that it led to.
 pub record Step (g : Geometry) (img img′ : Bytes) (rows′ : List Row) : Type 0 where
   pub accepted : Accepted g img′
   pub kept : Preserved g img img′
   pub setting : settingOf g img′ ≡ settingOf g img
   pub rows : rowsOf g img′ ≡ rows′
+  pub found : (p : Path) → resolveStream (volume g img′ .directory) p ≡ resolveStream (volume g img .directory) p
 
 -- a call leaves the image and the rows that the definitions say
 abbrev pub CallStep : Geometry → Bytes → Call → Type 0

@@ -7,7 +7,7 @@ use Rattle.format.specs.Calls.Answer.{firstOf}
 use Rattle.format.specs.Calls.Reply.{onZero}
 use Rattle.kinds.specs.Numbers.{refusalNumber}
 use Rattle.kinds.specs.declared.Refusal.{Refusal}
-use Rattle.kinds.specs.declared.Refusal.the-variants.{BadLength, ShortWork, Header, Tables, Cells, Directory, Entries, Trees, Mini, Streams, Owners, BadPath, NotFound, StreamOnTheWay, NotAStream, Beyond, Crosses, TooFewFree, OutTooShort}
+use Rattle.kinds.specs.declared.Refusal.the-variants.{BadLength, ShortWork, Header, Tables, Cells, Directory, Entries, Trees, Mini, Streams, Owners, BadPath, NotFound, StreamOnTheWay, NotAStream, Beyond, TooFewFree, OutTooShort}
 
 pub refusal-some : (a : Refusal) → refusalNumber a ≢ 0
 refusal-some BadLength = λ z. omega arith
@@ -26,7 +26,6 @@ refusal-some NotFound = λ z. omega arith
 refusal-some StreamOnTheWay = λ z. omega arith
 refusal-some NotAStream = λ z. omega arith
 refusal-some Beyond = λ z. omega arith
-refusal-some Crosses = λ z. omega arith
 refusal-some TooFewFree = λ z. omega arith
 refusal-some OutTooShort = λ z. omega arith
 

@@ -1,7 +1,7 @@
 -- 01's number of each refusal, and of each answer.
 use Prim.Native.Nat.{ℕ}
 use Rattle.kinds.specs.declared.Refusal.{Refusal}
-use Rattle.kinds.specs.declared.Refusal.the-variants.{BadLength, ShortWork, Header, Tables, Cells, Directory, Entries, Trees, Mini, Streams, Owners, BadPath, NotFound, StreamOnTheWay, NotAStream, Beyond, Crosses, TooFewFree, OutTooShort}
+use Rattle.kinds.specs.declared.Refusal.the-variants.{BadLength, ShortWork, Header, Tables, Cells, Directory, Entries, Trees, Mini, Streams, Owners, BadPath, NotFound, StreamOnTheWay, NotAStream, Beyond, TooFewFree, OutTooShort}
 use Rattle.kinds.specs.declared.Answer.{Answer}
 use Rattle.kinds.specs.declared.Answer.the-variants.{Done, Refused}
 
@@ -22,7 +22,6 @@ refusalNumber NotFound = 21
 refusalNumber StreamOnTheWay = 22
 refusalNumber NotAStream = 23
 refusalNumber Beyond = 24
-refusalNumber Crosses = 25
 refusalNumber TooFewFree = 26
 refusalNumber OutTooShort = 27
 

@@ -380,7 +380,6 @@ pub enum Refusal {
     StreamOnTheWay,
     NotAStream,
     Beyond,
-    Crosses,
     TooFewFree,
     OutTooShort,
 }
@@ -412,7 +411,6 @@ pub fn refusal_number(a: Refusal) -> u32
         Refusal::StreamOnTheWay => 22,
         Refusal::NotAStream => 23,
         Refusal::Beyond => 24,
-        Refusal::Crosses => 25,
         Refusal::TooFewFree => 26,
         Refusal::OutTooShort => 27,
     }

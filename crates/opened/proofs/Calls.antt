@@ -38,7 +38,7 @@ use Rattle.opened.proofs.Validated.{ready-room}
 use Rattle.opened.proofs.Inside.{reply-in, image-in, out-in, ready-open}
 use Rattle.opened.specs.OpenVolume.{OpenVolume}
 use Rattle.opened.specs.Opening.{OpeningRight}
-use Rattle.opened.proofs.Kept.{readied-after}
+use Rattle.lengths.proofs.Kept.{readied-after}
 
 module _ {v : Volume} {img : Bytes} {w : List ℕ} (s : OpenVolume v img w) where
   abbrev g : Geometry

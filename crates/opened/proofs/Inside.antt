@@ -16,7 +16,7 @@ use Rattle.format.specs.Rules.Verdict.{check, groups, verdict, Accepted}
 use Rattle.format.specs.Layout.Space.{freeUnits}
 use Rattle.format.specs.Layout.Stream.{streamSize}
 use Rattle.format.specs.Calls.Paths.{Path}
-use Rattle.format.specs.Calls.SetLength.{crosses, tooFew}
+use Rattle.format.specs.Calls.SetLength.{tooFew}
 use Rattle.format.specs.Calls.Listing.{listing}
 use Rattle.format.specs.Calls.Find.{Found, at, refused, answerOf, resolve, resolveStream}
 use Rattle.format.specs.Calls.Call.{Call, validate, find, read, overwrite, setLength, list, workOf}
@@ -60,7 +60,7 @@ late-beyond size place = late-either (ltb size place) 24 0 (inr (omega arith)) (
 
 late-length : (g : Geometry) (v : Volume) (old new : ℕ) → Late (lengthAnswer g v old new)
 unfolding lengthAnswer
-late-length g v old new = late-either (crosses old new) 25 _ (inr (omega arith)) (late-either (tooFew g (length (freeUnits (v .sectors))) (length (freeUnits (v .minis))) old new) 26 0 (inr (omega arith)) (inl refl))
+late-length g v old new = late-either (tooFew g (length (freeUnits (v .sectors))) (length (freeUnits (v .minis))) old new) 26 0 (inr (omega arith)) (inl refl)
 
 late-target : (v : Volume) (p : Path) → Late (targetAnswer v p)
 unfolding targetAnswer

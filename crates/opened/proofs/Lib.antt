@@ -3,6 +3,5 @@ pub mod Validated
 pub mod Inside
 pub mod Ready
 pub mod Numbers
-pub mod Kept
 pub mod Calls
 pub mod Sequence

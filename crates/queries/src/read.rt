@@ -29,7 +29,7 @@ pub enum Read {
 }
 
 // Reads a stream's bytes, as many as the out buffer has room for.
-fn read_stream(img: &[u8], work: &[u32], v: Volume, e: Object, offset: usize, out: &mut [u8])
+pub fn read_stream(img: &[u8], work: &[u32], v: Volume, e: Object, offset: usize, out: &mut [u8])
     requires { ⌜ Open v (now img) (now work) ⌝ }
     requires { ⌜ StreamAt (volumeIn v (now img)) e ⌝ }
     requires { ⌜ offset + length (now out) ≤ e .size ⌝ }

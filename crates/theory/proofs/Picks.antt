@@ -52,6 +52,11 @@ pub length-pick : (p : ℕ → Bool) (n : ℕ) → length (pickBelow n p) ≡ su
 length-pick p zero = refl
 length-pick p (suc n) = omega (arith, length-append (pickBelow n p) (cond (p n) (n ∷ []) []), length-pick p n, length-one (p n) n)
 
+-- the same numbers pass
+pub pick-same : (p q : ℕ → Bool) (n : ℕ) → ((u : ℕ) → u < n → q u ≡ p u) → pickBelow n q ≡ pickBelow n p
+pick-same p q zero h = refl
+pick-same p q (suc n) h = rw (h n (omega arith), pick-same p q n (λ u l. h u (omega arith)))
+
 bit-not : (b : Bool) → bit (not b) + bit b ≡ 1
 bit-not true = refl
 bit-not false = refl

@@ -11,7 +11,7 @@ use Rattle.format.specs.Layout.Stream.{streamSize}
 use Rattle.format.specs.Rules.Verdict.{verdict}
 use Rattle.format.specs.Calls.Paths.{Path}
 use Rattle.format.specs.Calls.Find.{resolve, resolveStream, answerOf, entryOf}
-use Rattle.format.specs.Calls.SetLength.{crosses, tooFew}
+use Rattle.format.specs.Calls.SetLength.{tooFew}
 use Rattle.format.specs.Calls.Listing.{listing}
 use Rattle.format.specs.Calls.Call.{Call, validate, find, read, overwrite, setLength, list, workOf}
 
@@ -31,11 +31,9 @@ targetAnswer v path = answerOf (resolveStream (v .directory) path)
 unfoldable pub beyond : ℕ → ℕ → ℕ
 beyond size place = cond (ltb size place) 24 0
 
--- 25, 26 or 0
+-- 26 or 0
 unfoldable pub lengthAnswer : Geometry → Volume → ℕ → ℕ → ℕ
-lengthAnswer g v old new =
-    cond (crosses old new) 25
-    (cond (tooFew g (length (freeUnits (v .sectors))) (length (freeUnits (v .minis))) old new) 26 0)
+lengthAnswer g v old new = cond (tooFew g (length (freeUnits (v .sectors))) (length (freeUnits (v .minis))) old new) 26 0
 
 -- what comes after validation: 20 to 27, or 0. A sum of numbers is the true one.
 unfoldable pub answerIn : Geometry → Volume → Call → ℕ

@@ -12,7 +12,7 @@ use Rattle.format.specs.Rules.Length.{workNeed}
 use Rattle.format.specs.Rules.Version.{versionOf}
 use Rattle.format.specs.Calls.Read.{readBytes, over}
 use Rattle.format.specs.Calls.Overwrite.{overwritten}
-use Rattle.format.specs.Calls.SetLength.{resized}
+use Rattle.format.specs.Calls.Move.{lengthChanged}
 use Rattle.format.specs.Calls.Listing.{listing}
 use Rattle.format.specs.Calls.Call.{Call, validate, find, read, overwrite, setLength, list, workOf, outOf}
 use Rattle.format.specs.Calls.Answer.{target, answer}
@@ -26,7 +26,7 @@ edited v img (validate work) = img
 edited v img (find path work) = img
 edited v img (read path offset out work) = img
 edited v img (overwrite path offset bytes work) = overwritten v img (target v path) offset bytes
-edited v img (setLength path new work) = resized v img (target v path) new
+edited v img (setLength path new work) = lengthChanged v img (target v path) new
 edited v img (list out work) = img
 
 unfoldable pub imageAfterBy : Geometry → Bytes → Call → Bytes

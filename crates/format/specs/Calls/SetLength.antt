@@ -1,4 +1,4 @@
--- When a length may change, and what the change leaves in the image.
+-- When a length may change, and what a change on one side of the cutoff leaves in the image.
 use Prim.Native.Nat.{ℕ, _+_, _-_, _*_, min, max}
 use mathlib.Core.Bool.{Bool, cond, _&&_, _||_}
 use mathlib.Core.List.{List, [], _∷_, _++_}
@@ -20,7 +20,7 @@ use Rattle.format.specs.Calls.Overwrite.{putChain}
 unfoldable pub small : ℕ → Bool
 small n = leb 1 n && ltb n cutoff
 
--- the occasion of 25: from a small length to the cutoff or more, or back; 0 is on neither side
+-- from a small length to the cutoff or more, or back; 0 is on neither side
 unfoldable pub crosses : ℕ → ℕ → Bool
 crosses old new = (small old && leb cutoff new) || (leb cutoff old && small new)
 
@@ -46,7 +46,7 @@ link sp [] img = img
 link sp (u ∷ us) img = link sp us (putCell sp img u (startOf us))
 
 -- A chain of the units `old` becomes one of the units `new`, where one list begins with the other: what `new` lacks is released; the last
--- unit that stays becomes the chain's last, or names the first unit that is added.
+-- unit that stays becomes the chain's last, or names the first unit that is added. Where none stays, `kept - 1` is 0.
 unfoldable pub relinked : Space → List ℕ → List ℕ → Bytes → Bytes
 relinked sp old new img =
     let kept = min (length old) (length new) in
@@ -73,7 +73,7 @@ unfoldable pub tailZeroed : Volume → Bytes → ℕ → ℕ → Bytes
 tailZeroed v img e new =
     cond (ltb (streamSize v e) new) (zeroed (editSpace v e new) (newUnits v e new) img (streamSize v e)) img
 
--- Start and size. The start is what it was, but from 0 and to 0.
+-- Start and size. The start is the first of the units after, so it differs from what it was only from 0 and to 0.
 unfoldable pub entryWritten : Volume → Bytes → ℕ → ℕ → Bytes
 entryWritten v img e new =
     put64 (put32 img (v .entryPlace e + startField) (startOf (newUnits v e new))) (v .entryPlace e + sizeField) new

@@ -7,7 +7,7 @@ use lib.ListN.{length}
 use Rattle.format.specs.Basics.Lists.{fit}
 use Rattle.format.specs.Basics.Bytes.{Bytes, putBytes}
 use Rattle.format.specs.Calls.Paths.{Path}
-use Rattle.format.specs.Calls.SetLength.{crosses, tooFew}
+use Rattle.format.specs.Calls.SetLength.{tooFew}
 use Rattle.format.specs.Calls.Call.{Call, validate, find, read, overwrite, setLength, list}
 use Rattle.format.specs.History.Rows.{Row, means, hasRow, rowLength}
 use Rattle.format.specs.History.Setting.{Setting, freeSectors, freeMinis}
@@ -22,7 +22,7 @@ reaches s rows path work = leb (s .work) (length work) && hasRow rows path
 unfoldable pub lacks : Setting → List Row → Path → ℕ → Bool
 lacks s rows path new = tooFew (s .geometry) (freeSectors s rows) (freeMinis s rows) (rowLength rows path) new
 
--- an edit for which the rows give no occasion of 24, 25 or 26
+-- an edit for which the rows give no occasion of 24 or 26
 unfoldable pub accepts : Setting → List Row → Call → Bool
 accepts s rows (validate work) = false
 accepts s rows (find path work) = false
@@ -30,7 +30,7 @@ accepts s rows (read path offset out work) = false
 accepts s rows (overwrite path offset bytes work) =
     reaches s rows path work && leb (offset + length bytes) (rowLength rows path)
 accepts s rows (setLength path new work) =
-    reaches s rows path work && not (crosses (rowLength rows path) new) && not (lacks s rows path new)
+    reaches s rows path work && not (lacks s rows path new)
 accepts s rows (list out work) = false
 
 -- a change of length with no occasion of a lower number, but of 26
@@ -40,7 +40,7 @@ answers26 s rows (find path work) = false
 answers26 s rows (read path offset out work) = false
 answers26 s rows (overwrite path offset bytes work) = false
 answers26 s rows (setLength path new work) =
-    reaches s rows path work && not (crosses (rowLength rows path) new) && lacks s rows path new
+    reaches s rows path work && lacks s rows path new
 answers26 s rows (list out work) = false
 
 -- ---- what an accepted edit does to its row

@@ -19,7 +19,7 @@ use Rattle.spaces.specs.Units.{kindOf, numberIn}
 use Rattle.spaces.proofs.Listed.{unit-same, unit-many}
 use Rattle.queries.proofs.Streams.{stream-start, stream-placed, stream-room}
 use Rattle.edits.proofs.Gathering.{gathered-ready}
-use Rattle.edits.proofs.Resizes.{too-few, enough-free, resize-chain, resize-writable, resize-entry, resize-tail, resize-written}
+use Rattle.edits.proofs.Resizes.{too-few, enough-free, resize-chain, gathered}
 use Rattle.edits.proofs.resize.change_length.Statement.{statement}
 use Rattle.edits.proofs.resize.change_length.Tie as tie
 
@@ -45,10 +45,10 @@ first c =
     (f .0 ∙ kind-is k, f .1)
 
 -- what gathering says, of the kind that is known
-gathered : (c : tie.After-gather) → let a = c .before .before .before .before .before .before .before .before .before .before .before .before .before .before .args in let sp = spaceAt (a .v) (a .img .now) (kindFor (max (a .e .size) (a .new))) in
+answered : (c : tie.After-gather) → let a = c .before .before .before .before .before .before .before .before .before .before .before .before .before .before .args in let sp = spaceAt (a .v) (a .img .now) (kindFor (max (a .e .size) (a .new))) in
     let old = c .before .before .before .before .before .before .before .before .units-for .result in let need = c .before .before .before .before .before .before .before .units-for2 .result in
     c .gather .result ≡ not (ltb (old + length (freeUnits sp)) need)
-gathered c = rw (first (c .before .before .before) .0) at (c .gather .ensures .0)
+answered c = rw (first (c .before .before .before) .0) at (c .gather .ensures .0)
 
 -- what stands listed then
 listed : (c : tie.Else1) → Readied (c .before .before .before .before .before .before .before .before .before .before .before .before .before .before .before .before .before .args .v) (c .before .before .before .before .before .before .before .before .before .before .before .before .before .before .before .before .before .args .img .now) (c .before .before .before .gather .last .1 .0)
@@ -56,7 +56,7 @@ listed c = gathered-ready (c .before .before .before .before .before .before .be
 
 enough : (c : tie.Else1) → let a = c .before .before .before .before .before .before .before .before .before .before .before .before .before .before .before .before .before .args in let sp = spaceAt (a .v) (a .img .now) (kindFor (max (a .e .size) (a .new))) in
     (ltb (c .before .before .before .before .before .before .before .before .before .before .before .units-for .result + length (freeUnits sp)) (c .before .before .before .before .before .before .before .before .before .before .units-for2 .result) ≡ false) × (0 ≡ lengthAnswer (geometryOf (a .v .tables .geometry)) (volumeIn (a .v) (a .img .now)) (a .e .size) (a .new))
-enough c = let p = c .before .before .before .before .before .before .before .before .before .before .before .before .before .before .before .before .before in enough-free (p .pre .0) (p .pre .1 .0) (p .args .new) (p .pre .1 .1 .0) _ _ (many (c .before .before .before .before .before .before .before .before .before .before .before)) (wanted (c .before .before .before .before .before .before .before .before .before .before)) (c .if1 .left) (gathered (c .before .before .before))
+enough c = let p = c .before .before .before .before .before .before .before .before .before .before .before .before .before .before .before .before .before in enough-free (p .pre .0) (p .pre .1 .0) (p .args .new) (p .pre .1 .1 .0) _ _ (many (c .before .before .before .before .before .before .before .before .before .before .before)) (wanted (c .before .before .before .before .before .before .before .before .before .before)) (c .if1 .left) (answered (c .before .before .before))
 
 mine : (c : tie.Else1) → let a = c .before .before .before .before .before .before .before .before .before .before .before .before .before .before .before .before .before .args in let sp = spaceAt (a .v) (a .img .now) (kindFor (max (a .e .size) (a .new))) in
     take (c .before .before .before .before .before .before .before .before .before .before .before .units-for .result) (c .before .before .before .gather .last .1 .0) ≡ units (sp .cell) (c .before .before .before .before .before .before .before .before .before .before .before .units-for .result) (start (volumeIn (a .v) (a .img .now) .directory .entry (a .e .id .0)))
@@ -86,18 +86,11 @@ change-length-spec =
     (λ c. search needs)  -- same-length-2
     (λ c.
     let p = c .before .before .before .before .before .before .before .before .before .before .before .before .before .before .before .before .before in
-    (too-few (p .pre .0) (p .pre .1 .0) (p .args .new) (p .pre .1 .1 .0) _ _ (many (c .before .before .before .before .before .before .before .before .before .before .before)) (wanted (c .before .before .before .before .before .before .before .before .before .before)) (c .if1 .taken) (gathered (c .before .before .before)), (refl, c .before .before .before .gather .ensures .1 .1 .1)))  -- returns
+    (too-few (p .pre .0) (p .pre .1 .0) (p .args .new) (p .pre .1 .1 .0) _ _ (many (c .before .before .before .before .before .before .before .before .before .before .before)) (wanted (c .before .before .before .before .before .before .before .before .before .before)) (c .if1 .taken) (answered (c .before .before .before)), (refl, c .before .before .before .gather .ensures .1 .1 .1)))  -- returns
     (λ c κs.
     let p = c .before .before .before .before .before .before .before .before .before .before .before .before .before .before .before .before .before .before .before in
-    let o = p .pre .0 in
-    let m = many (c .before .before .before .before .before .before .before .before .before .before .before .before .before) in
-    let n = wanted (c .before .before .before .before .before .before .before .before .before .before .before .before) in
     let e = c .before .before in
-    rw (kind-is (c .before .before .before .before .before .before .before .before .before .before .before .before .before .before .before))
-    (resize-writable o (p .pre .1 .0) (p .args .new) (p .pre .1 .1 .0) _ _ m n (listed e) (mine e) (all e) (enough e .0), (resize-entry o (p .pre .1 .0) (p .args .new) (p .pre .1 .1 .0) _ _ m n (listed e) (mine e) (all e) (enough e .0), resize-tail o (p .pre .1 .0) (p .args .new) (p .pre .1 .1 .0) _ _ m n (listed e) (mine e) (all e) (enough e .0))))  -- rewrite-requires
+    (record { ready = listed e; groups = p .pre .0 .groups }, (p .pre .1 .0, (p .pre .1 .1 .0, (p .pre .1 .1 .1, gathered (p .pre .0) (p .pre .1 .0) (p .args .new) (p .pre .1 .1 .0) _ _ (many (c .before .before .before .before .before .before .before .before .before .before .before .before .before)) (wanted (c .before .before .before .before .before .before .before .before .before .before .before .before)) (mine e) (all e) (enough e .0))))))  -- resize-requires
     (λ c. search needs)  -- same-length-3
     (λ c. search needs)  -- same-length-4
-    (λ c.
-    let p = c .before .before .before .before .before .before .before .before .before .before .before .before .before .before .before .before .before .before .before .before .before .before in
-    let e = c .before .before .before .before .before in
-    (enough e .1, (c .before .before .rewrite .ensures ∙ rw (kind-is (c .before .before .before .before .before .before .before .before .before .before .before .before .before .before .before .before .before .before)) (resize-written (p .pre .0) (p .pre .1 .0) (p .args .new) (p .pre .1 .1 .0) _ _ (many (c .before .before .before .before .before .before .before .before .before .before .before .before .before .before .before .before)) (wanted (c .before .before .before .before .before .before .before .before .before .before .before .before .before .before .before)) (listed e) (mine e) (all e) (enough e .0) (p .pre .1 .1 .1)), c .before .before .before .before .before .before .before .before .gather .ensures .1 .1 .1))))  -- returns-2
+    (λ c. let e = c .before .before .before .before .before in (enough e .1, (c .before .before .resize .ensures, c .before .before .before .before .before .before .before .before .gather .ensures .1 .1 .1))))  -- returns-2

@@ -8,7 +8,7 @@ use Rattle.spaces.specs.Spaces.{spaceAt, unitCount}
 use Rattle.spaces.specs.Units.{kindOf}
 use Rattle.spaces.proofs.Listed.{count-same}
 use Rattle.unitlists.proofs.Limits.{limit-room}
-use Rattle.edits.proofs.Gathering.{gathered-wrote, gathered-ready, old-short, needs-more, own-enough, own-first, free-enough, own-still, all-listed}
+use Rattle.edits.proofs.Gathering.{gathered-wrote, gathered-ready, chain-long, old-short, needs-more, own-enough, own-first, free-enough, own-still, all-listed}
 use Rattle.edits.proofs.resize.gather.Statement.{statement}
 use Rattle.edits.proofs.resize.gather.Tie as tie
 
@@ -55,4 +55,5 @@ gather-spec =
     let t = gathered-wrote (p .pre .0) k _ few (l .1) in
     let m : p .args .need ≤ spaceAt (p .args .v) (p .args .img .now) k .limit = omega (arith, c .before .before .before .before .before .if1 .left, many (c .before .before .before .before .before .before)) in
     let o : p .args .old ≤ p .args .need = omega (arith, c .before .before .before .before .if2 .left) in
-    (free-enough (p .pre .0) k _ _ (p .pre .1) _ (l .0) _ _ _ o (f .0) (f .1 .0), (own-still (p .pre .0) k _ _ (p .pre .1) _ (l .0) _ _ _ o (f .0) (f .1 .0), (all-listed (p .pre .0) k _ _ (p .pre .1) _ (l .0) _ _ _ o (f .0) (f .1 .0), wrote-two t (gathered-wrote (p .pre .0) k _ m (f .1 .1)))))))  -- returns-3
+    let g = chain-long (p .pre .0) k _ _ (p .pre .1) in
+    (free-enough _ _ _ _ _ _ _ g (l .0) o (f .0) (f .1 .0), (own-still _ _ _ _ _ _ _ g (l .0) o (f .0) (f .1 .0), (all-listed _ _ _ _ _ _ _ g (l .0) o (f .0) (f .1 .0), wrote-two t (gathered-wrote (p .pre .0) k _ m (f .1 .1)))))))  -- returns-3

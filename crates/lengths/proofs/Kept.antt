@@ -9,7 +9,7 @@ use lib.ListN.{length, getD}
 use Rattle.format.specs.Basics.Lists.{allBelow}
 use Rattle.format.specs.Rules.Cells.{restFree}
 use Rattle.format.specs.Basics.Bytes.{Bytes}
-use Rattle.format.specs.Layout.Geometry.{Geometry, sectorCount, cellsIn}
+use Rattle.format.specs.Layout.Geometry.{Geometry, sectorCount}
 use Rattle.format.specs.Layout.Chain.{chain}
 use Rattle.format.specs.Layout.Header.{fatCount, difatCount, miniFatCount, miniFatStart}
 use Rattle.format.specs.Layout.Tables.{difatEntry, difatSector, fatSectors, difatSectors, fatCell, sectorSpace}
@@ -26,7 +26,6 @@ use Rattle.directory.specs.Listed.{DirectoryListed}
 use Rattle.directory.specs.declared.Directory.{Directory}
 use Rattle.minis.specs.Listed.{MiniListed}
 use Rattle.minis.specs.declared.Minis.{Minis}
-use Rattle.volume.specs.Passed.{MiniRoom}
 use Rattle.volume.specs.Opened.{Readied}
 use Rattle.volume.specs.declared.Volume.{Volume}
 

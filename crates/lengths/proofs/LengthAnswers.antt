@@ -10,20 +10,26 @@ use Rattle.format.specs.Basics.Bytes.{Bytes}
 use Rattle.format.specs.Layout.Geometry.{Geometry}
 use Rattle.format.specs.Layout.Need.{miniNeed, sectorNeed}
 use Rattle.format.specs.Layout.Space.{freeUnits}
-use Rattle.format.specs.Layout.Volume.{Volume}
+use Rattle.format.specs.Layout.Volume.{Volume, volume}
 use Rattle.format.specs.Layout.Stream.{streamSize}
 use Rattle.format.specs.Calls.Paths.{Path}
 use Rattle.format.specs.Calls.Call.{Call, setLength}
 use Rattle.format.specs.Calls.SetLength.{crosses, tooFew, resized}
+use Rattle.format.specs.Calls.Move.{moved, lengthChanged}
 use Rattle.format.specs.Calls.Answer.{firstOf, target, targetAnswer, lengthAnswer, answerIn}
 use Rattle.format.specs.Calls.Reply.{onZero}
 use Rattle.format.specs.Calls.Buffers.{edited}
 use Rattle.kinds.specs.Numbers.{refusalNumber}
 use Rattle.kinds.specs.declared.Refusal.{Refusal}
 use Rattle.kinds.proofs.Refusals.{first-refused}
 use Rattle.edits.specs.Images.{imageIn}
 use Rattle.edits.proofs.Streams.{same-uncrossed}
 use Rattle.edits.proofs.Targets.{image-refused}
+
+-- a volume goes by the geometry that it was read by
+pub own-geometry : (g : Geometry) (img : Bytes) → volume g img .geometry ≡ g
+unfolding volume
+own-geometry g img = refl
 
 -- the same length needs no room
 same-enough : (g : Geometry) (s m n : ℕ) → tooFew g s m n n ≡ false
@@ -32,7 +38,7 @@ same-enough g s m n = rw (le-ltb (sectorNeed g n + s) (sectorNeed g n) (omega ar
 
 same-answer : (g : Geometry) (v : Volume) (n : ℕ) → lengthAnswer g v n n ≡ 0
 unfolding lengthAnswer
-same-answer g v n = rw (same-uncrossed n, same-enough g (length (freeUnits (v .sectors))) (length (freeUnits (v .minis))) n)
+same-answer g v n = rw (same-enough g (length (freeUnits (v .sectors))) (length (freeUnits (v .minis))) n)
 
 module _ (g : Geometry) (v : Volume) (img : Bytes) (path : Path) (new : ℕ) where
   abbrev call : Call
@@ -50,19 +56,28 @@ module _ (g : Geometry) (v : Volume) (img : Bytes) (path : Path) (new : ℕ) whe
     unfolding answerIn firstOf
     answer-later = rw (e .0, e .1, s)
 
-    edited-is : edited v img call ≡ resized v img x new
+    edited-is : edited v img call ≡ lengthChanged v img x new
     unfolding edited
     edited-is = rw (e .1)
 
     -- an answer, and the image that it leaves
-    pub length-changed : {r : ℕ} {after : Bytes} → r ≡ lengthAnswer g v size new → after ≡ onZero r (resized v img x new) img → (r ≡ answerIn g v call) × (after ≡ imageIn g v img call)
+    changed : {r : ℕ} {after : Bytes} → r ≡ lengthAnswer g v size new → after ≡ onZero r (lengthChanged v img x new) img → (r ≡ answerIn g v call) × (after ≡ imageIn g v img call)
     unfolding imageIn
-    length-changed {r} h k = let a : r ≡ answerIn g v call = h ∙ sym answer-later in (a, k ∙ ap₂ (λ n b. onZero n b img) a (sym edited-is))
+    changed {r} h k = let a : r ≡ answerIn g v call = h ∙ sym answer-later in (a, k ∙ ap₂ (λ n b. onZero n b img) a (sym edited-is))
 
-    pub length-crossed : crosses size new ≡ true → (25 ≡ answerIn g v call) × (img ≡ imageIn g v img call)
-    unfolding lengthAnswer onZero
-    length-crossed h = length-changed (sym (rw h)) refl
+    -- on one side of the cutoff, and across it
+    pub length-within : crosses size new ≡ false → {r : ℕ} {after : Bytes} → r ≡ lengthAnswer g v size new → after ≡ onZero r (resized v img x new) img
+        → (r ≡ answerIn g v call) × (after ≡ imageIn g v img call)
+    unfolding lengthChanged
+    length-within c h k = changed h (rw (ap (λ n. crosses n new) (sym s) ∙ c) k)
+
+    pub length-across : v .geometry ≡ g → crosses size new ≡ true → {r : ℕ} {after : Bytes} → r ≡ lengthAnswer g v size new → after ≡ onZero r (moved g img x new) img
+        → (r ≡ answerIn g v call) × (after ≡ imageIn g v img call)
+    unfolding lengthChanged
+    length-across z c h k = changed h (rw (ap (λ n. crosses n new) (sym s) ∙ c, z) k)
 
     pub length-same : size ≡ new → (0 ≡ answerIn g v call) × (img ≡ imageIn g v img call)
     unfolding onZero resized
-    length-same z = length-changed (sym (ap (λ n. lengthAnswer g v size n) (sym z) ∙ same-answer g v size)) (sym (rw (eq-eqb new (streamSize v x) (sym z ∙ s))))
+    length-same z =
+        length-within (ap (crosses size) (sym z) ∙ same-uncrossed size) (sym (ap (λ n. lengthAnswer g v size n) (sym z) ∙ same-answer g v size))
+        (sym (rw (eq-eqb new (streamSize v x) (sym z ∙ s))))

@@ -8,10 +8,10 @@ use Rattle.spaces.specs.Spaces.{volumeIn}
 use Rattle.queries.specs.Inside.{FindRight}
 use Rattle.queries.specs.declared.find.Find.the-variants.{Entry}
 use Rattle.queries.proofs.Streams.{find-stream}
 use Rattle.edits.proofs.Targets.{find-stopped, find-other, find-target}
-use Rattle.edits.proofs.LengthAnswers.{length-refused, length-changed, length-crossed, length-same}
-use Rattle.edits.proofs.resize.set_length_in.Statement.{statement}
-use Rattle.edits.proofs.resize.set_length_in.Tie as tie
+use Rattle.lengths.proofs.LengthAnswers.{own-geometry, length-refused, length-within, length-across, length-same}
+use Rattle.lengths.proofs.set_length_in.Statement.{statement}
+use Rattle.lengths.proofs.set_length_in.Tie as tie
 
 -- the entry that was found
 found : (c : tie.After-f) → let a = c .before .before .before .before .before .before .before .before .args in FindRight (volumeIn (a .v) (a .img .now)) (a .path .now) (Entry (c .f .given .0 .0))
@@ -51,15 +51,22 @@ set-length-in-spec =
     let l = length-same (geometryOf (a .v .tables .geometry)) vol (a .img .now) (a .path .now) (a .new-len) _ _ (find-target vol (a .path .now) _ f k) (find-stream vol (a .path .now) _ f k .sized) (c .if2 .taken) in
     (l .0, (l .1, wrote-none _ 0 _)))  -- returns-3
     (λ c κs. search needs)  -- crossing-requires
+    (λ c κs.
+    let p = c .before .before .before .before .before .before .before .before .before .before .before .before .before .before .before .before .before .before in
+    let vol = volumeIn (p .args .v) (p .args .img .now) in
+    let f = found (c .before .before .before .before .before .before .before .before .before .before) in
+    let k = eqb-true _ _ (sym (c .before .before .before .before .before .before .before .is-stream .ensures) ∙ not-false _ (c .before .before .before .before .before .before .if1 .left)) in
+    (p .pre, (find-stream vol (p .args .path .now) _ f k, sym (c .before .before .before .crossing .ensures) ∙ c .before .before .if3 .taken)))  -- move-stream-requires
     (λ c. search needs)  -- same-length-7
     (λ c. search needs)  -- same-length-8
     (λ c.
-    let a = c .before .before .before .before .before .before .before .before .before .before .before .before .before .before .before .before .args in
+    let a = c .before .before .before .before .before .before .before .before .before .before .before .before .before .before .before .before .before .before .before .before .before .before .before .args in
     let vol = volumeIn (a .v) (a .img .now) in
-    let f = found (c .before .before .before .before .before .before .before .before) in
-    let k = eqb-true _ _ (sym (c .before .before .before .before .before .is-stream .ensures) ∙ not-false _ (c .before .before .before .before .if1 .left)) in
-    let l = length-crossed (geometryOf (a .v .tables .geometry)) vol (a .img .now) (a .path .now) (a .new-len) _ _ (find-target vol (a .path .now) _ f k) (find-stream vol (a .path .now) _ f k .sized) (sym (c .before .crossing .ensures) ∙ c .if3 .taken) in
-    (l .0, (l .1, wrote-none _ 0 _)))  -- returns-4
+    let f = found (c .before .before .before .before .before .before .before .before .before .before .before .before .before .before .before) in
+    let k = eqb-true _ _ (sym (c .before .before .before .before .before .before .before .before .before .before .before .before .is-stream .ensures) ∙ not-false _ (c .before .before .before .before .before .before .before .before .before .before .before .if1 .left)) in
+    let e = c .before .before .before .before .move-stream .ensures in
+    let l = length-across (geometryOf (a .v .tables .geometry)) vol (a .img .now) (a .path .now) (a .new-len) _ _ (find-target vol (a .path .now) _ f k) (find-stream vol (a .path .now) _ f k .sized) (own-geometry _ _) (sym (c .before .before .before .before .before .before .before .before .crossing .ensures) ∙ c .before .before .before .before .before .before .before .if3 .taken) (e .0) (e .1 .0) in
+    (l .0, (l .1, e .1 .1)))  -- returns-4
     (λ c κs.
     let p = c .before .before .before .before .before .before .before .before .before .before .before .before .before .before .before .before .before .before in
     let vol = volumeIn (p .args .v) (p .args .img .now) in
@@ -74,5 +81,5 @@ set-length-in-spec =
     let f = found (c .before .before .before .before .before .before .before .before .before .before .before .before .before .before .before) in
     let k = eqb-true _ _ (sym (c .before .before .before .before .before .before .before .before .before .before .before .before .is-stream .ensures) ∙ not-false _ (c .before .before .before .before .before .before .before .before .before .before .before .if1 .left)) in
     let e = c .before .before .before .before .change-length .ensures in
-    let l = length-changed (geometryOf (a .v .tables .geometry)) vol (a .img .now) (a .path .now) (a .new-len) _ _ (find-target vol (a .path .now) _ f k) (find-stream vol (a .path .now) _ f k .sized) (e .0) (e .1 .0) in
+    let l = length-within (geometryOf (a .v .tables .geometry)) vol (a .img .now) (a .path .now) (a .new-len) _ _ (find-target vol (a .path .now) _ f k) (find-stream vol (a .path .now) _ f k .sized) (sym (c .before .before .before .before .before .before .before .before .crossing .ensures) ∙ c .before .before .before .before .before .before .before .if3 .left) (e .0) (e .1 .0) in
     (l .0, (l .1, e .1 .1))))  -- returns-5
