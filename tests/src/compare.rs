@@ -1,6 +1,6 @@
 //! Runs cases and counts what passes.
 
-use crate::calls::{ANSWERS, Answers, OPENED_ANSWERS, Outcome, of_image, perform};
+use crate::calls::{ANSWERS, Answers, CROSSINGS, OPENED_ANSWERS, Outcome, of_image, perform};
 use crate::cases::Case;
 use crate::effects;
 use crate::geometry::VERSIONS;
@@ -33,6 +33,7 @@ impl Tally {
         let after = self.judged(name, case, check(case))?;
         self.count(case.call.name(), case, after.outcome.answer);
         self.count("open", case, of_image(after.outcome.answer));
+        self.count_crossing(case, after.outcome.answer);
         Some(after)
     }
 
@@ -43,6 +44,7 @@ impl Tally {
         let checked = check_plain(case).and_then(|after| opened.check(case, &after).map(|()| after));
         let after = self.judged(name, case, checked)?;
         self.count(case.call.opened_name(), case, after.outcome.answer);
+        self.count_crossing(case, after.outcome.answer);
         Some(after)
     }
 
@@ -58,6 +60,14 @@ impl Tally {
 
     fn count(&mut self, call: &'static str, case: &Case, answer: u32) {
         *self.answers.entry((call, version(&case.image).major, answer)).or_default() += 1;
+    }
+
+    /// Counts a change of length over the cutoff, where the rows tell that it is one.
+    fn count_crossing(&mut self, case: &Case, answer: u32) {
+        if let Some(upward) = case.model.as_ref().and_then(|rows| rows.crosses_upward(&case.call)) {
+            let [(up, _), (down, _)] = CROSSINGS;
+            self.count(if upward { up } else { down }, case, answer);
+        }
     }
 
     /// Counts a check as passed or failed.
@@ -89,7 +99,8 @@ impl Tally {
             println!("not compared with the library: overwrite, set_len, opened calls");
         }
         let opened = if cfg!(feature = "edits") { OPENED_ANSWERS } else { &[] };
-        for (g, (call, _)) in VERSIONS.into_iter().flat_map(|g| ANSWERS.iter().chain(opened).map(move |row| (g, row))) {
+        let rows = || ANSWERS.iter().chain(&CROSSINGS).chain(opened);
+        for (g, (call, _)) in VERSIONS.into_iter().flat_map(|g| rows().map(move |row| (g, row))) {
             let of_call = self.answers.iter().filter(|((name, major, _), _)| name == call && *major == g.major);
             let counts: Vec<String> = of_call.map(|((_, _, answer), times)| format!("{answer}: {times}")).collect();
             println!("version {}  {call:<17}{}", g.major, counts.join("  "));

@@ -46,13 +46,18 @@ impl Seen<'_> {
         Seen { entry: found.entry, size: found.size, chain, volume }
     }
 
+    /// Whether it lies in mini sectors.
+    fn is_small(&self) -> bool {
+        self.size < CUTOFF
+    }
+
     fn stream(&self) -> Stream {
         Stream::of_chain(&self.volume, self.size, &self.chain)
     }
 
-    fn free(&self) -> impl Iterator<Item = u32> {
-        let cells = if self.size < CUTOFF { &self.volume.mini.chains.cells } else { &self.volume.sectors.cells };
-        cells.iter().zip(0..).filter(|(cell, _)| **cell == FREE).map(|(_, unit)| unit)
+    /// The cells of the image's mini sectors or sectors.
+    fn cells(&self, small: bool) -> &[u32] {
+        if small { &self.volume.mini.chains.cells } else { &self.volume.sectors.cells }
     }
 
     /// All eight bytes of its size.
@@ -62,7 +67,7 @@ impl Seen<'_> {
 
     /// The places of its cells, its start and its size.
     fn fields(&self) -> impl Iterator<Item = Range<usize>> {
-        let table = if self.size < CUTOFF { &self.volume.mini.fat } else { &self.volume.tables.fat };
+        let table = if self.is_small() { &self.volume.mini.fat } else { &self.volume.tables.fat };
         let cells = self.chain.iter().map(|&unit| cell(self.volume.geometry, table, unit, FREE));
         let entry = field(&self.volume, self.entry, 116, &[0; 12]);
         cells.chain([entry]).map(|patch| patch.at..patch.at + patch.bytes.len())
@@ -78,15 +83,42 @@ fn length_changed(before: &[u8], after: &[u8], path: &[u16], length: u64) -> Res
     }
     held(new.size_field() == length.to_le_bytes(), "the upper half of the size is not zero")?;
     let mut places: Vec<Range<usize>> = old.fields().chain(new.fields()).collect();
-    if new.size < old.size {
+    if old.size.min(new.size) > 0 && old.is_small() != new.is_small() {
+        places.extend(moved(&old, &new)?);
+    } else if new.size < old.size {
         held(old.chain.starts_with(&new.chain), "a cut chain is not the front of the old one")?;
-        return Ok(places);
+    } else {
+        let added = new.chain.strip_prefix(&old.chain[..]).ok_or("a longer chain does not start with the old one")?;
+        lowest_free(&old, &new, added)?;
+        places.extend(zero_from(&new, old.size)?);
     }
-    let added = new.chain.strip_prefix(&old.chain[..]).ok_or("a longer chain does not start with the old one")?;
-    held(added.is_sorted(), "added units do not rise")?;
-    held(added.last().is_none_or(|&last| new.free().all(|free| last < free)), "a lower unit was free")?;
-    let wiped: Vec<Range<usize>> = new.stream().pieces(old.size, u64::MAX).collect();
-    held(wiped.iter().all(|part| after[part.clone()].iter().all(|&byte| byte == 0)), "not wiped to the chain's end")?;
-    places.extend(wiped);
     Ok(places)
+}
+
+/// Over the cutoff: another chain, which holds the bytes that are kept and zeros up to its end. The places of its bytes.
+fn moved(old: &Seen, new: &Seen) -> Result<Vec<Range<usize>>, &'static str> {
+    let kept = old.size.min(new.size);
+    lowest_free(old, new, &new.chain)?;
+    held(old.chain.iter().all(|&unit| new.cells(old.is_small())[unit as usize] == FREE), "the old chain is not free")?;
+    let bytes = |seen: &Seen| seen.stream().bytes(seen.volume.image, 0, kept);
+    held(bytes(old) == bytes(new), "other bytes than those that are kept")?;
+    zero_from(new, kept)?;
+    Ok(new.stream().pieces(0, u64::MAX).collect())
+}
+
+/// These units were free before, rise, and left no lower one free.
+fn lowest_free(old: &Seen, new: &Seen, added: &[u32]) -> Result<(), &'static str> {
+    let (before, after) = (old.cells(new.is_small()), new.cells(new.is_small()));
+    held(added.iter().all(|&unit| before[unit as usize] == FREE), "an added unit was not free")?;
+    held(added.is_sorted(), "added units do not rise")?;
+    let lower = added.last().map_or(0, |&last| last as usize);
+    held(!after[..lower].contains(&FREE), "a lower unit was free")
+}
+
+/// From here to the chain's end there are zeros. Their places.
+fn zero_from(new: &Seen, offset: u64) -> Result<Vec<Range<usize>>, &'static str> {
+    let wiped: Vec<Range<usize>> = new.stream().pieces(offset, u64::MAX).collect();
+    let zero = |part: &Range<usize>| new.volume.image[part.clone()].iter().all(|&byte| byte == 0);
+    held(wiped.iter().all(zero), "not zero up to the chain's end")?;
+    Ok(wiped)
 }

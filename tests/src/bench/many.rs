@@ -1,4 +1,4 @@
-//! A file that a program may keep opened: 5,000 small streams in 50 storages, some 6 MB; and a thousand calls on it.
+//! A file that a program may keep opened: 5,000 small streams in 50 storages, some 7 MB; and a thousand calls on it.
 
 use crate::calls::{Call, read};
 use crate::cases::large::{OF_8_MIB, many_streams};
@@ -15,7 +15,8 @@ pub const BYTES: usize = 1_000;
 
 /// In the plainest layout, with a name for the root, since other programs read this file too.
 pub fn image() -> Vec<u8> {
-    let plan = Plan { sectors: None, spare_minis: 1_000, ..many_streams(V3, OF_8_MIB, STREAMS, &[BYTES as u32]) };
+    let streams = many_streams(V3, OF_8_MIB, STREAMS, &[BYTES as u32]);
+    let plan = Plan { sectors: None, free: 1_000, spare_minis: 1_000, ..streams };
     let mut random = Random::of(7, 7);
     let Sample { mut image, layout } = Sample::build(&plan, &mut random);
     write::name(&mut image, layout.entry(0), &names::of("Root Entry"));
@@ -41,7 +42,7 @@ pub fn sum(image: &[u8]) -> u64 {
     (0..CALLS).map(&mut one).sum()
 }
 
-/// Other lengths, the last of them refused.
+/// Other lengths, the last of them over the cutoff. There is room for all.
 pub fn changes() -> Vec<Call> {
     let lengths = [1_060, 64, 1_300, 900, 1_500, 0, 2_000, 1_024, 1, 5_000];
     (0..CALLS).map(|i| Call::SetLength { path: path(i), length: lengths[i % lengths.len()] }).collect()

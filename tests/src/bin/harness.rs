@@ -4,7 +4,7 @@
 //!                                         lists, opened
 
 use cfb_tests::breaks::uses::Uses;
-use cfb_tests::calls::{ANSWERS, OPENED_ANSWERS};
+use cfb_tests::calls::{ANSWERS, CROSSINGS, OPENED_ANSWERS};
 #[cfg(feature = "edits")]
 use cfb_tests::cases::opened;
 use cfb_tests::cases::{Case, calls::Calls, deep, filled, fixed, large, lists, samples, small::Cases, tables};
@@ -86,6 +86,7 @@ fn report(tally: &mut Tally, cases: &Cases, images: u64, calls: u64, list_count:
     }
     if calls >= ENOUGH_CALLS {
         tally.ask_for_every_answer(ANSWERS);
+        tally.ask_for_every_answer(&CROSSINGS);
     }
     if cfg!(feature = "edits") && calls >= ENOUGH_CALLS && list_count >= ENOUGH_LISTS {
         tally.ask_for_every_answer(OPENED_ANSWERS);

@@ -74,8 +74,9 @@ impl Call {
     }
 }
 
-/// Calls with the answers that each has an occasion for.
-pub type Answers = [(&'static str, &'static [u32])];
+/// A call with the answers that it has an occasion for.
+pub type CallAnswers = (&'static str, &'static [u32]);
+pub type Answers = [CallAnswers];
 
 /// Every plain call.
 pub const ANSWERS: &Answers = &[
@@ -84,8 +85,11 @@ pub const ANSWERS: &Answers = &[
     ("read", &[0, 1, 2, 10, 11, 12, 13, 14, 15, 16, 17, 18, 20, 21, 22, 23, 24]),
     ("list", &[0, 1, 2, 10, 11, 12, 13, 14, 15, 16, 17, 18, 27]),
     ("overwrite", &[0, 1, 2, 10, 11, 12, 13, 14, 15, 16, 17, 18, 20, 21, 22, 23, 24]),
-    ("set_len", &[0, 1, 2, 10, 11, 12, 13, 14, 15, 16, 17, 18, 20, 21, 22, 23, 25, 26]),
+    ("set_len", &[0, 1, 2, 10, 11, 12, 13, 14, 15, 16, 17, 18, 20, 21, 22, 23, 26]),
 ];
+
+/// Changes of length over the cutoff, which are counted by themselves too (W-201).
+pub const CROSSINGS: [CallAnswers; 2] = [("set_len up", &[0, 26]), ("set_len down", &[0, 26])];
 
 /// Opening, and every call on an opened volume, which is not refused for its image.
 pub const OPENED_ANSWERS: &Answers = &[
@@ -94,7 +98,7 @@ pub const OPENED_ANSWERS: &Answers = &[
     ("opened read", &[0, 20, 21, 22, 23, 24]),
     ("opened list", &[0, 27]),
     ("opened overwrite", &[0, 20, 21, 22, 23, 24]),
-    ("opened set_len", &[0, 20, 21, 22, 23, 25, 26]),
+    ("opened set_len", &[0, 20, 21, 22, 23, 26]),
 ];
 
 /// What validating or opening answers where a call answers this: only numbers below 20 are about the image and the work

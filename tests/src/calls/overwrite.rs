@@ -1,7 +1,7 @@
 //! Overwriting: the stream's bytes from an offset on, and nothing else.
 
 use super::find::find_stream;
-use super::patch::Patch;
+use super::patch::{Patch, stream_bytes};
 use super::stream::Stream;
 use crate::volume::Volume;
 
@@ -11,13 +11,5 @@ pub fn overwrite(volume: &Volume, path: &[u16], offset: u64, bytes: &[u8]) -> Re
     if offset as u128 + bytes.len() as u128 > found.size as u128 {
         return Err(24);
     }
-    let mut rest = bytes;
-    let stream = Stream::of(volume, found.entry);
-    let pieces = stream.pieces(offset, offset + bytes.len() as u64);
-    let patch = pieces.map(|piece| {
-        let (part, behind) = rest.split_at(piece.len());
-        rest = behind;
-        Patch { at: piece.start, bytes: part.to_vec() }
-    });
-    Ok(patch.collect())
+    Ok(stream_bytes(&Stream::of(volume, found.entry), offset, bytes))
 }

@@ -1,5 +1,5 @@
-//! A list of calls on the longest image: a stream grown to all its free sectors, overwritten, read back and cut. Where the
-//! library's edits are linked, the volume is opened once before them and closed behind them.
+//! A list of calls on the longest image: a stream grown to all its free sectors, overwritten, read back and cut, and taken over the
+//! cutoff. Where the library's edits are linked, the volume is opened once before them and closed behind them.
 
 use super::large::MIB_64;
 use super::lists::List;
@@ -76,6 +76,12 @@ fn calls(g: Geometry, most: usize, r: &mut Random) -> Vec<(Call, u32)> {
         (length(most / 2 + 7), 0),
         (Call::Overwrite { path: names::of("Jets"), offset: 0, bytes: vec![b'!'; 70] }, 0),
         (length(4_100), 0),
+        // Below the cutoff and back: nine mini sectors are free.
+        (length(577), 26),
+        (length(576), 0),
+        (length(most + 1), 26),
+        (length(most), 0),
+        (length(1), 0),
         (length(most - g.sector + 1), 0),
         (read(0, most), 0),
         (Call::List { out: vec![b'#'; 100] }, 0),

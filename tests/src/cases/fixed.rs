@@ -1,8 +1,8 @@
-//! Cases on each side of the lines that the papers draw for lengths, the papers' own, and those of names, sizes, sectors and
-//! versions.
+//! Cases on each side of the lines that the papers draw for lengths, the papers' own, and those of names, sizes, sectors, the
+//! cutoff and versions.
 
 use super::large::{MIB_8, MIB_64};
-use super::{Case, folding, names, papers, sectors, sizes, versions};
+use super::{Case, cutoff, folding, names, papers, sectors, sizes, versions};
 use crate::geometry::{GREATEST_IMAGE, Geometry, V3, VERSIONS};
 use crate::images::Sample;
 use crate::images::plan::Plan;
@@ -24,6 +24,7 @@ pub fn run(then: &mut dyn FnMut(u64, Case)) {
         names::cases(g).into_iter().for_each(&mut next);
         sizes::cases(g).into_iter().for_each(&mut next);
         sectors::cases(g).into_iter().for_each(&mut next);
+        cutoff::cases(g).into_iter().for_each(&mut next);
     }
     folding::cases().into_iter().for_each(&mut next);
     versions::cases().into_iter().for_each(&mut next);

@@ -1,6 +1,7 @@
 //! The cases of a run. Each is made from the seed and its own number alone, so that it can be run again by itself.
 
 pub mod calls;
+pub mod cutoff;
 pub mod deep;
 pub mod filled;
 pub mod fixed;

@@ -19,9 +19,8 @@ pub fn cases(g: Geometry) -> Vec<Case> {
     vec![
         on(&site(g), list(whole), 0),
         on(&site(g), list(whole - 1), 27),
-        on(&one_stream(4_095, 20, 20), set_length(4_096), 25),
-        on(&one_stream(4_096, 20, 70), set_length(4_095), 25),
-        on(&one_stream(4_095, 20, 20), set_length(u64::MAX), 25),
+        on(&one_stream(4_095, need, 0), set_length(4_096), 0),
+        on(&one_stream(4_095, need - 1, 0), set_length(4_096), 26),
         on(&one_stream(0, need, 0), set_length(4_096), 0),
         on(&one_stream(0, need - 1, 0), set_length(4_096), 26),
         on(&one_stream(0, need, 0), set_length(4_097), 26),

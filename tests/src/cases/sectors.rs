@@ -75,16 +75,16 @@ fn pieces(g: Geometry, cases: &mut Vec<Case>) {
     }
 }
 
-/// New lengths around each end of a sector. 10,000 bytes take 20 of them or 3, and 3 are free.
+/// New lengths around each end of a sector. 10,000 bytes take 20 of them or 3, and 3 are free. So are 3 mini sectors, too few for
+/// 4,095 bytes.
 fn lengths(g: Geometry, cases: &mut Vec<Case>) {
     let sample = site(g, 0);
     let most = (if g == V4 { 3 } else { 20 } + 3) * g.sector as u64;
     for line in (4_096..=most).step_by(g.sector) {
         for length in [line - 1, line, line + 1] {
             let answer = match length {
-                0..4_096 => 25,
-                _ if length > most => 26,
-                _ => 0,
+                4_096.. if length <= most => 0,
+                _ => 26,
             };
             cases.push(with_rows(&sample, Call::SetLength { path: names::of("Site/log"), length }, answer));
         }
@@ -127,7 +127,8 @@ fn mini_tables(g: Geometry, cases: &mut Vec<Case>) {
         let most = (64 * count as u64).min(4_095);
         cases.push(with_rows(&sample, Call::Validate, 0));
         cases.push(with_rows(&sample, set_length(most), 0));
-        cases.push(with_rows(&sample, set_length(most + 1), if most < 4_095 { 26 } else { 25 }));
+        // 4,096 bytes need the one free sector in version 4, and 8 in version 3.
+        cases.push(with_rows(&sample, set_length(most + 1), if most == 4_095 && g == V4 { 0 } else { 26 }));
         // The same sectors with another number of mini sectors: right as far as they hold them and there are cells.
         for other in [count - 1, count + 1, count + minis, count.saturating_sub(minis)] {
             let mut sample = sample.clone();

@@ -81,15 +81,17 @@ fn accepted(sample: &Sample, upper: u32, cases: &mut Vec<Case>) {
     }
     // The most that log and notes may get: with 9 more sectors than the 10 or 2 of 5,000 bytes, and with 9.
     let (log, notes) = if sample.layout.geometry == V3 { (9_728, 4_608) } else { (45_056, 36_864) };
-    let large = [(5_000, 0), (5_001, 0), (4_999, 0), (4_096, 0), (log, 0), (log + 1, 26), (4_095, 25), (1, 25), (0, 0)];
-    let small = [(70, 0), (71, 0), (69, 0), (1, 0), (320, 0), (321, 26), (4_095, 26), (4_096, 25), (0, 0)];
+    // Over the cutoff log may take 3 mini sectors, and Jets 9 sectors: their own do not count.
+    let large = [(5_000, 0), (5_001, 0), (4_999, 0), (4_096, 0), (log, 0), (log + 1, 26), (0, 0)];
+    let small = [(70, 0), (71, 0), (69, 0), (1, 0), (320, 0), (321, 26), (4_095, 26), (0, 0)];
     let empty = [(0, 0), (1, 0), (192, 0), (193, 26), (4_095, 26), (4_096, 0), (notes, 0), (notes + 1, 26)];
+    let (down, up) = ([(1, 0), (192, 0), (193, 26), (4_095, 26)], [(4_096, 0), (notes, 0), (notes + 1, 26)]);
     let far = |size: u64| [(upper as u64) << 32, ((upper as u64) << 32) + size, (1 << 32) + size, u64::MAX];
-    for (path, size, lengths, too_far) in
-        [("Site/log", 5_000, &large[..], 26), ("Site/Jets", 70, &small, 25), ("Site/notes", 0, &empty, 26)]
+    for (path, size, within, across) in
+        [("Site/log", 5_000, &large[..], &down[..]), ("Site/Jets", 70, &small, &up), ("Site/notes", 0, &empty, &[])]
     {
-        lengths.iter().for_each(|&(length, answer)| next(set_length(path, length), answer));
-        far(size).into_iter().for_each(|length| next(set_length(path, length), too_far));
+        within.iter().chain(across).for_each(|&(length, answer)| next(set_length(path, length), answer));
+        far(size).into_iter().for_each(|length| next(set_length(path, length), 26));
     }
 }
 

@@ -73,7 +73,7 @@ pub fn write_len(size: u64, offset: u64, r: &mut Random) -> usize {
 /// A new length for a stream of this one.
 pub fn length(model: &Model, size: u64, r: &mut Random) -> u64 {
     let sector = model.geometry.sector as u64;
-    match r.below(16) {
+    match r.below(22) {
         0 => size,
         1 => near(size, r),
         2..4 => 0,
@@ -84,7 +84,22 @@ pub fn length(model: &Model, size: u64, r: &mut Random) -> u64 {
         12 => r.below(4_096) as u64,
         13 => r.between(4_096, 12_000 + 2 * sector as u32) as u64,
         14 => size / 2,
-        _ => far(size, r),
+        15 => far(size, r),
+        _ => across(model, size, r),
+    }
+}
+
+/// On the other side of the cutoff: at the line, close to it, any, or close to the most that there is room for.
+fn across(model: &Model, size: u64, r: &mut Random) -> u64 {
+    let (sector, free) = (model.geometry.sector as u64, model.free());
+    if size < CUTOFF {
+        let any = CUTOFF + r.below(4 * sector as u32) as u64;
+        let line = r.pick(&[CUTOFF, CUTOFF, CUTOFF + sector, any, any, sector * free.sectors, sector * free.sectors]);
+        near(line, r).max(CUTOFF)
+    } else {
+        let any = r.below(CUTOFF as u32) as u64;
+        let line = r.pick(&[1, 64, CUTOFF - 64, CUTOFF, any, any, 64 * free.minis, 64 * free.minis]);
+        near(line, r).clamp(1, CUTOFF - 1)
     }
 }
 

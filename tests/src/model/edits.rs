@@ -1,6 +1,7 @@
 //! Edits of the rows: accepted or refused by the rows alone.
 
 use super::Model;
+use crate::calls::Call;
 use crate::number::CUTOFF;
 
 impl Model {
@@ -15,18 +16,23 @@ impl Model {
         Ok([0; 3])
     }
 
-    /// Cuts the row at the new length, or adds zero bytes up to it.
+    /// Cuts the row at the new length, or adds zero bytes up to it. Its need may move from the one kind of units to the other.
     pub fn set_length(&mut self, path: &[u16], new: u64) -> Result<[u64; 3], u32> {
         let old = self.stream(path)?.len() as u64;
-        if old != 0 && new != 0 && (old < CUTOFF) != (new < CUTOFF) {
-            return Err(25);
-        }
         let (before, after, free) = (self.need(old), self.need(new), self.free());
         if after.sectors > before.sectors + free.sectors || after.minis > before.minis + free.minis {
             return Err(26);
         }
         self.stream_mut(path)?.resize(new as usize, 0);
         Ok([0; 3])
+    }
+
+    /// Whether the call takes a stream from below the cutoff over it, or back; None if it does neither. 0 is on both sides.
+    pub fn crosses_upward(&self, call: &Call) -> Option<bool> {
+        let Call::SetLength { path, length: new } = call else { return None };
+        let old = self.stream(path).ok()?.len() as u64;
+        let crosses = old > 0 && *new > 0 && (old < CUTOFF) != (*new < CUTOFF);
+        crosses.then_some(old < CUTOFF)
     }
 
     fn stream_mut(&mut self, path: &[u16]) -> Result<&mut Vec<u8>, u32> {
