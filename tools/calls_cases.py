@@ -6,6 +6,7 @@ plan of the image and from the edits made, and images after edits from `edits.py
 `groups.py` says how a call is laid out and what is printed of it."""
 import os
 import struct
+import cutoff_cases
 import edit_cases
 import letter_cases
 import size_cases
@@ -110,7 +111,7 @@ broken += [(image(3, [0], [], [1], [root(1), entry("!", 2)]), 14), (image(3, [0]
 # a storage and a blank entry that have a byte in the upper half of their size (W-205), where the root and a stream may have it
 above = image(3, [0], [], [1], [root(1, size=1 << 32), entry("s", 2, right=2, size=1 << 63), entry("Site", 1)])
 broken += [(byte(above, 1024 + 128 * i + at, value), 14) for i in (2, 3) for at, value in [(124, 1), (127, 0x80)]]
-groups = [g, s] + edit_cases.groups() + letter_cases.groups() + size_cases.groups() + version4_cases.groups()
+groups = [g, s] + edit_cases.groups() + letter_cases.groups() + size_cases.groups() + version4_cases.groups() + cutoff_cases.groups()
 for img, number in broken + version4_images.REFUSED:
     b = Group(img=img)
     b.call(VALIDATE, number)
@@ -134,7 +135,7 @@ for x in groups:
     for c, line in zip(x.calls, x.lines):
         number, of_kind = int(line.split()[0]), counts[c[0]]
         of_kind[number] = of_kind.get(number, 0) + 1
-for kind, numbers in [(VALIDATE, every), (FIND, paths), (READ, paths | {23, 24}), (LIST, every | {27}), (OVERWRITE, paths | {23, 24}), (SET_LENGTH, paths | {23, 25, 26})]:
+for kind, numbers in [(VALIDATE, every), (FIND, paths), (READ, paths | {23, 24}), (LIST, every | {27}), (OVERWRITE, paths | {23, 24}), (SET_LENGTH, paths | {23, 26})]:
     assert set(counts[kind]) == numbers, (kind, counts[kind])
 
 # ---- a kind that there is not: the program says so, and makes no other call

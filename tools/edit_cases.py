@@ -24,7 +24,8 @@ def room_for_a_large_stream(version, fat):
     enough.lists(100)
     enough.resize("zero", 4097, 26)
     enough.resize("zero", 4096, 0)
-    enough.resize("zero", 1, 25)
+    # there is no mini stream
+    enough.resize("zero", 1, 26)
     enough.resize("zero", 0, 0)
     enough.shows("zero")
     enough.lists(100)
@@ -43,13 +44,20 @@ def room_for_a_large_stream(version, fat):
 
 
 def over_the_cutoff(version, fat):
-    """4095 to 4096 and back, with room for either, and two large streams that take what the other leaves."""
+    """4095 to 4096 and back, with room for either, and two large streams that take what the other leaves. `cutoff_cases.py` has more of the former."""
     tree = {"edge": text(5, 4095), "whole": text(13, 4096), "zero": b""}
     g = Group(Plan(tree, free=version.need(4096), free_minis=64, waste=WASTE, fat=fat, g=version))
-    for path, lengths in [("edge", [4096, 4097, 8192] + absurd), ("whole", [4095, 4094, 4032, 65, 64, 63, 1])]:
-        for length in lengths:
-            g.resize(path, length, 25)
-        g.shows(path)
+    for length in [4097, 8192] + absurd:
+        g.resize("edge", length, 26)
+    for path, length in [("edge", 4096), ("whole", 4095), ("edge", 4095), ("whole", 4096)]:
+        g.resize(path, length, 0)
+        g.shows("edge")
+        g.shows("whole")
+    for length in [4095, 4094, 4032, 65, 64, 63, 1]:
+        g.resize("whole", length, 0)
+        g.shows("whole")
+        g.resize("whole", 4096, 0)
+        g.overwrite("whole", 0, text(13, 4096), 0)
     for length in [8193] + absurd:
         g.resize("whole", length, 26)
     g.lists(100)
@@ -98,7 +106,7 @@ def room_for_small_streams(version):
     for length in absurd:
         g.resize("a", length, 26)
     for path, length, number in [
-        ("a", 4095, 0), ("b", 1, 26), ("b", 64, 26), ("b", 65, 26), ("b", 4096, 26), ("a", 4096, 25),
+        ("a", 4095, 0), ("b", 1, 26), ("b", 64, 26), ("b", 65, 26), ("b", 4096, 26), ("a", 4096, 26),
         # one free: 64 fits, 65 does not
         ("a", 4032, 0), ("b", 65, 26), ("b", 64, 0), ("c", 64, 26), ("b", 65, 26), ("a", 4033, 26),
         # 3969 releases none, 3968 one
@@ -227,8 +235,11 @@ def refusals(g):
     g.resize("log", 5100, 0, work=need)
     g.overwrite("log", 5098, b"xy", 0, work=need)
     g.overwrite("log", 5099, b"xy", 24, work=need)
-    g.resize("log", 4095, 25, work=need)
+    g.resize("log", 4095, 26, work=need)
     g.resize("log", most, 26, work=need)
+    g.resize("log", 100, 0, work=need)
+    g.shows("log")
+    g.resize("log", 5100, 0, work=need)
     g.shows("log")
     g.lists(200)
     g.call(VALIDATE, 0)

@@ -87,22 +87,36 @@ class Edited:
         old = self.size(entry)
         if new == old:
             return 0
-        if 0 < min(old, new) < 4096 <= max(old, new):
-            return 25
         if any(self.need(kind, new) - self.need(kind, old) > len(self.free(kind)) for kind in (SECTORS, MINIS)):
             return 26
         kind = MINIS if max(old, new) < 4096 else SECTORS
         chain = self.stream(entry)[1]
-        if new < old:
+        at = self.entry_at(entry)
+        if 0 < min(old, new) < 4096 <= max(old, new):
+            self.put("<I", at + 116, self.move(entry, new))
+        elif new < old:
             self.shorten(kind, chain, self.need(kind, new))
         else:
             self.lengthen(kind, chain, self.need(kind, new), old)
-        at = self.entry_at(entry)
         if 0 in (old, new):
             self.put("<I", at + 116, chain[0] if chain else END)
         # all eight bytes, the upper ones zero
         self.put("<Q", at + 120, new)
         return 0
+
+    def move(self, entry, new):
+        """Over the cutoff (02, W-201): copies the bytes that are kept into the lowest free units of the other kind, with zeros up to the end of the last one, and
+        releases the old chain. Gives the new one's first unit."""
+        (kind, chain), kept = self.stream(entry), self.contents(entry)[:new]
+        other = SECTORS if kind == MINIS else MINIS
+        taken = self.free(other)[:self.need(other, new)]
+        for i, b in enumerate(kept.ljust(len(taken) * self.unit_bytes[other], b"\0")):
+            self.bytes[self.byte_at(other, taken, i)] = b
+        for unit, after in zip(taken, taken[1:] + [END]):
+            self.put("<I", self.cell_at(other, unit), after)
+        for unit in chain:
+            self.put("<I", self.cell_at(kind, unit), FREE)
+        return taken[0]
 
     def shorten(self, kind, chain, count):
         """Cuts a chain to so many units: the last cell is end of chain, the released ones are free, no data byte changes."""

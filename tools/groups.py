@@ -76,7 +76,7 @@ class Group:
     def list(self, room, number, **more):
         self.call(LIST, number, room=room, **more)
 
-    # ---- edits: the number is what 01 gives for the case, and what the rules for 24 to 26 give must be the same
+    # ---- edits: the number is what 01 gives for the case, and what the rules for 24 and 26 give must be the same
 
     def overwrite(self, path, place, given, number, spelled=None, **more):
         spelled = spelled or path
@@ -89,7 +89,7 @@ class Group:
 
     def resize(self, path, length, number, spelled=None, **more):
         spelled = spelled or path
-        if number in (0, 25, 26):
+        if number in (0, 26):
             assert number == self.edited.set_length(self.plan.entries[spelled], length), (path, length)
         if number == 0:
             row = self.rows[spelled]

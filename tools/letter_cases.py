@@ -30,7 +30,7 @@ def either_case():
             g.overwrite(other, 8, b"!", 0, path)
             g.overwrite(other, 200, b"!", 24, path)
             g.resize(other, 64 + i, 0, path)
-            g.resize(other, 4096, 25, path)
+            g.resize(other, 4096, 26, path)
             g.reads(path, 0, 100)
             g.find(other + "/" + other, 22)
             g.read(other + other, 0, 21)

@@ -38,7 +38,7 @@ def questions(g):
             g.read(path, place, 24)
             g.overwrite(path, place, b"", 24)
         for length in far:
-            g.resize(path, length, 25 if 0 < size < 4096 else 26)
+            g.resize(path, length, 26)
     for path, number in [("", 23), ("gone", 21), ("a//b", 20)]:
         g.read(path, 0, number)
         g.overwrite(path, 0, b"", number)
@@ -59,13 +59,13 @@ def every_kind():
         g.resize(path, len(g.rows[path]), 0)
         g.shows(path)
     left(g)
-    # another length: within the last unit, a unit more, and one less; from 0 and to 0. Refused first, for room or at the cutoff
+    # another length: within the last unit, a unit more, and one less; over the cutoff and back; from 0 and to 0. Refused first, for room
     now = {}
-    for path, refused, lengths in [("Site/log", [(9729, 26), (4095, 25), (1, 25)], [5001, 5121, 4096, 0, 4608, 5000]),
-                                   ("zero", [(4609, 26), (257, 26), (4095, 26)], [1, 0, 4096, 0]),
-                                   ("Site/Jets", [(385, 26), (4096, 25)], [69, 320, 64, 70]), ("edge", [(449, 26), (4096, 25)], [129, 0, 130])]:
-        for length, number in refused:
-            g.resize(path, length, number)
+    for path, refused, lengths in [("Site/log", [9729, 4095, 257], [5001, 256, 5121, 4096, 1, 0, 4608, 5000]),
+                                   ("zero", [4609, 257, 4095], [1, 0, 4096, 0]),
+                                   ("Site/Jets", [385, 4609], [4096, 69, 320, 4608, 64, 70]), ("edge", [449, 4609], [129, 4097, 0, 130])]:
+        for length in refused:
+            g.resize(path, length, 26)
         left(g, **now)
         for length in lengths:
             g.resize(path, length, 0)

@@ -83,8 +83,10 @@ def edits(g):
         g.shows(path)
     for path, length, number in [
         # one free sector: a second one for `whole`, a third one for `log`, and one for `empty`
-        ("empty", 4097, 26), ("whole", 8193, 26), ("Site/log", 12289, 26), ("whole", 4095, 25), ("Site/log", 1, 25), ("edge", 4096, 25),
-        ("Site/Jets", most, 25),
+        ("empty", 4097, 26), ("whole", 8193, 26), ("Site/log", 12289, 26), ("whole", 4095, 26), ("Site/log", 193, 26), ("edge", 4097, 26),
+        ("Site/Jets", most, 26),
+        # over the cutoff and back, each into what another one left
+        ("edge", 4096, 0), ("whole", 4095, 0), ("Site/log", 192, 0), ("edge", 1, 26), ("Site/log", 5000, 0), ("whole", 4096, 0), ("edge", 4095, 0),
         ("empty", 4096, 0), ("whole", 4097, 26), ("Site/log", 8193, 26), ("Site/log", 8192, 0), ("Site/log", 4097, 0), ("whole", 4097, 26),
         ("Site/log", 4096, 0),
         ("whole", 4097, 0), ("whole", 8192, 0), ("whole", 8193, 26), ("empty", 0, 0), ("whole", 12288, 0), ("whole", 12289, 26), ("empty", 4096, 26),
@@ -114,7 +116,10 @@ def two_directory_sectors():
     for i in [1, 30, 31, 32, 33, 40]:
         path = "n%02d" % i
         g.resize(path, 193, 26)
-        g.resize(path, 4096, 25)
+        g.resize(path, 4097, 26)
+        g.resize(path, 4096, 0)
+        g.shows(path)
+        g.resize(path, 193, 26)
         g.resize(path, 192, 0)
         g.overwrite(path, 60, text(i + 50, 132), 0)
         g.shows(path)
