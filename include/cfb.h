@@ -47,7 +47,6 @@ extern "C" {
 #define CFB_STREAM_ON_THE_WAY 22u  /* a stream stands where a storage is needed */
 #define CFB_NOT_A_STREAM 23u       /* the path ends at a storage or the root, and a stream is needed */
 #define CFB_BEYOND 24u             /* a read would start, or a write end, behind the stream's end */
-#define CFB_CROSSES 25u            /* the length would go from 1..4095 to 4096 or more, or back */
 #define CFB_TOO_FEW_FREE 26u       /* there are too few free sectors, or mini sectors */
 #define CFB_OUT_TOO_SHORT 27u      /* the listing is longer than the out buffer */
 
@@ -85,9 +84,11 @@ uint32_t cfb_overwrite(uint8_t *image, size_t image_len, uint32_t *work, size_t 
                        size_t path_len, uint64_t offset, const uint8_t *bytes, size_t bytes_len);
 
 /* Gives a stream another length. A shorter one keeps its first bytes, a longer one has zero bytes behind the old ones. The
- * lowest free units are taken, and what a stream no longer needs becomes free; other streams stay as they are. The upper half
- * of the size becomes zero. The same length again changes nothing, also not that half. The image itself never grows. Answers
- * 20 to 23, 25 and 26. */
+ * lowest free units are taken, and what a stream no longer needs becomes free; other streams stay as they are. A stream of
+ * 4,096 bytes and more lies in sectors, a smaller one in mini sectors of 64 bytes: a length on the other side of that line
+ * takes all its units anew, and only free ones of the new kind are room for it. So it may be refused (26) though it is
+ * shorter. The upper half of the size becomes zero. The same length again changes nothing, also not that half. The image
+ * itself never grows. Answers 20 to 23, and 26. */
 uint32_t cfb_set_len(uint8_t *image, size_t image_len, uint32_t *work, size_t work_len, const uint16_t *path, size_t path_len,
                      uint64_t new_len);
 

@@ -48,7 +48,7 @@ uint32_t cfb_opened_overwrite(uint8_t *image, size_t image_len, uint32_t *work, 
                               const uint16_t *path, size_t path_len, uint64_t offset, const uint8_t *bytes,
                               size_t bytes_len);
 
-/* cfb_set_len. Answers 20 to 23, 25 and 26. */
+/* cfb_set_len. Answers 20 to 23, and 26. */
 uint32_t cfb_opened_set_len(uint8_t *image, size_t image_len, uint32_t *work, size_t work_len, const cfb_volume *volume,
                             const uint16_t *path, size_t path_len, uint64_t new_len);
 

@@ -94,7 +94,11 @@ pub fn overwrite(image: &mut [u8], work: &mut [u32], path: &[u16], offset: u64, 
 /// becomes free. The upper half of the size in the file becomes zero. The same length again changes nothing, also not that
 /// half.
 ///
-/// Refusals: 20 to 23, 25 and 26.
+/// A stream of 4,096 bytes and more lies in sectors, a smaller one in mini sectors of 64 bytes. A length on the other side
+/// of that line takes all its units anew, and only free ones of the new kind are room for it, so that a shorter length may
+/// be refused for room too.
+///
+/// Refusals: 20 to 23, and 26.
 pub fn set_len(image: &mut [u8], work: &mut [u32], path: &[u16], new_len: u64) -> Result<(), Refusal> {
     answered(calls::set_len(image, work, path, new_len))
 }

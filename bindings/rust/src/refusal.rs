@@ -48,7 +48,6 @@ refusals! {
     22 StreamOnTheWay "a stream stands where a storage is needed"
     23 NotAStream "the path ends at a storage or the root, and a stream is needed"
     24 Beyond "a read would start, or a write end, behind the stream's end"
-    25 Crosses "the length would go from 1..4095 to 4096 or more, or back"
     26 TooFewFree "there are too few free sectors or mini sectors"
     27 OutTooShort "the listing is longer than the out buffer"
 }

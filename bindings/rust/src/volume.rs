@@ -96,7 +96,7 @@ impl<'a> Volume<'a> {
 
     /// Gives a stream another length, as [`set_len`](crate::set_len) does.
     ///
-    /// Refusals: 20 to 23, 25 and 26.
+    /// Refusals: 20 to 23, and 26.
     pub fn set_len(&mut self, path: &[u16], new_len: u64) -> Result<(), Refusal> {
         self.0.set_len(path, new_len)
     }

@@ -1,7 +1,7 @@
 //! What overwrites and changes of length do.
 
 use super::{content, jets, log, site};
-use gyomrelas::{find, overwrite, path, set_len, validate};
+use gyomrelas::{find, overwrite, path, set_len, validate, Refusal};
 
 #[test]
 fn bytes_that_are_written_are_read_back() {
@@ -57,11 +57,35 @@ fn sectors_that_one_stream_frees_are_there_for_another() {
     let (mut image, mut work) = site();
     assert_eq!(set_len(&mut image, &mut work, &path("Site/log"), 0), Ok(()));
     assert_eq!(set_len(&mut image, &mut work, &path("Site/Jets"), 0), Ok(()));
-    // by way of 0 a stream passes the cutoff
     assert_eq!(set_len(&mut image, &mut work, &path("Site/Jets"), 4096), Ok(()));
     assert_eq!(set_len(&mut image, &mut work, &path("Site/log"), 128), Ok(()));
     assert_eq!(content(&image, "Site/Jets"), [0; 4096]);
     assert_eq!(content(&image, "Site/log"), [0; 128]);
+    assert_eq!(validate(&image, &mut work), Ok(()));
+}
+
+#[test]
+fn a_stream_keeps_its_bytes_over_the_cutoff_and_back() {
+    let (mut image, mut work) = site();
+    let name = path("Site/Jets");
+    // ten sectors become free, and two mini sectors are there for either stream
+    assert_eq!(set_len(&mut image, &mut work, &path("Site/log"), 0), Ok(()));
+    assert_eq!(set_len(&mut image, &mut work, &name, 5121), Err(Refusal::TooFewFree));
+    assert_eq!(set_len(&mut image, &mut work, &name, 4096), Ok(()));
+    assert_eq!(content(&image, "Site/Jets"), [jets(), vec![0; 4026]].concat());
+    assert_eq!(find(&image, &mut work, &name).map(|entry| entry.size), Ok(4096));
+    assert_eq!(overwrite(&mut image, &mut work, &name, 66, b"kept, and not kept"), Ok(()));
+
+    // shorter, and still refused for room
+    assert_eq!(set_len(&mut image, &mut work, &name, 129), Err(Refusal::TooFewFree));
+    assert_eq!(set_len(&mut image, &mut work, &name, 70), Ok(()));
+    assert_eq!(content(&image, "Site/Jets"), [&jets()[..66], b"kept"].concat());
+    assert_eq!(set_len(&mut image, &mut work, &name, 128), Ok(()));
+    assert_eq!(content(&image, "Site/Jets"), [&jets()[..66], b"kept", &[0; 58]].concat());
+
+    // the sectors that it gave up are there for the other stream, with nothing left in them
+    assert_eq!(set_len(&mut image, &mut work, &path("Site/log"), 5120), Ok(()));
+    assert_eq!(content(&image, "Site/log"), [0; 5120]);
     assert_eq!(validate(&image, &mut work), Ok(()));
 }
 

@@ -4,7 +4,7 @@ use std::collections::BTreeSet;
 use std::thread;
 
 use super::refusals::broken;
-use super::{sample, site};
+use super::{content, sample, site};
 use gyomrelas::{find, list, overwrite, path, read, set_len, validate, work_need, ReadOnlyVolume, Refusal, Volume};
 
 const SAMPLES: [&str; 3] = ["site.cfb", "nested.cfb", "site4.cfb"];
@@ -101,7 +101,7 @@ fn edits_leave_what_plain_ones_leave() {
         let mut volume = Volume::open(&mut image, &mut work).expect("valid");
         // one list of edits on one image, with queries in between
         for (round, number) in NUMBERS.into_iter().cycle().take(3 * NUMBERS.len()).enumerate() {
-            // by way of 0 a stream passes the cutoff
+            // with the units that it gives up, others pass the cutoff
             let new_len = if round % 4 == 3 { 0 } else { number };
             let bytes = vec![round as u8; 7 * round];
             for path in PATHS.map(path) {
@@ -126,7 +126,36 @@ fn edits_leave_what_plain_ones_leave() {
         assert_eq!(validate(&image, &mut work), Ok(()));
     }
     // every answer that an edit has was compared
-    assert!(answers.into_iter().eq([None].into_iter().chain((20..=26).map(Some))));
+    assert!(answers.into_iter().eq([None].into_iter().chain([20, 21, 22, 23, 24, 26].map(Some))));
+}
+
+#[test]
+fn a_stream_passes_the_cutoff_as_it_does_by_plain_calls() {
+    for name in ["site.cfb", "site4.cfb"] {
+        let (mut image, mut work) = sample(name);
+        let (mut plain, mut plain_work) = sample(name);
+        let mut volume = Volume::open(&mut image, &mut work).expect("valid");
+        let (log, jets) = (path("Site/log"), path("Site/Jets"));
+        for (path, new_len, answer) in [
+            (&jets, 4096, Err(Refusal::TooFewFree)),
+            (&log, 64, Err(Refusal::TooFewFree)),
+            (&jets, 64, Ok(())),
+            (&log, 64, Ok(())),
+            (&jets, 4096, Ok(())),
+            (&jets, 65, Err(Refusal::TooFewFree)),
+            (&jets, 1, Ok(())),
+            (&log, 5000, Ok(())),
+            (&jets, 70, Ok(())),
+        ] {
+            assert_eq!(volume.set_len(path, new_len), answer, "{name} {new_len}");
+            assert_eq!(set_len(&mut plain, &mut plain_work, path, new_len), answer);
+            assert_eq!(volume.image(), plain);
+        }
+        volume.close();
+        assert_eq!(content(&image, "Site/log"), [&super::log()[..64], &[0; 4936]].concat());
+        assert_eq!(content(&image, "Site/Jets"), [&super::jets()[..1], &[0; 69]].concat());
+        assert_closed(&image, &work);
+    }
 }
 
 #[test]

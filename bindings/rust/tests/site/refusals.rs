@@ -14,9 +14,9 @@ pub const JETS: usize = ROOT + 3 * 128;
 #[test]
 fn numbers_and_refusals_belong_together() {
     let numbers: Vec<u32> = Refusal::ALL.iter().map(|refusal| refusal.number()).collect();
-    assert_eq!(numbers, [1, 2, 10, 11, 12, 13, 14, 15, 16, 17, 18, 20, 21, 22, 23, 24, 25, 26, 27]);
+    assert_eq!(numbers, [1, 2, 10, 11, 12, 13, 14, 15, 16, 17, 18, 20, 21, 22, 23, 24, 26, 27]);
     assert!(Refusal::ALL.iter().all(|&refusal| Refusal::from_number(refusal.number()) == Some(refusal)));
-    assert!([0, 3, 9, 19, 28, u32::MAX].iter().all(|&number| Refusal::from_number(number).is_none()));
+    assert!([0, 3, 9, 19, 25, 28, u32::MAX].iter().all(|&number| Refusal::from_number(number).is_none()));
     assert_eq!(Refusal::TooFewFree.to_string(), "refused 26: there are too few free sectors or mini sectors");
 }
 
@@ -164,11 +164,14 @@ fn a_change_of_length_that_is_refused_changes_nothing() {
         ("Site/Log ", 0, Refusal::NotFound),
         ("Site/Jets/x", 0, Refusal::StreamOnTheWay),
         ("", 0, Refusal::NotAStream),
-        ("Site/Jets", 4096, Refusal::Crosses),
-        ("Site/log", 4095, Refusal::Crosses),
         ("Site/log", 5121, Refusal::TooFewFree),
         ("Site/log", u64::MAX, Refusal::TooFewFree),
         ("Site/Jets", 129, Refusal::TooFewFree),
+        // what a stream would give up is no room for it on the other side of the cutoff, not for a shorter length either
+        ("Site/Jets", 4096, Refusal::TooFewFree),
+        ("Site/Jets", u64::MAX, Refusal::TooFewFree),
+        ("Site/log", 4095, Refusal::TooFewFree),
+        ("Site/log", 1, Refusal::TooFewFree),
     ] {
         assert_eq!(set_len(&mut image, &mut work, &path(name), length), Err(refusal), "{name} {length}");
         assert_eq!(image, before);

@@ -51,10 +51,10 @@ fn only_another_length_clears_the_upper_half() {
             ("Site/log", 5000, Ok(())),
             ("Site/log", 5121, Err(Refusal::TooFewFree)),
             ("Site/log", whole(5000), Err(Refusal::TooFewFree)),
-            ("Site/log", 4095, Err(Refusal::Crosses)),
+            ("Site/log", 4095, Err(Refusal::TooFewFree)),
             ("Site/Jets", 70, Ok(())),
             ("Site/Jets", 129, Err(Refusal::TooFewFree)),
-            ("Site/Jets", whole(70), Err(Refusal::Crosses)),
+            ("Site/Jets", whole(70), Err(Refusal::TooFewFree)),
         ] {
             assert_eq!(set_len(&mut image, &mut work, &path(name), length), answer, "{name} {length}");
             assert_eq!(image, before);
@@ -69,6 +69,18 @@ fn only_another_length_clears_the_upper_half() {
         assert_eq!([ROOT, LOG, JETS].map(|entry| upper_half(&image, entry)), [upper, 0, 0]);
         assert_eq!(content(&image, "Site/log"), [&log()[..4990], b"0123456789\0"].concat());
     }
+}
+
+#[test]
+fn a_length_over_the_cutoff_clears_it_too() {
+    let (mut image, mut work) = site_with(u32::MAX);
+    assert_eq!(set_len(&mut image, &mut work, &path("Site/Jets"), 0), Ok(()));
+    assert_eq!(set_len(&mut image, &mut work, &path("Site/log"), 128), Ok(()));
+    assert_eq!([ROOT, LOG, JETS].map(|entry| upper_half(&image, entry)), [u32::MAX, 0, 0]);
+    image[LOG + UPPER..][..4].fill(0xCD);
+    assert_eq!(set_len(&mut image, &mut work, &path("Site/log"), 5000), Ok(()));
+    assert_eq!(upper_half(&image, LOG), 0);
+    assert_eq!(content(&image, "Site/log"), [&log()[..128], &[0; 4872]].concat());
 }
 
 #[test]

@@ -67,6 +67,23 @@ fn bytes_4096_need_one_sector() {
 }
 
 #[test]
+fn one_sector_is_enough_over_the_cutoff() {
+    let (mut image, mut work) = site4();
+    let (name, other) = (path("Site/log"), path("Site/Jets"));
+    assert_eq!(set_len(&mut image, &mut work, &other, 4096), Err(Refusal::TooFewFree));
+    assert_eq!(set_len(&mut image, &mut work, &name, 4096), Ok(()));
+    assert_eq!(set_len(&mut image, &mut work, &other, 4097), Err(Refusal::TooFewFree));
+    assert_eq!(set_len(&mut image, &mut work, &other, 4096), Ok(()));
+    assert_eq!(content(&image, "Site/Jets"), [jets(), vec![0; 4026]].concat());
+    assert_eq!(set_len(&mut image, &mut work, &name, 129), Err(Refusal::TooFewFree));
+    assert_eq!(set_len(&mut image, &mut work, &name, 128), Ok(()));
+    assert_eq!(content(&image, "Site/log"), log()[..128]);
+    assert_eq!(set_len(&mut image, &mut work, &other, 8192), Ok(()));
+    assert_eq!(content(&image, "Site/Jets"), [jets(), vec![0; 8122]].concat());
+    assert_eq!(validate(&image, &mut work), Ok(()));
+}
+
+#[test]
 fn an_opened_volume_goes_by_the_version() {
     let (mut image, mut work) = site4();
     let mut volume = Volume::open(&mut image, &mut work).expect("valid");
