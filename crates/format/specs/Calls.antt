@@ -5,6 +5,7 @@ pub mod Read
 pub mod Overwrite
 pub mod SetLength
 pub mod Move
+pub mod Search
 pub mod Text
 pub mod Listing
 pub mod Call

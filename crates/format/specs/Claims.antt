@@ -1,3 +1,4 @@
 -- What the definitions are claimed to give, beside demand 3.
 pub mod Folding
 pub mod FoldingPaths
+pub mod Search

@@ -12,5 +12,6 @@ pub mod Reads
 pub mod SmallLengths
 pub mod LargeLengths
 pub mod Crossings
+pub mod Searches
 pub mod Listings
 pub mod Histories

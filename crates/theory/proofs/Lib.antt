@@ -18,6 +18,8 @@ pub mod OwnerMarks
 pub mod Relinks
 pub mod Cuts
 pub mod FreeUnits
+pub mod Searches
+pub mod SearchTurns
 pub mod Owned
 pub mod Contents
 pub mod Fits
