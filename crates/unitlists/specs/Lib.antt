@@ -1,2 +1,2 @@
 -- What is said of lists of units, beside `format`.
-pub mod Free
+pub mod Searches
