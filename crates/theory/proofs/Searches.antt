@@ -2,18 +2,29 @@
 use Prim.Native.Nat.{ℕ, zero, suc, _+_, _-_, _≤_, _<_}
 use mathlib.Core.Path.{_≡_, refl, sym, _∙_, ap}
 use mathlib.Core.Bool.{Bool, true, false, cond}
-use mathlib.Core.List.{[], _∷_}
+use mathlib.Core.List.{List, [], _∷_, _++_, append-nil}
 use native.Mathlib.Omega.{arith}
-use native.Mathlib.Decide.{ℕ-discrete, decLt}
+use native.Mathlib.Decide.{ℕ-discrete, decLe, decLt}
 use lib.Dec.{ltb}
-use lib.ListN.{take}
+use lib.ListN.{length, take}
+use lib.Seq.{take-all, take-append-le, take-append-add}
 use borrow.Author.Tests.{le-leb, lt-leb, lt-ltb, le-ltb}
 use Rattle.format.specs.Basics.Lists.{pickBelow, sum}
 use Rattle.format.specs.Layout.Chain.{isFree}
 use Rattle.format.specs.Layout.Space.{Space, freeUnits}
-use Rattle.format.specs.Calls.Search.{freeFrom, lowestFree, search, searches, growthSearches, unitsFound, cellsLooked}
+use Rattle.format.specs.Calls.Search.{freeFrom, lowestFree, search, searches, growthSearches, unitsFound, cellsLooked, searchesFor}
 use Rattle.format.specs.Claims.Search.{FindLowest, LookAtMost}
 use Rattle.theory.proofs.Picks.{pick-same}
+
+-- the first n of two lists
+take-two : (xs ys : List ℕ) (n : ℕ) → take n (xs ++ ys) ≡ take n xs ++ take (n - length xs) ys
+take-two xs ys n =
+    elim (decLe n (length xs)) [
+      | yes h ↦ let z : n - length xs ≡ 0 = omega arith in take-append-le n xs ys h ∙ sym (ap (λ k. take n xs ++ take k ys) z ∙ append-nil (take n xs))
+      | no h ↦
+          let e : n ≡ length xs + (n - length xs) = omega arith in
+          ap (λ k. take k (xs ++ ys)) e ∙ take-append-add xs ys (n - length xs) ∙ ap (λ l. l ++ take (n - length xs) ys) (sym (take-all n xs (omega arith)))
+    ]
 
 module _ (sp : Space) where
   -- ---- the units from a place on
@@ -142,6 +153,29 @@ module _ (sp : Space) where
   unfolding growthSearches
   find-lowest n = finds n 0 (omega arith) ∙ ap (take n) all-from
 
+  -- what is taken of some units and of the free ones behind them
+  pub units-searched : (us : List ℕ) (n : ℕ) → take n (us ++ freeUnits sp) ≡ take n us ++ unitsFound sp (growthSearches sp (n - length us))
+  units-searched us n = take-two us (freeUnits sp) n ∙ ap (λ l. take n us ++ l) (sym (find-lowest (n - length us)))
+
   pub look-at-most : LookAtMost sp
   unfolding growthSearches
   look-at-most n = let h = looks n 0 (omega arith) in omega (arith, h)
+
+  -- ---- those of a chain
+
+  -- what it lacks is searched for where there are so many units
+  pub searches-some : (kept need : ℕ) → need ≤ sp .limit → searchesFor sp kept need ≡ growthSearches sp (need - kept)
+  unfolding searchesFor
+  searches-some kept need h = rw (le-ltb (sp .limit) need h)
+
+  pub searches-none : (kept need : ℕ) → sp .limit < need → searchesFor sp kept need ≡ []
+  unfolding searchesFor
+  searches-none kept need h = rw (lt-ltb (sp .limit) need h)
+
+  pub chain-looks : (kept need : ℕ) → cellsLooked (searchesFor sp kept need) ≤ sp .limit
+  unfolding cellsLooked sum
+  chain-looks kept need =
+      elim (decLt (sp .limit) need) [
+        | yes h ↦ rw (searches-none kept need h) (omega arith)
+        | no h ↦ rw (searches-some kept need (omega arith)) (look-at-most (need - kept))
+      ]

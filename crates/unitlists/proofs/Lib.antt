@@ -2,4 +2,5 @@
 pub mod Limits
 pub mod Searching
 pub mod Picking
+pub mod Filled
 pub mod Listing

@@ -66,12 +66,18 @@ cellsLooked ss = sum (map lookedBy ss)
 
 -- ---- those of a change of length
 
+-- of a chain that has so many units and is to have `need`: for those that it lacks. A need of more units than there are is refused with no search.
+unfoldable pub searchesFor : Space → ℕ → ℕ → List Search
+searchesFor sp kept need =
+    let ss = growthSearches sp (need - kept) in
+    cond (ltb (sp .limit) need) [] ss
+
 -- the units that a stream keeps: none where it moves to the other space
 unfoldable pub keptUnits : Volume → ℕ → ℕ → List ℕ
 keptUnits v e new = cond (crosses (streamSize v e) new) [] (take (roundUp new (spaceFor v new .unit)) (streamUnits v e))
 
--- in the space that the new length lies in, for what it needs beside the units kept
+-- in the space that the new length lies in
 unfoldable pub lengthSearches : Volume → ℕ → ℕ → List Search
 lengthSearches v e new =
     let sp = spaceFor v new in
-    growthSearches sp (roundUp new (sp .unit) - length (keptUnits v e new))
+    searchesFor sp (length (keptUnits v e new)) (roundUp new (sp .unit))
