@@ -32,7 +32,7 @@ use Rattle.format.specs.Calls.Read.{readCount as Calls·Read·readCount, readBy
 use Rattle.format.specs.Calls.Overwrite.{bytePlace as Calls·Overwrite·bytePlace, putChain as Calls·Overwrite·putChain, overwritten as Calls·Overwrite·overwritten}
 use Rattle.format.specs.Calls.SetLength.{small as Calls·SetLength·small, crosses as Calls·SetLength·crosses, tooFew as Calls·SetLength·tooFew, putCell as Calls·SetLength·putCell, release as Calls·SetLength·release, link as Calls·SetLength·link, relinked as Calls·SetLength·relinked, editSpace as Calls·SetLength·editSpace, newUnits as Calls·SetLength·newUnits, zeroed as Calls·SetLength·zeroed, tailZeroed as Calls·SetLength·tailZeroed, entryWritten as Calls·SetLength·entryWritten, resized as Calls·SetLength·resized}
 use Rattle.format.specs.Calls.Move.{moved as Calls·Move·moved, lengthChanged as Calls·Move·lengthChanged}
-use Rattle.format.specs.Calls.Search.{freeFrom as Calls·Search·freeFrom, lowestFree as Calls·Search·lowestFree, search as Calls·Search·search, searches as Calls·Search·searches, growthSearches as Calls·Search·growthSearches, unitsFound as Calls·Search·unitsFound, cellsLooked as Calls·Search·cellsLooked, keptUnits as Calls·Search·keptUnits, lengthSearches as Calls·Search·lengthSearches}
+use Rattle.format.specs.Calls.Search.{freeFrom as Calls·Search·freeFrom, lowestFree as Calls·Search·lowestFree, search as Calls·Search·search, searches as Calls·Search·searches, growthSearches as Calls·Search·growthSearches, unitsFound as Calls·Search·unitsFound, cellsLooked as Calls·Search·cellsLooked, searchesFor as Calls·Search·searchesFor, keptUnits as Calls·Search·keptUnits, lengthSearches as Calls·Search·lengthSearches}
 use Rattle.format.specs.Calls.Text.{digits as Calls·Text·digits, decimal as Calls·Text·decimal, hexDigit as Calls·Text·hexDigit, printUnit as Calls·Text·printUnit, printName as Calls·Text·printName}
 use Rattle.format.specs.Calls.Listing.{line as Calls·Listing·line, lines as Calls·Listing·lines, firstLine as Calls·Listing·firstLine, listing as Calls·Listing·listing}
 use Rattle.format.specs.Calls.Call.{workOf as Calls·Call·workOf, outOf as Calls·Call·outOf}
@@ -49,5 +49,5 @@ use Rattle.format.specs.Claims.FoldingPaths.{formerEqual as Claims·FoldingPath
 use Rattle.format.specs.Claims.Search.{freeBeside as Claims·Search·freeBeside, InTurns as Claims·Search·InTurns}
 
 unfoldable pub opened : Unit {0}
-unfolding Basics·Lists·allBelow Basics·Lists·all Basics·Lists·listBelow Basics·Lists·joinBelow Basics·Lists·member Basics·Lists·distinct Basics·Lists·equal Basics·Lists·sum Basics·Lists·fit Basics·Bytes·byteAt Basics·Bytes·part Basics·Bytes·number Basics·Bytes·u16at Basics·Bytes·u32at Basics·Bytes·u64at Basics·Bytes·isZero Basics·Bytes·allZero Basics·Bytes·le16 Basics·Bytes·le32 Basics·Bytes·le64 Basics·Bytes·putBytes Basics·Bytes·put16 Basics·Bytes·put32 Basics·Bytes·put64 Layout·Geometry·version3 Layout·Geometry·version4 Layout·Geometry·miniBytes Layout·Geometry·entryBytes Layout·Geometry·headerBytes Layout·Geometry·headerDifat Layout·Geometry·sizeWidth Layout·Geometry·countsDirectory Layout·Geometry·sectorCount Layout·Geometry·sectorPlace Layout·Geometry·placeIn Layout·Geometry·cellsIn Layout·Geometry·difatIn Layout·Geometry·entriesIn Layout·Need·cutoff Layout·Need·roundUp Layout·Need·miniNeed Layout·Need·sectorNeed Layout·Chain·chain Layout·Chain·units Layout·Chain·follow Layout·Space·freeUnits Layout·Space·allocated Layout·Space·chainFor Layout·Space·unitsFor Layout·Space·block Layout·Header·majorVersion Layout·Header·directoryCount Layout·Header·fatCount Layout·Header·directoryStart Layout·Header·miniFatStart Layout·Header·miniFatCount Layout·Header·difatStart Layout·Header·difatCount Layout·Header·difatPlace Layout·Tables·difatSector Layout·Tables·difatSectors Layout·Tables·difatEntry Layout·Tables·fatSectors Layout·Tables·cellPlaceIn Layout·Tables·cellIn Layout·Tables·fatCells Layout·Tables·fatCell Layout·Tables·sectorSpace Layout·Name·illegal Layout·Name·legalUnit Layout·Name·legalName Layout·Name·smallBy20 Layout·Name·smallBy50 Layout·Name·fold Layout·Name·unitsLess Layout·Name·nameLess Layout·Name·nameEqual Layout·Entry·nameBytes Layout·Entry·nameUnit Layout·Entry·name Layout·Entry·kind Layout·Entry·colour Layout·Entry·left Layout·Entry·right Layout·Entry·child Layout·Entry·clsid Layout·Entry·created Layout·Entry·modified Layout·Entry·start Layout·Entry·size Layout·Directory·directorySectors Layout·Directory·entryPlace Layout·Directory·entryCount Layout·Directory·entryIn Layout·Directory·directoryOf Layout·Directory·sizeOf Layout·Tree·treeOf Layout·Tree·grow Layout·Tree·forest Layout·Tree·entries Layout·Tree·siblings Layout·Volume·directorySectorsOf Layout·Volume·directory Layout·Volume·miniFatSectors Layout·Volume·miniStreamSectors Layout·Volume·miniCells Layout·Volume·miniSpace Layout·Volume·volume Layout·Volume·root Layout·Volume·rootSize Layout·Volume·systemSectors Layout·Volume·fixedNumber Layout·Stream·spaceFor Layout·Stream·streamSize Layout·Stream·streamUnits Layout·Stream·contents Rules·Length·leastImage Rules·Length·greatestImage Rules·Length·lengthAllowed Rules·Length·workNeed Rules·Version·versionOf Rules·Header·signature Rules·Header·byteOrder Rules·Header·miniShift Rules·Header·headerRules Rules·Tables·difatNeed Rules·Tables·tableCounts Rules·Tables·difatEnds Rules·Tables·spareEntryFree Rules·Tables·difatRest Rules·Tables·isSector Rules·Tables·tableSectors Rules·Tables·markRight Rules·Tables·tableMarks Rules·Tables·tableRules Rules·Cells·plainCell Rules·Cells·spareCellFree Rules·Cells·restFree Rules·Cells·tableMark Rules·Cells·fatCellRight Rules·Cells·cellRules Rules·Directory·someChain Rules·Directory·countRight Rules·Directory·directoryRules Rules·Entries·blankFields Rules·Entries·nameFields Rules·Entries·streamFields Rules·Entries·storageFields Rules·Entries·rootFields Rules·Entries·commonFields Rules·Entries·entryFields Rules·Entries·entryRight Rules·Entries·entryRules Rules·Trees·sound Rules·Trees·reachedRight Rules·Trees·reachedOnce Rules·Trees·everyNode Rules·Trees·less Rules·Trees·greater Rules·Trees·sidesOrdered Rules·Trees·red Rules·Trees·topBlack Rules·Trees·coloured Rules·Trees·treeRules Rules·Mini·miniCellRight Rules·Mini·miniFatChain Rules·Mini·miniStreamChain Rules·Mini·miniRules Rules·Streams·streamChain Rules·Streams·streamRight Rules·Streams·streamRules Rules·Owners·ownSectors Rules·Owners·ownMinis Rules·Owners·ownedSectors Rules·Owners·ownedMinis Rules·Owners·ownerRule Rules·Owners·ownerRight Rules·Owners·ownersIn Rules·Owners·ownerRules Rules·Verdict·check Rules·Verdict·volumeGroups Rules·Verdict·groups Rules·Verdict·verdict Calls·Paths·pushFront Calls·Paths·split Calls·Paths·names Calls·Paths·wellFormed Calls·Find·orElse Calls·Find·childNamed Calls·Find·foundChild Calls·Find·enter Calls·Find·descend Calls·Find·resolve Calls·Find·needStream Calls·Find·resolveStream Calls·Find·answerOf Calls·Find·entryOf Calls·Read·readCount Calls·Read·readBytes Calls·Read·over Calls·Overwrite·bytePlace Calls·Overwrite·putChain Calls·Overwrite·overwritten Calls·SetLength·small Calls·SetLength·crosses Calls·SetLength·tooFew Calls·SetLength·putCell Calls·SetLength·release Calls·SetLength·link Calls·SetLength·relinked Calls·SetLength·editSpace Calls·SetLength·newUnits Calls·SetLength·zeroed Calls·SetLength·tailZeroed Calls·SetLength·entryWritten Calls·SetLength·resized Calls·Move·moved Calls·Move·lengthChanged Calls·Search·freeFrom Calls·Search·lowestFree Calls·Search·search Calls·Search·searches Calls·Search·growthSearches Calls·Search·unitsFound Calls·Search·cellsLooked Calls·Search·keptUnits Calls·Search·lengthSearches Calls·Text·digits Calls·Text·decimal Calls·Text·hexDigit Calls·Text·printUnit Calls·Text·printName Calls·Listing·line Calls·Listing·lines Calls·Listing·firstLine Calls·Listing·listing Calls·Call·workOf Calls·Call·outOf Calls·Answer·firstOf Calls·Answer·target Calls·Answer·targetAnswer Calls·Answer·beyond Calls·Answer·lengthAnswer Calls·Answer·answerIn Calls·Answer·answer Calls·Reply·plain Calls·Reply·foundReply Calls·Reply·counted Calls·Reply·done Calls·Reply·onZero Calls·Reply·replyBy Calls·Buffers·edited Calls·Buffers·imageAfterBy Calls·Buffers·handedOut Calls·Buffers·outAfterBy Calls·Buffers·workCleared Calls·Buffers·workAfterBy Calls·Program·programCapacity Calls·Program·refusedLine Calls·Program·programCall Calls·Program·programOutputBy History·Rows·rowsIn History·Rows·rowsOf History·Rows·samePath History·Rows·means History·Rows·hasRow History·Rows·rowLength History·Rows·needOf History·Rows·total History·Setting·settingOf History·Setting·freeSectors History·Setting·freeMinis History·Step·reaches History·Step·lacks History·Step·accepts History·Step·answers26 History·Step·change History·Step·putInto History·Step·changed History·Step·rowsStep History·Step·rowsAfter History·Claim·after History·Claim·isEdit Claims·Folding·formerFold Claims·Folding·formerLess Claims·Folding·formerBefore Claims·Folding·formerAfter Claims·Folding·formerSides Claims·Folding·formerTrees Claims·Folding·formerLate Claims·Folding·formerVerdict Claims·Folding·steadyUnit Claims·Folding·steadyName Claims·Folding·steadyNames Claims·Folding·plainUnit Claims·Folding·plainName Claims·Folding·plainNames Claims·FoldingPaths·formerEqual Claims·FoldingPaths·formerChild Claims·FoldingPaths·formerEnter Claims·FoldingPaths·formerDescend Claims·FoldingPaths·formerResolve Claims·FoldingPaths·formerStream Claims·FoldingPaths·formerAnswerIn Claims·FoldingPaths·formerDone Claims·FoldingPaths·formerAnswer Claims·FoldingPaths·formerReply Claims·FoldingPaths·pathOf Claims·Search·freeBeside Claims·Search·InTurns
+unfolding Basics·Lists·allBelow Basics·Lists·all Basics·Lists·listBelow Basics·Lists·joinBelow Basics·Lists·member Basics·Lists·distinct Basics·Lists·equal Basics·Lists·sum Basics·Lists·fit Basics·Bytes·byteAt Basics·Bytes·part Basics·Bytes·number Basics·Bytes·u16at Basics·Bytes·u32at Basics·Bytes·u64at Basics·Bytes·isZero Basics·Bytes·allZero Basics·Bytes·le16 Basics·Bytes·le32 Basics·Bytes·le64 Basics·Bytes·putBytes Basics·Bytes·put16 Basics·Bytes·put32 Basics·Bytes·put64 Layout·Geometry·version3 Layout·Geometry·version4 Layout·Geometry·miniBytes Layout·Geometry·entryBytes Layout·Geometry·headerBytes Layout·Geometry·headerDifat Layout·Geometry·sizeWidth Layout·Geometry·countsDirectory Layout·Geometry·sectorCount Layout·Geometry·sectorPlace Layout·Geometry·placeIn Layout·Geometry·cellsIn Layout·Geometry·difatIn Layout·Geometry·entriesIn Layout·Need·cutoff Layout·Need·roundUp Layout·Need·miniNeed Layout·Need·sectorNeed Layout·Chain·chain Layout·Chain·units Layout·Chain·follow Layout·Space·freeUnits Layout·Space·allocated Layout·Space·chainFor Layout·Space·unitsFor Layout·Space·block Layout·Header·majorVersion Layout·Header·directoryCount Layout·Header·fatCount Layout·Header·directoryStart Layout·Header·miniFatStart Layout·Header·miniFatCount Layout·Header·difatStart Layout·Header·difatCount Layout·Header·difatPlace Layout·Tables·difatSector Layout·Tables·difatSectors Layout·Tables·difatEntry Layout·Tables·fatSectors Layout·Tables·cellPlaceIn Layout·Tables·cellIn Layout·Tables·fatCells Layout·Tables·fatCell Layout·Tables·sectorSpace Layout·Name·illegal Layout·Name·legalUnit Layout·Name·legalName Layout·Name·smallBy20 Layout·Name·smallBy50 Layout·Name·fold Layout·Name·unitsLess Layout·Name·nameLess Layout·Name·nameEqual Layout·Entry·nameBytes Layout·Entry·nameUnit Layout·Entry·name Layout·Entry·kind Layout·Entry·colour Layout·Entry·left Layout·Entry·right Layout·Entry·child Layout·Entry·clsid Layout·Entry·created Layout·Entry·modified Layout·Entry·start Layout·Entry·size Layout·Directory·directorySectors Layout·Directory·entryPlace Layout·Directory·entryCount Layout·Directory·entryIn Layout·Directory·directoryOf Layout·Directory·sizeOf Layout·Tree·treeOf Layout·Tree·grow Layout·Tree·forest Layout·Tree·entries Layout·Tree·siblings Layout·Volume·directorySectorsOf Layout·Volume·directory Layout·Volume·miniFatSectors Layout·Volume·miniStreamSectors Layout·Volume·miniCells Layout·Volume·miniSpace Layout·Volume·volume Layout·Volume·root Layout·Volume·rootSize Layout·Volume·systemSectors Layout·Volume·fixedNumber Layout·Stream·spaceFor Layout·Stream·streamSize Layout·Stream·streamUnits Layout·Stream·contents Rules·Length·leastImage Rules·Length·greatestImage Rules·Length·lengthAllowed Rules·Length·workNeed Rules·Version·versionOf Rules·Header·signature Rules·Header·byteOrder Rules·Header·miniShift Rules·Header·headerRules Rules·Tables·difatNeed Rules·Tables·tableCounts Rules·Tables·difatEnds Rules·Tables·spareEntryFree Rules·Tables·difatRest Rules·Tables·isSector Rules·Tables·tableSectors Rules·Tables·markRight Rules·Tables·tableMarks Rules·Tables·tableRules Rules·Cells·plainCell Rules·Cells·spareCellFree Rules·Cells·restFree Rules·Cells·tableMark Rules·Cells·fatCellRight Rules·Cells·cellRules Rules·Directory·someChain Rules·Directory·countRight Rules·Directory·directoryRules Rules·Entries·blankFields Rules·Entries·nameFields Rules·Entries·streamFields Rules·Entries·storageFields Rules·Entries·rootFields Rules·Entries·commonFields Rules·Entries·entryFields Rules·Entries·entryRight Rules·Entries·entryRules Rules·Trees·sound Rules·Trees·reachedRight Rules·Trees·reachedOnce Rules·Trees·everyNode Rules·Trees·less Rules·Trees·greater Rules·Trees·sidesOrdered Rules·Trees·red Rules·Trees·topBlack Rules·Trees·coloured Rules·Trees·treeRules Rules·Mini·miniCellRight Rules·Mini·miniFatChain Rules·Mini·miniStreamChain Rules·Mini·miniRules Rules·Streams·streamChain Rules·Streams·streamRight Rules·Streams·streamRules Rules·Owners·ownSectors Rules·Owners·ownMinis Rules·Owners·ownedSectors Rules·Owners·ownedMinis Rules·Owners·ownerRule Rules·Owners·ownerRight Rules·Owners·ownersIn Rules·Owners·ownerRules Rules·Verdict·check Rules·Verdict·volumeGroups Rules·Verdict·groups Rules·Verdict·verdict Calls·Paths·pushFront Calls·Paths·split Calls·Paths·names Calls·Paths·wellFormed Calls·Find·orElse Calls·Find·childNamed Calls·Find·foundChild Calls·Find·enter Calls·Find·descend Calls·Find·resolve Calls·Find·needStream Calls·Find·resolveStream Calls·Find·answerOf Calls·Find·entryOf Calls·Read·readCount Calls·Read·readBytes Calls·Read·over Calls·Overwrite·bytePlace Calls·Overwrite·putChain Calls·Overwrite·overwritten Calls·SetLength·small Calls·SetLength·crosses Calls·SetLength·tooFew Calls·SetLength·putCell Calls·SetLength·release Calls·SetLength·link Calls·SetLength·relinked Calls·SetLength·editSpace Calls·SetLength·newUnits Calls·SetLength·zeroed Calls·SetLength·tailZeroed Calls·SetLength·entryWritten Calls·SetLength·resized Calls·Move·moved Calls·Move·lengthChanged Calls·Search·freeFrom Calls·Search·lowestFree Calls·Search·search Calls·Search·searches Calls·Search·growthSearches Calls·Search·unitsFound Calls·Search·cellsLooked Calls·Search·searchesFor Calls·Search·keptUnits Calls·Search·lengthSearches Calls·Text·digits Calls·Text·decimal Calls·Text·hexDigit Calls·Text·printUnit Calls·Text·printName Calls·Listing·line Calls·Listing·lines Calls·Listing·firstLine Calls·Listing·listing Calls·Call·workOf Calls·Call·outOf Calls·Answer·firstOf Calls·Answer·target Calls·Answer·targetAnswer Calls·Answer·beyond Calls·Answer·lengthAnswer Calls·Answer·answerIn Calls·Answer·answer Calls·Reply·plain Calls·Reply·foundReply Calls·Reply·counted Calls·Reply·done Calls·Reply·onZero Calls·Reply·replyBy Calls·Buffers·edited Calls·Buffers·imageAfterBy Calls·Buffers·handedOut Calls·Buffers·outAfterBy Calls·Buffers·workCleared Calls·Buffers·workAfterBy Calls·Program·programCapacity Calls·Program·refusedLine Calls·Program·programCall Calls·Program·programOutputBy History·Rows·rowsIn History·Rows·rowsOf History·Rows·samePath History·Rows·means History·Rows·hasRow History·Rows·rowLength History·Rows·needOf History·Rows·total History·Setting·settingOf History·Setting·freeSectors History·Setting·freeMinis History·Step·reaches History·Step·lacks History·Step·accepts History·Step·answers26 History·Step·change History·Step·putInto History·Step·changed History·Step·rowsStep History·Step·rowsAfter History·Claim·after History·Claim·isEdit Claims·Folding·formerFold Claims·Folding·formerLess Claims·Folding·formerBefore Claims·Folding·formerAfter Claims·Folding·formerSides Claims·Folding·formerTrees Claims·Folding·formerLate Claims·Folding·formerVerdict Claims·Folding·steadyUnit Claims·Folding·steadyName Claims·Folding·steadyNames Claims·Folding·plainUnit Claims·Folding·plainName Claims·Folding·plainNames Claims·FoldingPaths·formerEqual Claims·FoldingPaths·formerChild Claims·FoldingPaths·formerEnter Claims·FoldingPaths·formerDescend Claims·FoldingPaths·formerResolve Claims·FoldingPaths·formerStream Claims·FoldingPaths·formerAnswerIn Claims·FoldingPaths·formerDone Claims·FoldingPaths·formerAnswer Claims·FoldingPaths·formerReply Claims·FoldingPaths·pathOf Claims·Search·freeBeside Claims·Search·InTurns
 opened = tt

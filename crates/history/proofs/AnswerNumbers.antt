@@ -9,6 +9,17 @@ use Rattle.format.specs.Calls.Find.{Found, at, refused, answerOf}
 use Rattle.theory.proofs.Tests.{clash}
 use Rattle.theory.proofs.Refusals.{RefusedLow}
 
+-- two answers are 0 together
+pub first-zero : (a b : ℕ) → firstOf a b ≡ 0 → (a ≡ 0) × (b ≡ 0)
+unfolding firstOf
+first-zero zero b h = (refl, h)
+first-zero (suc a) b h = absurd (omega arith)
+
+-- no occasion of 26
+pub cond-26-zero : (t : Bool) → cond {A = ℕ} t 26 0 ≡ 0 → t ≡ false
+cond-26-zero true h = absurd (omega arith)
+cond-26-zero false h = refl
+
 pub write-zero-iff : (workFits t : Bool) → (firstOf (cond workFits 0 2) (cond t 24 0) ≡ 0) ↔ ((workFits && true && not t) ≡ true)
 unfolding firstOf
 write-zero-iff true true = ((λ h. absurd (omega arith)), λ h. absurd (clash h refl))

@@ -15,7 +15,7 @@ use Rattle.format.specs.Layout.Stream.{streamSize}
 use Rattle.format.specs.Layout.Volume.{Volume, volume}
 use Rattle.format.specs.Rules.Version.{versionOf}
 use Rattle.format.specs.Rules.Verdict.{Accepted}
-use Rattle.format.specs.Calls.Answer.{target, answer, firstOf}
+use Rattle.format.specs.Calls.Answer.{target, answer}
 use Rattle.format.specs.Calls.Reply.{onZero}
 use Rattle.format.specs.Calls.Paths.{Path}
 use Rattle.format.specs.Calls.Find.{Found, at, refused, resolveStream, answerOf, entryOf}
@@ -33,6 +33,7 @@ use Rattle.theory.proofs.Tests.{clash}
 use Rattle.frame.specs.Frame.{Frame}
 use Rattle.theory.proofs.Refusals.{RefusedLow, resolve-stream-low}
 use Rattle.history.proofs.Room.{allocated-sectors, allocated-minis}
+use Rattle.history.proofs.AnswerNumbers.{first-zero, cond-26-zero}
 use Rattle.history.proofs.Answers.{answers-0-iff, answers-26-iff, write-answer, length-answer}
 use Rattle.history.proofs.EditStep.{preserved-itself, write-step}
 use Rattle.history.proofs.LengthStep.{length-step}
@@ -46,18 +47,9 @@ unfolding onZero
 on-zero-same zero x = refl
 on-zero-same (suc n) x = refl
 
-first-zero : (a b : ℕ) → firstOf a b ≡ 0 → (a ≡ 0) × (b ≡ 0)
-unfolding firstOf
-first-zero zero b h = (refl, h)
-first-zero (suc a) b h = absurd (omega arith)
-
 cond-24-zero : (t : Bool) → cond {A = ℕ} t 24 0 ≡ 0 → t ≡ false
 cond-24-zero true h = absurd (omega arith)
 cond-24-zero false h = refl
-
-cond-26-zero : (t : Bool) → cond {A = ℕ} t 26 0 ≡ 0 → t ≡ false
-cond-26-zero true h = absurd (omega arith)
-cond-26-zero false h = refl
 
 module _ (g : Geometry) (pos : 0 < g .sectorBytes) (fr : Frame g) (img : Bytes) (acc : Accepted g img) where
   abbrev v : Volume

@@ -46,7 +46,7 @@ use Rattle.history.specs.Step.{Step, lengthRows, Enough}
 pub alike-itself : (v : Volume) → Alike (v .directory) (v .directory)
 alike-itself v = record { count = refl; name = λ i. refl; kind = λ i. refl; colour = λ i. refl; left = λ i. refl; right = λ i. refl; child = λ i. refl }
 
-resized-same : (v : Volume) (img : Bytes) (e new : ℕ) → new ≡ streamSize v e → resized v img e new ≡ img
+pub resized-same : (v : Volume) (img : Bytes) (e new : ℕ) → new ≡ streamSize v e → resized v img e new ≡ img
 unfolding resized
 resized-same v img e new z = rw (eq-eqb new (streamSize v e) z)
 
@@ -138,22 +138,22 @@ module _ (g : Geometry) (pos : 0 < g .sectorBytes) (fr : Frame g) (img : Bytes) 
           | inl h ↦ needs-in-space g img old new side h needs-fit (length (streamUnits v e)) (old-units-length v good e new inside stream within)
         ]
 
-    differ-step : new ≢ old → Step g img (resized v img e new) (lengthRows p new (rowsOf g img))
+    -- another length may be given
+    pub length-may : new ≢ old → MayResize g img e new
     unfolding editSpace spaceFor
-    differ-step z =
-        resize-step p new found
-        (record {
+    length-may z =
+        record {
           accepted = acc;
           inside = inside;
           stream = stream;
           differs = ne-eqb new old z;
           within = within;
           enough = enough;
-        })
+        }
 
     pub length-step : Step g img (resized v img e new) (lengthRows p new (rowsOf g img))
     length-step =
         elim (ℕ-discrete new old) [
           | yes z ↦ subst (λ i. Step g img i (lengthRows p new (rowsOf g img))) (sym (resized-same v img e new z)) (same-step z)
-          | no z ↦ differ-step z
+          | no z ↦ resize-step p new found (length-may z)
         ]

@@ -27,3 +27,5 @@ pub mod MoveRows
 pub mod MoveStep
 pub mod Demand
 pub mod Demand3
+pub mod Searched
+pub mod LengthSearched

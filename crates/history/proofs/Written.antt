@@ -30,6 +30,7 @@ use Rattle.frame.specs.Good.{spaceOf, systemOf, unitsOf, Good}
 use Rattle.frame.proofs.OwnerFacts.{units-linked}
 use Rattle.frame.proofs.Good.{accepted-good}
 use Rattle.history.specs.Changed.{Changed}
+use Rattle.history.proofs.EditedUnits.{edited-units}
 use Rattle.history.proofs.Filled.{contents-read, edited-contents, unit-full, frame-sized, Sized}
 use Rattle.history.proofs.Sides.{cond-beq-false, full-side, refilled-side, cond-beq-true}
 use Rattle.frame.proofs.EntryFacts.{common-fields-of, entry-fields}
@@ -139,3 +140,7 @@ module _ (g : Geometry) (pos : 0 < g .sectorBytes) (fr : Frame g) (img : Bytes) 
         ∙ ap (λ t. take len (cond t (putBytes (laid (block (spaceOf v side) img) units) offset bytes) [])) (beq-self side)
         ∙ take-sets-in len (laid (block (spaceOf v side) img) units) offset bytes (may .fits)
         ∙ ap (λ l. sets l offset bytes) (sym (contents-read v img e len units refl refl))
+
+    -- its units are what they were
+    pub write-units : streamUnits (volume g after) e ≡ units
+    write-units = edited-units good write-changed ∙ here-units

@@ -6,7 +6,7 @@ use mathlib.Core.List.{List, [], _∷_, _++_, append-assoc, append-nil}
 use native.Mathlib.Numerals.{add-one}
 use native.Mathlib.Omega.{arith}
 use borrow.Author.Tests.{lt-ltb, le-ltb}
-use lib.ListN.{length, take, set, length-append}
+use lib.ListN.{length, take, set}
 use lib.Seq.{take-suc-set}
 use Rattle.format.specs.Basics.Lists.{sum}
 use Rattle.format.specs.Layout.Space.{Space}

@@ -6,8 +6,17 @@ use mathlib.Core.List.{List, [], _∷_, _++_}
 use lib.ListN.{take, getD}
 use Rattle.format.specs.Basics.Lists.{pickBelow, member}
 use Rattle.format.specs.Layout.Chain.{isFree}
+use Rattle.format.specs.Basics.Bytes.{Bytes}
 use Rattle.format.specs.Layout.Space.{Space, freeUnits}
-use Rattle.format.specs.Calls.Search.{Search, growthSearches, unitsFound, cellsLooked}
+use Rattle.format.specs.Layout.Volume.{volume}
+use Rattle.format.specs.Layout.Stream.{spaceFor, streamUnits}
+use Rattle.format.specs.Rules.Version.{versionOf}
+use Rattle.format.specs.Rules.Verdict.{Accepted}
+use Rattle.format.specs.Calls.Paths.{Path}
+use Rattle.format.specs.Calls.Call.{setLength}
+use Rattle.format.specs.Calls.Answer.{target, answer}
+use Rattle.format.specs.Calls.Buffers.{imageAfter}
+use Rattle.format.specs.Calls.Search.{Search, growthSearches, unitsFound, cellsLooked, keptUnits, lengthSearches}
 
 -- ---- one by one
 
@@ -41,3 +50,16 @@ FindLowest sp = (n : ℕ) → unitsFound sp (growthSearches sp n) ≡ take n (fr
 -- they look at no more cells than there are units
 abbrev pub LookAtMost : Space → Type 0
 LookAtMost sp = (n : ℕ) → cellsLooked (growthSearches sp n) ≤ sp .limit
+
+-- ---- and of a call
+
+-- What an accepted change of length adds to a stream, on one side of the cutoff and across it, is what the searches find in the image before the
+-- call, in their order, behind the units that the stream keeps.
+abbrev pub LengthSearched : Type 0
+LengthSearched =
+    (img : Bytes) → Accepted (versionOf img) img → (path : Path) (new : ℕ) (work : List ℕ)
+    → answer (versionOf img) img (setLength path new work) ≡ 0
+    → let v = volume (versionOf img) img in
+    let e = target v path in
+    let after = volume (versionOf img) (imageAfter img (setLength path new work)) in
+    streamUnits after e ≡ keptUnits v e new ++ unitsFound (spaceFor v new) (lengthSearches v e new)
