@@ -7,4 +7,6 @@ pub mod Targets
 pub mod Overwrites
 pub mod Rewriting
 pub mod Gathering
+pub mod Growths
+pub mod Looks
 pub mod Resizes

@@ -2,7 +2,7 @@
 -- `format`'s image.
 use Prim.Native.Nat.{ℕ, _+_, _*_, _≤_, _<_, max}
 use mathlib.Core.Path.{_≡_, sym, _∙_, ap, ap₂, subst}
-use mathlib.Core.Logic.{_≢_}
+use mathlib.Core.Logic.{_≢_, inl, inr}
 use mathlib.Core.Bool.{Bool, true, false, not, cond}
 use mathlib.Core.List.{List, _++_}
 use native.Mathlib.Omega.{arith}
@@ -21,13 +21,15 @@ use Rattle.format.specs.Layout.Space.{Space, freeUnits}
 use Rattle.format.specs.Layout.Volume.{Volume, volume, directorySectorsOf}
 use Rattle.format.specs.Layout.Stream.{spaceFor, streamSize, streamUnits}
 use Rattle.format.specs.Calls.SetLength.{crosses, editSpace, newUnits, tailZeroed, entryWritten, resized}
+use Rattle.format.specs.Calls.Search.{searchesFor, keptUnits, lengthSearches, cellsLooked}
 use Rattle.format.specs.Calls.Answer.{lengthAnswer}
 use Rattle.theory.specs.Links.{Linked}
 use Rattle.theory.proofs.Chains.{chain-linked, linked-below, length-units}
 use Rattle.theory.proofs.FreeUnits.{resized-from, pool-short}
-use Rattle.theory.proofs.RoundUp.{round-enough}
+use Rattle.theory.proofs.RoundUp.{round-zero, round-enough}
 use Rattle.theory.proofs.Loops.{said-no, said-yes}
 use Rattle.frame.specs.Good.{spaceOf as sideSpace}
+use Rattle.frame.proofs.LengthUnits.{sides-uncrossed}
 use Rattle.kinds.specs.Sizes.{geometryOf}
 use Rattle.directory.specs.Listed.{placeOf}
 use Rattle.directory.proofs.Places.{placed, place-inside, place-is}
@@ -46,7 +48,9 @@ use Rattle.queries.proofs.Streams.{entry-inside}
 use Rattle.edits.specs.Rewritten.{tailFilled, rewritten}
 use Rattle.edits.specs.Gathered.{Gathered}
 use Rattle.edits.proofs.Needs.{too-few-is}
-use Rattle.edits.proofs.Streams.{kind-side, bytes-some, stream-chain}
+use Rattle.edits.proofs.Streams.{kind-side, bytes-some, good, stream-chain}
+use Rattle.edits.proofs.Growths.{own-looked}
+use Rattle.edits.proofs.Looks.{within-looked}
 use Rattle.edits.proofs.Writables.{writable, rewritten-listed}
 
 -- another length, by its units
@@ -96,6 +100,28 @@ module _ {v : Opened} {img : Bytes} {w : List ℕ} (o : Open v img w) {e : Objec
 
   linked : Linked (sp .cell) (sp .limit) (units (sp .cell) old (start (vol .directory .entry (e .id .0))))
   linked = chain-linked (sp .cell) (sp .limit) old (start (vol .directory .entry (e .id .0))) (own .0) .0
+
+  -- ---- the cells looked at
+
+  looked-none : new ≡ 0 → cellsLooked (searchesFor sp old need) ≡ cellsLooked (lengthSearches vol (e .id .0) new)
+  unfolding lengthSearches spaceFor
+  looked-none z =
+      let to = sideSpace vol (ltb new cutoff) in
+      let a : need ≡ 0 = wanted ∙ ap (λ n. roundUp n (sp .unit)) z ∙ round-zero (sp .unit) (units-stand (o .ready) k .some) in
+      let b : roundUp new (to .unit) ≡ 0 = ap (λ n. roundUp n (to .unit)) z ∙ round-zero (to .unit) (good o .unit (ltb new cutoff)) in
+      sym (own-looked sp old need (omega arith)) ∙ own-looked to (length (keptUnits vol (e .id .0) new)) (roundUp new (to .unit)) (omega arith)
+
+  looked-here : ltb new cutoff ≡ ltb (max (e .size) new) cutoff → cellsLooked (searchesFor sp old need) ≡ cellsLooked (lengthSearches vol (e .id .0) new)
+  unfolding spaceFor
+  looked-here h =
+      let here : sp ≡ sideSpace vol (ltb new cutoff) = kind-side vol (max (e .size) new) ∙ ap (sideSpace vol) (sym h) in
+      let long : length (streamUnits vol (e .id .0)) ≡ old = sym (ap length (own .1)) ∙ length-units (sp .cell) old (start (vol .directory .entry (e .id .0))) in
+      ap (λ n. cellsLooked (searchesFor sp old n)) wanted
+      ∙ ap (λ z. cellsLooked (searchesFor z old (roundUp new (z .unit)))) here
+      ∙ within-looked vol (e .id .0) new old (ap (λ n. crosses n new) (sym (s .sized)) ∙ c) long
+
+  pub looked-is : cellsLooked (searchesFor sp old need) ≡ cellsLooked (lengthSearches vol (e .id .0) new)
+  looked-is = elim (sides-uncrossed (e .size) new c .1) [ inl h ↦ looked-here h | inr z ↦ looked-none z ]
 
   -- ---- what gathering left: the stream's units, and enough of them
 

@@ -2,3 +2,4 @@
 pub mod Images
 pub mod Rewritten
 pub mod Gathered
+pub mod Growths

@@ -7,7 +7,9 @@ ghost use Prim.Native.Nat.{_+_, _*_, _-_, _≤_, _<_, max};
 ghost use lib.Dec.{ltb};
 ghost use lib.ListN.{length, take};
 ghost use Rattle.format.specs.Layout.Space.{freeUnits};
+ghost use Rattle.format.specs.Layout.Stream.{spaceFor};
 ghost use Rattle.format.specs.Calls.SetLength.{crosses, resized};
+ghost use Rattle.format.specs.Calls.Search.{lengthSearches, cellsLooked};
 ghost use Rattle.format.specs.Calls.Answer.{lengthAnswer};
 ghost use Rattle.format.specs.Calls.Reply.{onZero};
 ghost use Rattle.kinds.specs.Sizes.{geometryOf};
@@ -22,6 +24,7 @@ ghost use Rattle.queries.specs.Inside.{Open};
 ghost use Rattle.queries.specs.Streams.{StreamAt};
 ghost use Rattle.edits.specs.Rewritten.{tailFilled, rewritten};
 ghost use Rattle.edits.specs.Gathered.{Gathered};
+ghost use Rattle.edits.specs.Growths.{growthIn};
 use chains::units_for;
 use directory::place;
 use kinds::Answer;
@@ -46,26 +49,43 @@ use writes::zero_from;
 
 // ---- units
 
-// Lists a chain's units, and behind them free ones where more are needed. Says whether there are as many as needed.
-fn gather(img: &[u8], work: &mut [u32], v: Volume, start: Unit, old: usize, need: u64) -> bool
+// What a growth finds: whether there are as many units as needed, and how many cells the searches for free ones looked at.
+pub struct Growth {
+    pub enough: bool,
+    pub looked: usize,
+}
+
+// Lists a chain's units, and behind them free ones where more are needed.
+fn gather(img: &[u8], work: &mut [u32], v: Volume, start: Unit, old: usize, need: u64) -> Growth
     requires { ⌜ Readied v (now img) (now work) ⌝ }
     requires { ⌜ chainFrom v (now img) start old ≡ true ⌝ }
-    ensures { λ r. ⌜ r ≡ not (ltb (old + length (freeUnits (spaceAt v (now (img .entry)) (kindOf start)))) need) ⌝ }
+    ensures { λ r. ⌜ r ≡ growthIn (spaceAt v (now (img .entry)) (kindOf start)) old need ⌝ }
     ensures { λ _. ⌜ take old (now (work .exit)) ≡ unitsFrom v (now (img .entry)) start old ⌝ }
-    ensures { λ r. ⌜ (r ≡ true → take need (now (work .exit))
+    ensures { λ r. ⌜ (r .enough ≡ true → take need (now (work .exit))
         ≡ take need (unitsFrom v (now (img .entry)) start old ++ freeUnits (spaceAt v (now (img .entry)) (kindOf start)))) ⌝ }
     ensures { λ _. ⌜ Wrote (now (work .entry)) (now (work .exit)) 0 (v .stream) ⌝ }
+    ensures { λ r. ⌜ r .looked ≤ spaceAt v (now (img .entry)) (kindOf start) .limit ⌝ }
 {
     let kind = start.kind();
     list_units(img, work, v, start, old);
     if (unit_count(v, kind) as u64) < need {
-        return false;
+        return Growth {
+            enough: false,
+            looked: 0,
+        };
     }
     let n = need as usize;
     if n <= old {
-        return true;
+        return Growth {
+            enough: true,
+            looked: 0,
+        };
     }
-    list_free(img, work, v, kind, old, n) == n
+    let l = list_free(img, work, v, kind, old, n);
+    Growth {
+        enough: l.count == n,
+        looked: l.looked,
+    }
 }
 
 // ---- writing
@@ -140,24 +160,40 @@ pub fn resize(img: &mut [u8], work: &[u32], v: Volume, e: Object, old: usize, ne
 
 // ---- the change
 
+// A change of length: its answer, and how many cells the searches for free units looked at.
+pub struct Change {
+    pub answer: Answer,
+    pub looked: usize,
+}
+
 // Gives a stream another length that does not cross the cutoff, if there is room for it.
-pub fn change_length(img: &mut [u8], work: &mut [u32], v: Volume, e: Object, new: u64) -> Answer
+pub fn change_length(img: &mut [u8], work: &mut [u32], v: Volume, e: Object, new: u64) -> Change
     requires { ⌜ Open v (now img) (now work) ⌝ }
     requires { ⌜ StreamAt (volumeIn v (now img)) e ⌝ }
     requires { ⌜ crosses (e .size) new ≡ false ⌝ }
     requires { ⌜ new ≢ e .size ⌝ }
-    ensures { λ r. ⌜ numberOf r ≡ lengthAnswer (geometryOf (v .tables .geometry)) (volumeIn v (now (img .entry))) (e .size) new ⌝ }
-    ensures { λ r. ⌜ now (img .exit) ≡ onZero (numberOf r) (resized (volumeIn v (now (img .entry))) (now (img .entry)) (e .id .0) new) (now (img .entry)) ⌝ }
+    ensures { λ r. ⌜ numberOf (r .answer) ≡ lengthAnswer (geometryOf (v .tables .geometry)) (volumeIn v (now (img .entry))) (e .size) new ⌝ }
+    ensures { λ r. ⌜ now (img .exit)
+        ≡ onZero (numberOf (r .answer)) (resized (volumeIn v (now (img .entry))) (now (img .entry)) (e .id .0) new) (now (img .entry)) ⌝ }
     ensures { λ _. ⌜ Wrote (now (work .entry)) (now (work .exit)) 0 (v .stream) ⌝ }
+    ensures { λ r. ⌜ r .looked ≡ cellsLooked (lengthSearches (volumeIn v (now (img .entry))) (e .id .0) new) ⌝ }
+    ensures { λ r. ⌜ r .looked ≤ spaceFor (volumeIn v (now (img .entry))) new .limit ⌝ }
 {
     let kind = kind_for(greatest(e.size, new));
     let bytes = unit_bytes(v, kind) as u64;
     let old = units_for(e.size, bytes) as usize;
     let need = units_for(new, bytes);
     let first = start_unit(img, place(work, v.directory, e.id), kind);
-    if !gather(img, work, v, first, old, need) {
-        return Answer::Refused(Refusal::TooFewFree);
+    let g = gather(img, work, v, first, old, need);
+    if !g.enough {
+        return Change {
+            answer: Answer::Refused(Refusal::TooFewFree),
+            looked: g.looked,
+        };
     }
     resize(img, work, v, e, old, need as usize, new);
-    Answer::Done
+    Change {
+        answer: Answer::Done,
+        looked: g.looked,
+    }
 }
