@@ -1,9 +1,10 @@
 -- Lengths on different sides of the cutoff, and units of different kinds.
-use Prim.Native.Nat.{ℕ, _+_, _≤_, _<_, min}
+use Prim.Native.Nat.{ℕ, _+_, _-_, _≤_, _<_, min}
 use mathlib.Core.Path.{_≡_, refl, sym, _∙_, ap}
 use mathlib.Core.Logic.{_≢_, inl, inr}
 use mathlib.Core.Bool.{true, false, not}
 use mathlib.Core.List.{List, [], _++_}
+use native.Mathlib.Nat.{zero-add}
 use native.Mathlib.Omega.{arith}
 use native.Mathlib.Decide.{decLt}
 use lib.Dec.{ltb, eqb}
@@ -13,8 +14,9 @@ use borrow.Author.Tests.{lt-ltb, le-ltb}
 use Rattle.format.specs.Basics.Bytes.{Bytes}
 use Rattle.format.specs.Layout.Need.{cutoff}
 use Rattle.format.specs.Layout.Chain.{chain, units}
-use Rattle.format.specs.Layout.Space.{freeUnits}
+use Rattle.format.specs.Layout.Space.{Space, freeUnits}
 use Rattle.format.specs.Calls.SetLength.{crosses}
+use Rattle.format.specs.Calls.Search.{growthSearches, cellsLooked}
 use Rattle.theory.proofs.FreeUnits.{pool-short}
 use Rattle.history.proofs.Moving.{crossed}
 use Rattle.volume.specs.declared.Volume.{Volume as Opened}
@@ -56,6 +58,13 @@ add-ltb a b c =
       | no h ↦ le-ltb (a + b) (a + c) (omega arith) ∙ sym (le-ltb b c (omega arith))
     ]
 
+-- none of their kind were there before
+pub none-before : (f n : ℕ) → not (ltb f n) ≡ not (ltb (0 + f) n)
+none-before f n = ap (λ m. not (ltb m n)) (sym (zero-add f))
+
+pub across-cells : (sp : Space) (old need : ℕ) {n : ℕ} → n ≡ cellsLooked (growthSearches sp (old + need - old)) → n ≡ cellsLooked (growthSearches sp (need - 0))
+across-cells sp old need q = let e : old + need - old ≡ need - 0 = omega arith in q ∙ ap (λ k. cellsLooked (growthSearches sp k)) e
+
 module _ {v : Opened} {img : Bytes} {w : List ℕ} (r : Readied v img w) where
   both-room : (a b : Kind) → a ≢ b → spaceAt v img a .limit + spaceAt v img b .limit ≤ v .stream
   both-room Sectors Sectors d = absurd (d refl)
@@ -79,15 +88,15 @@ module _ {v : Opened} {img : Bytes} {w : List ℕ} (r : Readied v img w) where
     across-room h = omega (arith, h, old-short r from old f c, both-room from to d)
 
     -- more than there are
-    pub across-none : spaceAt v img to .limit < need → false ≡ not (ltb (length free) need)
-    across-none h = sym (ap not (lt-ltb (length free) need (omega (arith, free-few to, h))))
+    pub across-none : spaceAt v img to .limit < need → false ≡ not (ltb (0 + length free) need)
+    across-none h = sym (ap not (lt-ltb (length free) need (omega (arith, free-few to, h)))) ∙ none-before (length free) need
 
     module _ (w₁ w₂ : List ℕ) (m : ℕ) (own : take old w₁ ≡ us) (k : m ≡ min (old + need) (old + length free)) (e : take m w₂ ≡ take (old + need) (take old w₁ ++ free)) where
       long : length us ≡ old
       long = chain-long r from old f c
 
-      pub across-answer : eqb m (old + need) ≡ not (ltb (length free) need)
-      across-answer = free-enough us free w₁ w₂ old (old + need) m long own (omega arith) k e ∙ ap not (add-ltb old (length free) need)
+      pub across-answer : eqb m (old + need) ≡ not (ltb (0 + length free) need)
+      across-answer = free-enough us free w₁ w₂ old (old + need) m long own (omega arith) k e ∙ ap not (add-ltb old (length free) need) ∙ none-before (length free) need
 
       pub across-own : take old w₂ ≡ us
       across-own = own-still us free w₁ w₂ old (old + need) m long own (omega arith) k e

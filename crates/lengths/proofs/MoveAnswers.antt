@@ -1,4 +1,4 @@
--- A change of length across the cutoff: its answer, and the bytes that stay.
+-- A change of length across the cutoff: its answer, the cells that its searches look at, and the bytes that stay.
 use Prim.Native.Nat.{ℕ, _≤_, min}
 use mathlib.Core.Path.{_≡_, sym, _∙_, ap}
 use mathlib.Core.Bool.{Bool, true, false, not, cond}
@@ -14,8 +14,9 @@ use Rattle.format.specs.Layout.Geometry.{Geometry}
 use Rattle.format.specs.Layout.Need.{roundUp}
 use Rattle.format.specs.Layout.Space.{freeUnits}
 use Rattle.format.specs.Layout.Volume.{volume}
-use Rattle.format.specs.Layout.Stream.{contents}
+use Rattle.format.specs.Layout.Stream.{spaceFor, contents}
 use Rattle.format.specs.Calls.SetLength.{crosses}
+use Rattle.format.specs.Calls.Search.{searchesFor, lengthSearches, cellsLooked}
 use Rattle.format.specs.Calls.Answer.{lengthAnswer}
 use Rattle.theory.proofs.Loops.{said-no, said-yes}
 use Rattle.history.proofs.Filled.{frame-sized, length-contents}
@@ -26,6 +27,7 @@ use Rattle.spaces.specs.Spaces.{kindFor, volumeIn, spaceAt}
 use Rattle.queries.specs.declared.find.Object.{Object}
 use Rattle.queries.specs.Inside.{Open}
 use Rattle.queries.specs.Streams.{StreamAt}
+use Rattle.edits.proofs.Looks.{across-looked}
 use Rattle.edits.proofs.Streams.{kind-side, good}
 use Rattle.lengths.proofs.Opens.{open-frame, open-accepted}
 
@@ -52,6 +54,15 @@ module _ {v : Opened} {img : Bytes} {w : List ℕ} (o : Open v img w) {e : Objec
 
     pub enough-free : not b ≡ false → (n ≤ length (freeUnits (spaceAt v img (kindFor new)))) × (0 ≡ lengthAnswer g (volumeIn v img) (e .size) new)
     enough-free h = let z : lacks ≡ false = not-true lacks (said-yes h said) in (ltb-false _ n z, sym (answer-by ∙ ap (λ t. cond t 26 0) z))
+
+  -- the cells that the searches look at
+  pub move-looked : (n : ℕ) → n ≡ roundUp new (spaceAt v img (kindFor new) .unit)
+      → cellsLooked (searchesFor (spaceAt v img (kindFor new)) 0 n) ≡ cellsLooked (lengthSearches (volumeIn v img) (e .id .0) new)
+  unfolding spaceFor
+  move-looked n wants =
+      ap (λ m. cellsLooked (searchesFor (spaceAt v img (kindFor new)) 0 m)) wants
+      ∙ ap (λ z. cellsLooked (searchesFor z 0 (roundUp new (z .unit)))) (kind-side (volumeIn v img) new)
+      ∙ across-looked (volumeIn v img) (e .id .0) new (ap (λ k. crosses k new) (sym (s .sized)) ∙ c)
 
   -- ---- the bytes that stay
 

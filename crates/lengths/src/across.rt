@@ -2,13 +2,13 @@
 // them the free ones that it gets.
 ghost use mathlib.Core.Path.{_≡_};
 ghost use mathlib.Core.Logic.{_≢_};
-ghost use mathlib.Core.Bool.{true, not};
+ghost use mathlib.Core.Bool.{true};
 ghost use Prim.Native.Nat.{_+_, _≤_, _<_, min};
-ghost use lib.Dec.{ltb};
 ghost use lib.ListN.{length, take, drop};
 ghost use Rattle.format.specs.Layout.Space.{freeUnits};
-ghost use Rattle.format.specs.Layout.Stream.{contents};
+ghost use Rattle.format.specs.Layout.Stream.{spaceFor, contents};
 ghost use Rattle.format.specs.Calls.SetLength.{crosses};
+ghost use Rattle.format.specs.Calls.Search.{lengthSearches, cellsLooked};
 ghost use Rattle.format.specs.Calls.Move.{moved};
 ghost use Rattle.format.specs.Calls.Answer.{lengthAnswer};
 ghost use Rattle.format.specs.Calls.Reply.{onZero};
@@ -20,9 +20,12 @@ ghost use Rattle.spaces.specs.Spaces.{volumeIn, spaceAt};
 ghost use Rattle.spaces.specs.Units.{kindOf, chainFrom, unitsFrom};
 ghost use Rattle.queries.specs.Inside.{Open};
 ghost use Rattle.queries.specs.Streams.{StreamAt};
+ghost use Rattle.edits.specs.Growths.{growthIn};
 ghost use Rattle.lengths.specs.Listed.{BothListed, withSize};
 use chains::units_for;
 use directory::place;
+use edits::resize::Change;
+use edits::resize::Growth;
 use edits::resize::resize;
 use kinds::Answer;
 use kinds::Refusal;
@@ -41,7 +44,7 @@ use writes::put_bytes;
 
 // ---- units
 
-// Lists a chain's units, and behind them free ones of the other kind. Says whether there are as many of these as needed.
+// Lists a chain's units, and behind them free ones of the other kind, as many as needed.
 fn gather_across(
     img: &[u8],
     work: &mut [u32],
@@ -50,21 +53,29 @@ fn gather_across(
     old: usize,
     kind: Kind,
     need: u64,
-) -> bool
+) -> Growth
     requires { ⌜ Readied v (now img) (now work) ⌝ }
     requires { ⌜ chainFrom v (now img) start old ≡ true ⌝ }
     requires { ⌜ kindOf start ≢ kind ⌝ }
-    ensures answer { λ r. ⌜ r ≡ not (ltb (length (freeUnits (spaceAt v (now (img .entry)) kind))) need) ⌝ }
+    ensures answer { λ r. ⌜ r ≡ growthIn (spaceAt v (now (img .entry)) kind) 0 need ⌝ }
     ensures own { λ _. ⌜ take old (now (work .exit)) ≡ unitsFrom v (now (img .entry)) start old ⌝ }
-    ensures free { λ r. ⌜ (r ≡ true → take need (drop old (now (work .exit))) ≡ take need (freeUnits (spaceAt v (now (img .entry)) kind))) ⌝ }
+    ensures free { λ r. ⌜ (r .enough ≡ true → take need (drop old (now (work .exit))) ≡ take need (freeUnits (spaceAt v (now (img .entry)) kind))) ⌝ }
     ensures wrote { λ _. ⌜ Wrote (now (work .entry)) (now (work .exit)) 0 (v .stream) ⌝ }
+    ensures looked { λ r. ⌜ r .looked ≤ spaceAt v (now (img .entry)) kind .limit ⌝ }
 {
     list_units(img, work, v, start, old);
     if (unit_count(v, kind) as u64) < need {
-        return false;
+        return Growth {
+            enough: false,
+            looked: 0,
+        };
     }
     let all = old + need as usize;
-    list_free(img, work, v, kind, old, all) == all
+    let l = list_free(img, work, v, kind, old, all);
+    Growth {
+        enough: l.count == all,
+        looked: l.looked,
+    }
 }
 
 // The n numbers behind the first `from` become the first n.
@@ -157,25 +168,34 @@ fn relocate(
 }
 
 // Moves a stream to the other side of the cutoff, if there is room for it.
-pub fn move_stream(img: &mut [u8], work: &mut [u32], v: Volume, e: Object, new: u64) -> Answer
+pub fn move_stream(img: &mut [u8], work: &mut [u32], v: Volume, e: Object, new: u64) -> Change
     requires { ⌜ Open v (now img) (now work) ⌝ }
     requires { ⌜ StreamAt (volumeIn v (now img)) e ⌝ }
     requires { ⌜ crosses (e .size) new ≡ true ⌝ }
-    ensures { λ r. ⌜ numberOf r ≡ lengthAnswer (geometryOf (v .tables .geometry)) (volumeIn v (now (img .entry))) (e .size) new ⌝ }
+    ensures { λ r. ⌜ numberOf (r .answer) ≡ lengthAnswer (geometryOf (v .tables .geometry)) (volumeIn v (now (img .entry))) (e .size) new ⌝ }
     ensures { λ r. ⌜ now (img .exit)
-        ≡ onZero (numberOf r) (moved (geometryOf (v .tables .geometry)) (now (img .entry)) (e .id .0) new) (now (img .entry)) ⌝ }
+        ≡ onZero (numberOf (r .answer)) (moved (geometryOf (v .tables .geometry)) (now (img .entry)) (e .id .0) new) (now (img .entry)) ⌝ }
     ensures { λ _. ⌜ Wrote (now (work .entry)) (now (work .exit)) 0 (v .stream) ⌝ }
+    ensures { λ r. ⌜ r .looked ≡ cellsLooked (lengthSearches (volumeIn v (now (img .entry))) (e .id .0) new) ⌝ }
+    ensures { λ r. ⌜ r .looked ≤ spaceFor (volumeIn v (now (img .entry))) new .limit ⌝ }
 {
     let from = kind_for(e.size);
     let to = kind_for(new);
     let old = units_for(e.size, unit_bytes(v, from) as u64) as usize;
     let need = units_for(new, unit_bytes(v, to) as u64);
     let first = start_unit(img, place(work, v.directory, e.id), from);
-    if !gather_across(img, work, v, first, old, to, need) {
-        return Answer::Refused(Refusal::TooFewFree);
+    let g = gather_across(img, work, v, first, old, to, need);
+    if !g.enough {
+        return Change {
+            answer: Answer::Refused(Refusal::TooFewFree),
+            looked: g.looked,
+        };
     }
     let mut bytes = [0u8; 4096];
     let n = kept_bytes(e.size, new);
     relocate(img, work, v, e, old, need as usize, new, &mut bytes[..n]);
-    Answer::Done
+    Change {
+        answer: Answer::Done,
+        looked: g.looked,
+    }
 }

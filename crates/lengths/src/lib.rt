@@ -57,7 +57,9 @@ pub fn set_length_in(
         return Answer::Done;
     }
     if crossing(e.size, new_len) {
-        return move_stream(img, work, v, e, new_len);
+        let moved = move_stream(img, work, v, e, new_len);
+        return moved.answer;
     }
-    change_length(img, work, v, e, new_len)
+    let changed = change_length(img, work, v, e, new_len);
+    changed.answer
 }

@@ -66,7 +66,7 @@ set-length-in-spec =
     let k = eqb-true _ _ (sym (c .before .before .before .before .before .before .before .before .before .before .before .before .is-stream .ensures) ∙ not-false _ (c .before .before .before .before .before .before .before .before .before .before .before .if1 .left)) in
     let e = c .before .before .before .before .move-stream .ensures in
     let l = length-across (geometryOf (a .v .tables .geometry)) vol (a .img .now) (a .path .now) (a .new-len) _ _ (find-target vol (a .path .now) _ f k) (find-stream vol (a .path .now) _ f k .sized) (own-geometry _ _) (sym (c .before .before .before .before .before .before .before .before .crossing .ensures) ∙ c .before .before .before .before .before .before .before .if3 .taken) (e .0) (e .1 .0) in
-    (l .0, (l .1, e .1 .1)))  -- returns-4
+    (l .0, (l .1, e .1 .1 .0)))  -- returns-4
     (λ c κs.
     let p = c .before .before .before .before .before .before .before .before .before .before .before .before .before .before .before .before .before .before in
     let vol = volumeIn (p .args .v) (p .args .img .now) in
@@ -82,4 +82,4 @@ set-length-in-spec =
     let k = eqb-true _ _ (sym (c .before .before .before .before .before .before .before .before .before .before .before .before .is-stream .ensures) ∙ not-false _ (c .before .before .before .before .before .before .before .before .before .before .before .if1 .left)) in
     let e = c .before .before .before .before .change-length .ensures in
     let l = length-within (geometryOf (a .v .tables .geometry)) vol (a .img .now) (a .path .now) (a .new-len) _ _ (find-target vol (a .path .now) _ f k) (find-stream vol (a .path .now) _ f k .sized) (sym (c .before .before .before .before .before .before .before .before .crossing .ensures) ∙ c .before .before .before .before .before .before .before .if3 .left) (e .0) (e .1 .0) in
-    (l .0, (l .1, e .1 .1))))  -- returns-5
+    (l .0, (l .1, e .1 .1 .0))))  -- returns-5

@@ -9,6 +9,8 @@ use borrow.Author.Tests.{not-false}
 use Rattle.format.specs.Layout.Need.{roundUp}
 use Rattle.format.specs.Layout.Entry.{start}
 use Rattle.format.specs.Layout.Space.{freeUnits}
+use Rattle.format.specs.Layout.Stream.{spaceFor}
+use Rattle.format.specs.Calls.Search.{lengthSearches, cellsLooked}
 use Rattle.format.specs.Calls.Answer.{lengthAnswer}
 use Rattle.format.specs.Calls.Reply.{onZero}
 use Rattle.kinds.specs.Sizes.{geometryOf}
@@ -20,8 +22,10 @@ use Rattle.queries.proofs.Streams.{stream-start, stream-placed, stream-room}
 use Rattle.edits.proofs.Gathering.{gathered-ready}
 use Rattle.edits.proofs.Overwrites.{over-chain, over-units}
 use Rattle.lengths.specs.Listed.{BothListed}
-use Rattle.lengths.proofs.Crossings.{front-length, kinds-differ}
-use Rattle.lengths.proofs.MoveAnswers.{too-few, enough-free}
+use Rattle.edits.proofs.Growths.{growth-enough, growth-looked}
+use Rattle.edits.proofs.Looks.{length-most}
+use Rattle.lengths.proofs.Crossings.{front-length, kinds-differ, none-before}
+use Rattle.lengths.proofs.MoveAnswers.{too-few, enough-free, move-looked}
 use Rattle.lengths.proofs.across.move_stream.Statement.{statement}
 use Rattle.lengths.proofs.across.move_stream.Tie as tie
 
@@ -48,27 +52,37 @@ first c =
 
 -- what gathering says, of the kinds that are known
 answered : (c : tie.After-gather-across) → let a = c .before .before .before .before .before .before .before .before .before .before .before .before .before .before .before .args in
-    c .gather-across .result ≡ not (ltb (length (freeUnits (spaceAt (a .v) (a .img .now) (kindFor (a .new))))) (c .before .before .before .before .before .before .before .units-for2 .result))
-answered c = rw (c .before .before .before .before .before .before .before .before .before .before .before .kind-for2 .ensures) at (c .gather-across .ensures .0)
+    c .gather-across .result .enough ≡ not (ltb (length (freeUnits (spaceAt (a .v) (a .img .now) (kindFor (a .new))))) (c .before .before .before .before .before .before .before .units-for2 .result))
+answered c =
+    let p = c .before .before .before .before .before .before .before .before .before .before .before .before .before .before .before in
+    (rw (c .before .before .before .before .before .before .before .before .before .before .before .kind-for2 .ensures) at (growth-enough _ _ _ (c .gather-across .ensures .0))) ∙ sym (none-before (length (freeUnits (spaceAt (p .args .v) (p .args .img .now) (kindFor (p .args .new))))) (c .before .before .before .before .before .before .before .units-for2 .result))
 
-enough : (c : tie.Else1) → let a = c .before .before .before .before .before .before .before .before .before .before .before .before .before .before .before .before .before .before .args in
-    (c .before .before .before .before .before .before .before .before .before .before .units-for2 .result ≤ length (freeUnits (spaceAt (a .v) (a .img .now) (kindFor (a .new)))))
+-- and of the cells looked at
+looked : (c : tie.After-gather-across) → let a = c .before .before .before .before .before .before .before .before .before .before .before .before .before .before .before .args in let vol = volumeIn (a .v) (a .img .now) in
+    (c .gather-across .result .looked ≡ cellsLooked (lengthSearches vol (a .e .id .0) (a .new))) × (c .gather-across .result .looked ≤ spaceFor vol (a .new) .limit)
+looked c =
+    let p = c .before .before .before .before .before .before .before .before .before .before .before .before .before .before .before in
+    let n = (rw (c .before .before .before .before .before .before .before .before .before .before .before .kind-for2 .ensures) at (growth-looked _ _ _ (c .gather-across .ensures .0))) ∙ move-looked (p .pre .0) (p .pre .1 .0) (p .args .new) (p .pre .1 .1) _ (wanted (c .before .before .before .before .before .before .before)) in
+    (n, omega (arith, n, length-most (volumeIn (p .args .v) (p .args .img .now)) (p .args .e .id .0) (p .args .new)))
+
+enough : (c : tie.Else1) → let a = c .before .before .before .before .before .before .before .before .before .before .before .before .before .before .before .before .before .before .before .args in
+    (c .before .before .before .before .before .before .before .before .before .before .before .units-for2 .result ≤ length (freeUnits (spaceAt (a .v) (a .img .now) (kindFor (a .new)))))
     × (0 ≡ lengthAnswer (geometryOf (a .v .tables .geometry)) (volumeIn (a .v) (a .img .now)) (a .e .size) (a .new))
 enough c =
-    let p = c .before .before .before .before .before .before .before .before .before .before .before .before .before .before .before .before .before .before in
-    enough-free (p .pre .0) (p .pre .1 .0) (p .args .new) (p .pre .1 .1) _ (wanted (c .before .before .before .before .before .before .before .before .before .before)) (answered (c .before .before .before)) (c .if1 .left)
+    let p = c .before .before .before .before .before .before .before .before .before .before .before .before .before .before .before .before .before .before .before in
+    enough-free (p .pre .0) (p .pre .1 .0) (p .args .new) (p .pre .1 .1) _ (wanted (c .before .before .before .before .before .before .before .before .before .before .before)) (answered (c .before .before .before .before)) (c .if1 .left)
 
 -- what stands listed then
-listed : (c : tie.Else1) → let a = c .before .before .before .before .before .before .before .before .before .before .before .before .before .before .before .before .before .before .args in
-    BothListed (a .v) (a .img .now) (c .before .before .before .gather-across .last .1 .0) (a .e) (a .new) (c .before .before .before .before .before .before .before .before .before .before .before .before .units-for .result) (c .before .before .before .before .before .before .before .before .before .before .units-for2 .result)
+listed : (c : tie.Else1) → let a = c .before .before .before .before .before .before .before .before .before .before .before .before .before .before .before .before .before .before .before .args in
+    BothListed (a .v) (a .img .now) (c .before .before .before .before .gather-across .last .1 .0) (a .e) (a .new) (c .before .before .before .before .before .before .before .before .before .before .before .before .before .units-for .result) (c .before .before .before .before .before .before .before .before .before .before .before .units-for2 .result)
 listed c =
-    let p = c .before .before .before .before .before .before .before .before .before .before .before .before .before .before .before .before .before .before in
-    let g = c .before .before .before in
+    let p = c .before .before .before .before .before .before .before .before .before .before .before .before .before .before .before .before .before .before .before in
+    let g = c .before .before .before .before in
     let f = first (g .before .before .before) in
-    let m = many (c .before .before .before .before .before .before .before .before .before .before .before .before) in
+    let m = many (c .before .before .before .before .before .before .before .before .before .before .before .before .before) in
     record {
       many = m;
-      wanted = wanted (c .before .before .before .before .before .before .before .before .before .before);
+      wanted = wanted (c .before .before .before .before .before .before .before .before .before .before .before);
       own = (rw (f .0, f .1) at (g .gather-across .ensures .1 .0)) ∙ over-units (p .pre .0) (p .pre .1 .0) _ m;
       free = rw (g .before .before .before .before .before .before .before .before .before .before .before .kind-for2 .ensures) at (g .gather-across .ensures .1 .1 .0 (not-false _ (c .if1 .left)));
       enough = enough c .0;
@@ -99,16 +113,16 @@ move-stream-spec =
     (λ c. search needs)  -- same-length
     (λ c. search needs)  -- same-length-2
     (λ c.
-    let p = c .before .before .before .before .before .before .before .before .before .before .before .before .before .before .before .before .before .before in
-    let g = c .before .before .before in
-    (too-few (p .pre .0) (p .pre .1 .0) (p .args .new) (p .pre .1 .1) _ (wanted (c .before .before .before .before .before .before .before .before .before .before)) (answered g) (c .if1 .taken), (refl, g .gather-across .ensures .1 .1 .1)))  -- returns
-    (λ c κs. c .before .before .before .before .before .before .before .before .before .before .before .before .before .before .before .before .before .before .pre .1 .1)  -- kept-bytes-requires
+    let p = c .before .before .before .before .before .before .before .before .before .before .before .before .before .before .before .before .before .before .before in
+    let g = c .before .before .before .before in
+    (too-few (p .pre .0) (p .pre .1 .0) (p .args .new) (p .pre .1 .1) _ (wanted (c .before .before .before .before .before .before .before .before .before .before .before)) (answered g) (c .if1 .taken), (refl, (g .gather-across .ensures .1 .1 .1 .0, looked g))))  -- returns
+    (λ c κs. c .before .before .before .before .before .before .before .before .before .before .before .before .before .before .before .before .before .before .before .pre .1 .1)  -- kept-bytes-requires
     (λ c. omega (arith, c .before .before .kept-bytes .ensures .1))  -- array-borrow-prefix-bytes
     (λ c. front-length _ (c .before .before .before .kept-bytes .ensures .1))  -- slice-aggregate-relocate
     (λ c κs.
-    let p = c .before .before .before .before .before .before .before .before .before .before .before .before .before .before .before .before .before .before .before .before .before .before in
+    let p = c .before .before .before .before .before .before .before .before .before .before .before .before .before .before .before .before .before .before .before .before .before .before .before in
     let e = c .before .before .before .before in (
-      record { ready = gathered-ready (p .pre .0 .ready) (e .before .before .before .gather-across .ensures .1 .1 .1); groups = p .pre .0 .groups },
+      record { ready = gathered-ready (p .pre .0 .ready) (e .before .before .before .before .gather-across .ensures .1 .1 .1 .0); groups = p .pre .0 .groups },
       (p .pre .1 .0, (p .pre .1 .1, (listed e, sym (front-length _ (c .before .before .before .kept-bytes .ensures .1)) ∙ c .before .before .before .kept-bytes .ensures .0))),
     ))  -- relocate-requires
     (λ c. search needs)  -- same-length-3
@@ -116,4 +130,5 @@ move-stream-spec =
     (λ c.
     let e = c .before .before .before .before .before .before .before .before .before .before in
     let r = c .before .before .before .before .before .relocate .ensures in
-    (enough e .1, (r .0, wrote-two (e .before .before .before .gather-across .ensures .1 .1 .1) (r .1 .1)))))  -- returns-2
+    let g = e .before .before .before .before in
+    (enough e .1, (r .0, (wrote-two (g .gather-across .ensures .1 .1 .1 .0) (r .1 .1), looked g)))))  -- returns-2
