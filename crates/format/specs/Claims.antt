@@ -2,3 +2,6 @@
 pub mod Folding
 pub mod FoldingPaths
 pub mod Search
+pub mod PathOrder
+pub mod ListingText
+pub mod Listing

@@ -6,8 +6,10 @@ pub mod Space
 pub mod Header
 pub mod Tables
 pub mod Name
+pub mod PathOrder
 pub mod Entry
 pub mod Directory
 pub mod Tree
 pub mod Volume
+pub mod Objects
 pub mod Stream

@@ -15,3 +15,4 @@ pub mod Crossings
 pub mod Searches
 pub mod Listings
 pub mod Histories
+pub mod Objects

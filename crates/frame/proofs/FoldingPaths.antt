@@ -22,8 +22,7 @@ use Rattle.format.specs.Calls.Answer.{firstOf, target, targetAnswer, answerIn, 
 use Rattle.format.specs.Calls.Reply.{plain, onZero, done, replyBy}
 use Rattle.format.specs.Claims.Folding.{formerVerdict, steadyUnit, steadyNames, plainUnit}
 use Rattle.format.specs.Claims.FoldingPaths.{formerEqual, formerChild, formerEnter, formerDescend, formerResolve, formerStream, formerAnswerIn, formerAnswer, formerDone, formerReply, pathOf, KeepsReply, PlainKeepsReply}
-use Rattle.theory.proofs.Tests.{both, and-true-of}
-use Rattle.theory.proofs.Trees.Lists.{all-weaker}
+use Rattle.theory.proofs.Tests.{both, and-true-of, all-weaker}
 use Rattle.theory.proofs.Folding.{fold-same, steady, node-apart, forest-steady, keeps-verdict, plain-steady, names-steady}
 use Rattle.frame.proofs.Accepted.{verdict-kept}
 

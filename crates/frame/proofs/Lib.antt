@@ -28,3 +28,4 @@ pub mod Resizing
 pub mod Versions
 pub mod Final
 pub mod FoldingPaths
+pub mod Bounds

@@ -10,7 +10,7 @@ use Rattle.format.specs.Layout.Name.{Name, nameEqual}
 use Rattle.format.specs.Layout.Entry.{name, isStream}
 use Rattle.format.specs.Layout.Directory.{Directory}
 use Rattle.format.specs.Layout.Tree.{Forest, empty, broken, node, entries}
-use Rattle.format.specs.History.Rows.{samePath}
+use Rattle.format.specs.Layout.PathOrder.{samePath}
 use Rattle.theory.proofs.Counts.{count-append}
 
 -- ---- what is left of the wanted names after some names: none fits, or the rest

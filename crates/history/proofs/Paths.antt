@@ -41,7 +41,7 @@ is-empty-says empty h = refl
 is-empty-says broken h = absurd (clash h refl)
 is-empty-says (node l e b r) h = absurd (clash h refl)
 
-leaf-empty : (d : Directory) (l : Forest) (e : ℕ) (b r : Forest) → streamIsLeaf d l e b r ≡ true → isStream (d .entry e) ≡ true → b ≡ empty
+pub leaf-empty : (d : Directory) (l : Forest) (e : ℕ) (b r : Forest) → streamIsLeaf d l e b r ≡ true → isStream (d .entry e) ≡ true → b ≡ empty
 unfolding streamIsLeaf
 leaf-empty d l e b r h st = is-empty-says b (rw st at h)
 
@@ -160,7 +160,7 @@ grow-leaf d h (suc depth) x =
     (λ m. node-every (streamIsLeaf d) l x b r (leaf-of-empty d l x b r (λ st. ap (grow d depth) (h x m st) ∙ grow-nostream d depth))
     (grow-leaf d h depth (left (d .entry x))) (grow-leaf d h depth (child (d .entry x))) (grow-leaf d h depth (right (d .entry x))))
 
-forest-leaf : (d : Directory) → ((x : ℕ) → named d x ≡ true → isStream (d .entry x) ≡ true → child (d .entry x) ≡ NOSTREAM) → everyNode (streamIsLeaf d) (forest d) ≡ true
+pub forest-leaf : (d : Directory) → ((x : ℕ) → named d x ≡ true → isStream (d .entry x) ≡ true → child (d .entry x) ≡ NOSTREAM) → everyNode (streamIsLeaf d) (forest d) ≡ true
 unfolding forest
 forest-leaf d h = grow-leaf d h (d .count) (child (d .entry 0))
 

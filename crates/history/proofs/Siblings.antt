@@ -44,7 +44,7 @@ no-sibling-hits d n ns (node l y b r) h =
       no-sibling-hits d n ns r (λ x q. h x (omega (arith, count-append x (siblings l) (y ∷ siblings r)))),
     )
 
-no-sibling-child : (d : Directory) (n : Name) (t : Forest) → ((x : ℕ) → 0 < count x (siblings t) → nameEqual n (name (d .entry x)) ≡ false) → childNamed d n t ≡ missing
+pub no-sibling-child : (d : Directory) (n : Name) (t : Forest) → ((x : ℕ) → 0 < count x (siblings t) → nameEqual n (name (d .entry x)) ≡ false) → childNamed d n t ≡ missing
 unfolding childNamed siblings orElse
 no-sibling-child d n empty h = refl
 no-sibling-child d n broken h = refl
@@ -99,14 +99,14 @@ unfoldable pub childHits : Directory → List Name → Child → List ℕ
 childHits d ns missing = []
 childHits d ns (present y b) = cond (isStream (d .entry y) && isNone ns) (y ∷ []) [] ++ hits d (rest ns) b
 
-ordered-left : (d : Directory) (l : Forest) (y : ℕ) (b r : Forest) → sidesOrdered d l y b r ≡ true → (x : ℕ) → 0 < count x (siblings l) →
+pub ordered-left : (d : Directory) (l : Forest) (y : ℕ) (b r : Forest) → sidesOrdered d l y b r ≡ true → (x : ℕ) → 0 < count x (siblings l) →
     nameLess (name (d .entry x)) (name (d .entry y)) ≡ true
 unfolding sidesOrdered greater less
 ordered-left d l y b r h x q =
     all-at (greater d y) (siblings l)
     (both (all (greater d y) (siblings l)) (all (less d y) (siblings r)) h .0) x q
 
-ordered-right : (d : Directory) (l : Forest) (y : ℕ) (b r : Forest) → sidesOrdered d l y b r ≡ true → (x : ℕ) → 0 < count x (siblings r) →
+pub ordered-right : (d : Directory) (l : Forest) (y : ℕ) (b r : Forest) → sidesOrdered d l y b r ≡ true → (x : ℕ) → 0 < count x (siblings r) →
     nameLess (name (d .entry y)) (name (d .entry x)) ≡ true
 unfolding sidesOrdered greater less
 ordered-right d l y b r h x q =

@@ -1,2 +1,3 @@
--- The claim on one image.
+-- The claims on one image.
 pub mod Witness
+pub mod Listing

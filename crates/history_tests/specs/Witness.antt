@@ -12,7 +12,7 @@ use Rattle.format_tests.specs.Opened.{opened}
 use Rattle.format_tests.specs.Images.{smallAndLarge, built}
 use Rattle.history.proofs.Demand3.{demand3}
 
-accepted : Accepted (versionOf smallAndLarge) smallAndLarge
+pub accepted : Accepted (versionOf smallAndLarge) smallAndLarge
 unfolding opened built
 accepted = refl
 

@@ -27,8 +27,7 @@ use Rattle.format.specs.Rules.Streams.{streamRules}
 use Rattle.format.specs.Rules.Owners.{ownerRules}
 use Rattle.format.specs.Rules.Verdict.{check, volumeGroups, groups, verdict}
 use Rattle.format.specs.Claims.Folding.{formerFold, formerLess, formerBefore, formerAfter, formerSides, formerTrees, formerLate, formerVerdict, steadyUnit, steadyName, steadyNames, plainUnit, plainName, plainNames, KeepsVerdict, PlainKeepsVerdict}
-use Rattle.theory.proofs.Tests.{both, neither, or-only, below-at, below-of, all-append}
-use Rattle.theory.proofs.Trees.Lists.{all-weaker}
+use Rattle.theory.proofs.Tests.{both, neither, or-only, below-at, below-of, all-append, all-weaker}
 use Rattle.theory.proofs.ByteTests.{zero-number, zero-split}
 
 -- ---- names

@@ -11,24 +11,30 @@ use Rattle.format.specs.Layout.Tree.{Forest, forest}
 use Rattle.format.specs.Calls.Paths.{Path, names, wellFormed}
 use Rattle.format.specs.Calls.Find.{Child, missing, present, childNamed, Found, at, refused, descend, resolve, needStream, resolveStream, enter, foundChild}
 
+-- found, or refused by a number that P holds of
+abbrev pub RefusedBy : (ℕ → Type 0) → Found → Type 0
+RefusedBy P (at e b) = Unit {0}
+RefusedBy P (refused a) = P a
+
+module _ (P : ℕ → Type 0) (absent : P 21) (on-the-way : P 22) (d : Directory) where
+  enter-refused-by : (f : Found) (n : Name) → RefusedBy P f → RefusedBy P (enter d f n)
+  unfolding enter foundChild
+  enter-refused-by (refused a) n h = h
+  enter-refused-by (at e b) n h = go (isStream (d .entry e)) (childNamed d n b)
+    where
+      go : (st : Bool) (k : Child) → RefusedBy P (cond st (refused 22) (foundChild k))
+      go true k = on-the-way
+      go false missing = absent
+      go false (present y b) = tt
+
+  -- the names of a path are refused by 21 and 22 alone
+  pub descend-refused-by : (ns : List Name) (f : Found) → RefusedBy P f → RefusedBy P (descend d f ns)
+  unfolding descend
+  descend-refused-by [] f h = h
+  descend-refused-by (n ∷ ns) f h = descend-refused-by ns (enter d f n) (enter-refused-by f n h)
+
 abbrev pub RefusedLow : Found → Type 0
-RefusedLow (at e b) = Unit {0}
-RefusedLow (refused a) = (20 ≤ a) × (a ≤ 23)
-
-enter-low : (d : Directory) (f : Found) (n : Name) → RefusedLow f → RefusedLow (enter d f n)
-unfolding enter foundChild
-enter-low d (refused a) n h = h
-enter-low d (at e b) n h = go (isStream (d .entry e)) (childNamed d n b)
-  where
-    go : (st : Bool) (k : Child) → RefusedLow (cond st (refused 22) (foundChild k))
-    go true k = (omega arith, omega arith)
-    go false missing = (omega arith, omega arith)
-    go false (present y b) = tt
-
-descend-low : (d : Directory) (ns : List Name) (f : Found) → RefusedLow f → RefusedLow (descend d f ns)
-unfolding descend
-descend-low d [] f h = h
-descend-low d (n ∷ ns) f h = descend-low d ns (enter d f n) (enter-low d f n h)
+RefusedLow f = RefusedBy (λ a. (20 ≤ a) × (a ≤ 23)) f
 
 need-stream-low : (d : Directory) (f : Found) → RefusedLow f → RefusedLow (needStream d f)
 unfolding needStream
@@ -44,7 +50,7 @@ unfolding resolve
 resolve-low d p = go (wellFormed p)
   where
     go : (t : Bool) → RefusedLow (cond t (descend d (at 0 (forest d)) (names p)) (refused 20))
-    go true = descend-low d (names p) (at 0 (forest d)) tt
+    go true = descend-refused-by (λ a. (20 ≤ a) × (a ≤ 23)) (omega arith, omega arith) (omega arith, omega arith) d (names p) (at 0 (forest d)) tt
     go false = (omega arith, omega arith)
 
 pub resolve-stream-low : (d : Directory) (p : Path) → RefusedLow (resolveStream d p)

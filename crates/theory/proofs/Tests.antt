@@ -1,14 +1,14 @@
 -- Tests that are true or false, and tests over the numbers below a limit and over lists.
 use mathlib.Core.Path.{_≡_, refl, sym, ap, ap₂, _∙_}
 use mathlib.Core.Logic.{inl, inr}
-use mathlib.Core.Bool.{Bool, true, false, not, cond, _&&_, _||_, Bool·beq, and-assoc, and-false}
+use mathlib.Core.Bool.{Bool, true, false, not, cond, _&&_, _||_, Bool·beq, and-assoc, or-assoc, and-false}
 use mathlib.Core.List.{List, [], _∷_, _++_}
 use Prim.Native.Nat.{ℕ, zero, suc, _≤_, _<_}
 use native.Mathlib.Omega.{arith}
 use native.Mathlib.Decide.{ℕ-discrete, decLt}
 use lib.Dec.{ltb, leb}
 use borrow.Author.Tests.{lt-ltb, le-ltb, le-leb, lt-leb}
-use Rattle.format.specs.Basics.Lists.{bit, count, allBelow, all}
+use Rattle.format.specs.Basics.Lists.{bit, count, allBelow, all, any}
 use Rattle.theory.proofs.Counts.{eqb-cases}
 
 -- ---- and, or
@@ -105,7 +105,24 @@ all-at p (x ∷ xs) t s h =
       | inr e ↦ all-at p xs (q .1) s (omega (arith, ap bit (e .1)))
     ]
 
-pub all-append : (p : ℕ → Bool) (xs ys : List ℕ) → all p (xs ++ ys) ≡ (all p xs && all p ys)
+pub all-append : {A : Type 0} (p : A → Bool) (xs ys : List A) → all p (xs ++ ys) ≡ (all p xs && all p ys)
 unfolding all
 all-append p [] ys = refl
 all-append p (x ∷ xs) ys = rw (all-append p xs ys) (sym (and-assoc (p x) (all p xs) (all p ys)))
+
+pub all-joined : {A : Type 0} (p : A → Bool) (xs ys : List A) → all p xs ≡ true → all p ys ≡ true → all p (xs ++ ys) ≡ true
+all-joined p xs ys h k = all-append p xs ys ∙ and-true-of (all p xs) (all p ys) h k
+
+pub all-weaker : {A : Type 0} (p q : A → Bool) → ((x : A) → p x ≡ true → q x ≡ true) → (xs : List A) → all p xs ≡ true → all q xs ≡ true
+unfolding all
+all-weaker p q h [] t = refl
+all-weaker p q h (x ∷ xs) t =
+    let u = both (p x) (all p xs) t in
+    and-true-of (q x) (all q xs) (h x (u .0)) (all-weaker p q h xs (u .1))
+
+-- ---- some element
+
+pub any-append : {A : Type 0} (p : A → Bool) (xs ys : List A) → any p (xs ++ ys) ≡ (any p xs || any p ys)
+unfolding any
+any-append p [] ys = refl
+any-append p (x ∷ xs) ys = rw (any-append p xs ys) (sym (or-assoc (p x) (any p xs) (any p ys)))

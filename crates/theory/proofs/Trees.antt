@@ -18,3 +18,5 @@ pub mod Verdict
 pub mod Names
 pub mod Find
 pub mod Paths
+pub mod PathOrder
+pub mod PathsRise

@@ -8,3 +8,4 @@ pub mod TreeViews
 pub mod TreeOrder
 pub mod TreeWalk
 pub mod TreeFind
+pub mod TreePaths

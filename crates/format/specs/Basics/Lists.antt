@@ -1,6 +1,6 @@
 -- Tests, selections and counts over the numbers below a limit and over lists. Nothing here knows of files.
 use Prim.Native.Nat.{ℕ, zero, suc, _+_, _-_}
-use mathlib.Core.Bool.{Bool, true, false, not, cond, _&&_}
+use mathlib.Core.Bool.{Bool, true, false, not, cond, _&&_, _||_}
 use mathlib.Core.List.{List, [], _∷_, _++_}
 use lib.Dec.{eqb, ltb}
 use lib.ListN.{length, take, replicate}
@@ -14,6 +14,11 @@ allBelow (suc n) p = allBelow n p && p n
 unfoldable pub all : {A : Type 0} → (A → Bool) → List A → Bool
 all p [] = true
 all p (x ∷ xs) = p x && all p xs
+
+-- some element passes the test
+unfoldable pub any : {A : Type 0} → (A → Bool) → List A → Bool
+any p [] = false
+any p (x ∷ xs) = p x || any p xs
 
 -- f 0, f 1 .. f (n - 1)
 unfoldable pub listBelow : {A : Type 0} → ℕ → (ℕ → A) → List A

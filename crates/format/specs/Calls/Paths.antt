@@ -1,7 +1,7 @@
 -- Paths: 16-bit units, the names parted by slashes ("What a path, a read and an edit do").
 use Prim.Native.Nat.{ℕ}
 use mathlib.Core.Bool.{Bool, cond}
-use mathlib.Core.List.{List, [], _∷_}
+use mathlib.Core.List.{List, [], _∷_, _++_}
 use lib.Dec.{eqb}
 use Rattle.format.specs.Basics.Lists.{all}
 use Rattle.format.specs.Layout.Name.{Name, slash, legalName}
@@ -23,6 +23,12 @@ split (u ∷ us) = cond (eqb u slash) ([] ∷ split us) (pushFront u (split us))
 unfoldable pub names : Path → List Name
 names [] = []
 names (u ∷ us) = split (u ∷ us)
+
+-- the path that has these names
+unfoldable pub joined : List Name → Path
+joined [] = []
+joined (n ∷ []) = n
+joined (n ∷ m ∷ ns) = n ++ (slash ∷ joined (m ∷ ns))
 
 -- each name is a legal one (it cannot hold a slash)
 unfoldable pub wellFormed : Path → Bool

@@ -1,16 +1,17 @@
 -- The rows of demand 3: one for each stream, its path and its bytes.
 use Prim.Native.Nat.{ℕ}
-use mathlib.Core.Bool.{Bool, true, false, cond, _&&_, _||_}
+use mathlib.Core.Bool.{Bool, false, cond, _||_}
 use mathlib.Core.List.{List, [], _∷_, _++_, map}
 use lib.ListN.{length}
 use Rattle.format.specs.Basics.Lists.{sum}
 use Rattle.format.specs.Basics.Bytes.{Bytes}
 use Rattle.format.specs.Layout.Geometry.{Geometry}
-use Rattle.format.specs.Layout.Name.{Name, nameEqual}
+use Rattle.format.specs.Layout.Name.{Name}
 use Rattle.format.specs.Layout.Entry.{name, isStream}
 use Rattle.format.specs.Layout.Tree.{Forest, empty, broken, node, forest}
 use Rattle.format.specs.Layout.Volume.{Volume, volume}
 use Rattle.format.specs.Layout.Stream.{contents}
+use Rattle.format.specs.Layout.PathOrder.{samePath}
 use Rattle.format.specs.Calls.Paths.{Path, names}
 
 -- the names from below the root down to the stream, and its bytes
@@ -35,12 +36,6 @@ unfoldable pub rowsOf : Geometry → Bytes → List Row
 rowsOf g img = rowsIn (volume g img) img [] (forest (volume g img .directory))
 
 -- ---- the row that a path means: the one whose names equal its own. On the rows of an accepted image there is at most one.
-
-unfoldable pub samePath : List Name → List Name → Bool
-samePath [] [] = true
-samePath [] (b ∷ bs) = false
-samePath (a ∷ more) [] = false
-samePath (a ∷ more) (b ∷ bs) = nameEqual a b && samePath more bs
 
 unfoldable pub means : Path → Row → Bool
 means p r = samePath (names p) (r .path)

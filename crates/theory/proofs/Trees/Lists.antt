@@ -7,7 +7,7 @@ use Prim.Native.Nat.{ℕ, zero, suc, _+_, _<_}
 use native.Mathlib.Omega.{arith}
 use Rattle.format.specs.Basics.Lists.{count, all}
 use Rattle.theory.proofs.Counts.{bit-self}
-use Rattle.theory.proofs.Tests.{clash, both, and-true-of}
+use Rattle.theory.proofs.Tests.{clash, and-true-of}
 
 -- two tests that imply each other are equal
 pub same-test : (a b : Bool) → (a ≡ true → b ≡ true) → (b ≡ true → a ≡ true) → a ≡ b
@@ -28,10 +28,3 @@ pub all-of : (p : ℕ → Bool) (xs : List ℕ) → ((x : ℕ) → 0 < count x x
 unfolding all
 all-of p [] h = refl
 all-of p (x ∷ xs) h = and-true-of (p x) (all p xs) (h x (omega (arith, bit-self x))) (all-of p xs (λ y q. h y (omega arith)))
-
-pub all-weaker : (p q : ℕ → Bool) → ((x : ℕ) → p x ≡ true → q x ≡ true) → (xs : List ℕ) → all p xs ≡ true → all q xs ≡ true
-unfolding all
-all-weaker p q h [] t = refl
-all-weaker p q h (x ∷ xs) t =
-    let u = both (p x) (all p xs) t in
-    and-true-of (q x) (all q xs) (h x (u .0)) (all-weaker p q h xs (u .1))

@@ -7,8 +7,8 @@ use Rattle.format.specs.Layout.Directory.{Directory}
 use Rattle.format.specs.Layout.Tree.{Forest, empty, broken, node, siblings}
 use Rattle.format.specs.Rules.Trees.{less, greater, sidesOrdered, everyNode}
 use Rattle.theory.specs.TreeOrder.{Ordered, lastOr, firstOr, lastLess, firstMore, neighboursOrdered}
-use Rattle.theory.proofs.Tests.{both, and-true-of}
-use Rattle.theory.proofs.Trees.Lists.{same-test, all-weaker}
+use Rattle.theory.proofs.Tests.{both, and-true-of, all-weaker}
+use Rattle.theory.proofs.Trees.Lists.{same-test}
 use Rattle.theory.proofs.Trees.Nodes.{everyNode-apart, everyNode-join}
 use Rattle.theory.proofs.Trees.Sides.{siblings-apart, siblings-join, last-passes, first-passes, Sorted, sorted-apart}
 

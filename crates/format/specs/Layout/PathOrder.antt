@@ -1,0 +1,18 @@
+-- When two paths are equal, and which comes first. Both go name by name, and small letters count as capitals, as in names. The order is the
+-- listing's: siblings as their names are ordered, and a path before all that is below it.
+use mathlib.Core.Bool.{Bool, true, false, _&&_, _||_}
+use mathlib.Core.List.{List, [], _∷_}
+use Rattle.format.specs.Layout.Name.{Name, nameLess, nameEqual}
+
+unfoldable pub samePath : List Name → List Name → Bool
+samePath [] [] = true
+samePath [] (b ∷ bs) = false
+samePath (a ∷ more) [] = false
+samePath (a ∷ more) (b ∷ bs) = nameEqual a b && samePath more bs
+
+-- the first name that differs decides; a beginning comes before what continues it
+unfoldable pub pathLess : List Name → List Name → Bool
+pathLess [] [] = false
+pathLess [] (b ∷ bs) = true
+pathLess (a ∷ more) [] = false
+pathLess (a ∷ more) (b ∷ bs) = nameLess a b || (nameEqual a b && pathLess more bs)

@@ -1,0 +1,4 @@
+-- What the laws of listings speak of, beside `format`.
+pub mod Search
+pub mod Leads
+pub mod Text
