@@ -10,6 +10,7 @@ pub mod effects;
 pub mod files;
 pub mod geometry;
 pub mod images;
+pub mod listed;
 pub mod model;
 pub mod number;
 pub mod random;

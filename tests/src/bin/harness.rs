@@ -1,13 +1,13 @@
-//! harness SEED [IMAGES [CALLS [LISTS]]]   all cases: random images to validate, random calls, random lists of calls, and
-//!                                         as many lists on opened volumes
+//! harness SEED [IMAGES [CALLS [LISTS]]]   all cases: random images to validate, random calls, random lists of calls, as
+//!                                         many lists on opened volumes, and listings read back, one for ten lists
 //! harness SEED only KIND NUMBER           one case again: KIND is fixed, samples, small, large, tables, calls, deep, filled,
-//!                                         lists, opened
+//!                                         lists, opened, listed
 
 use cfb_tests::breaks::uses::Uses;
 use cfb_tests::calls::{ANSWERS, CROSSINGS, OPENED_ANSWERS};
 #[cfg(feature = "edits")]
 use cfb_tests::cases::opened;
-use cfb_tests::cases::{Case, calls::Calls, deep, filled, fixed, large, lists, samples, small::Cases, tables};
+use cfb_tests::cases::{Case, calls::Calls, deep, filled, fixed, large, listed, lists, samples, small::Cases, tables};
 use cfb_tests::compare::Tally;
 
 /// So many random images use every break.
@@ -16,6 +16,8 @@ const ENOUGH: u64 = 100_000;
 const ENOUGH_CALLS: u64 = 20_000;
 /// With so many lists, too, every call on an opened volume.
 const ENOUGH_LISTS: u64 = 1_000;
+/// For so many lists one listing is read back and its paths are found, which takes some hundred calls.
+const LISTS_FOR_A_LISTING: u64 = 10;
 
 fn main() {
     let words: Vec<String> = std::env::args().skip(1).collect();
@@ -65,6 +67,9 @@ fn all(seed: u64, images: u64, calls: u64, list_count: u64) -> Tally {
     for number in 0..list_count {
         opened::run(seed, number, false, &mut tally);
     }
+    for number in 0..list_count / LISTS_FOR_A_LISTING {
+        listed::run(seed, number, false, &mut tally);
+    }
     report(&mut tally, &cases, images, calls, list_count);
     tally
 }
@@ -97,6 +102,10 @@ fn one(seed: u64, kind: &str, number: u64) -> Tally {
     let mut tally = Tally::new();
     if kind == "lists" {
         lists::run(seed, number, true, &mut tally);
+        return tally;
+    }
+    if kind == "listed" {
+        listed::run(seed, number, true, &mut tally);
         return tally;
     }
     if kind == "filled" {

@@ -7,6 +7,7 @@ pub mod filled;
 pub mod fixed;
 pub mod folding;
 pub mod large;
+pub mod listed;
 pub mod lists;
 pub mod mutate;
 pub mod names;
