@@ -102,7 +102,9 @@ uint32_t cfb_set_len(uint8_t *image, size_t image_len, uint32_t *work, size_t wo
  *     F 70 Site/Jets
  *
  * Siblings stand in the order of the file's trees: shorter names first. A unit that is no printable ASCII character prints as
- * '\' and four digits of base 16. A listing that does not fit answers 27. */
+ * '\' and four digits of base 16. No name has a '/' or a '\' in it, so the text can be read back. Every stream and every
+ * storage stands in it once, and no two paths are equal. cfb_find finds each with the type and size of its line; of all
+ * other paths, those that equal none of them, it finds the empty one alone. A listing that does not fit answers 27. */
 uint32_t cfb_list(const uint8_t *image, size_t image_len, uint32_t *work, size_t work_len, uint8_t *out, size_t out_len,
                   uint64_t *count);
 

@@ -115,7 +115,8 @@ pub fn set_len(image: &mut [u8], work: &mut [u32], path: &[u16], new_len: u64) -
 /// ```
 ///
 /// Siblings stand in the order of the file's trees: shorter names first. A unit that is no printable ASCII character
-/// prints as `\` and four digits of base 16.
+/// prints as `\` and four digits of base 16. No name has a `/` or a `\` in it, so the text can be read back. Every stream
+/// and every storage stands in it once, and [`find`] gives the type and size of its line.
 ///
 /// Refusals: 27, where the listing is longer than the out buffer. How long it is the call does not say: try a longer one.
 pub fn list(image: &[u8], work: &mut [u32], out: &mut [u8]) -> Result<usize, Refusal> {
