@@ -1,10 +1,12 @@
-"""What an overwrite and a change of length do to an image, byte by byte, worked out from 01 and 02.
+"""What an overwrite, a change of length, a creation and a removal do to an image, byte by byte, worked out from 01 and 02.
 
 Nothing is judged here: the image is an accepted one of at most 109 FAT sectors."""
 import struct
-from images import END, FREE, version
+from images import BLACK, END, FREE, NONE, STORAGE, STREAM, entry as entry_bytes, version
+from letters import order
 
 SECTORS, MINIS = 0, 1
+TYPE, COLOUR, LEFT, RIGHT, CHILD = 66, 67, 68, 72, 76
 
 
 class Edited:
@@ -134,3 +136,88 @@ class Edited:
             chain.append(unit)
         for i in range(old, count * self.unit_bytes[kind]):
             self.bytes[self.byte_at(kind, chain, i)] = 0
+
+    # ---- creation and removal (02, W-203) in a storage or the root, by entry numbers; they give the number of the answer
+
+    def type(self, entry):
+        return self.bytes[self.entry_at(entry) + TYPE]
+
+    def link(self, entry, field):
+        return self.word(self.entry_at(entry) + field)
+
+    def relink(self, entry, field, target):
+        self.put("<I", self.entry_at(entry) + field, target)
+
+    def name(self, entry):
+        at = self.entry_at(entry)
+        return bytes(self.bytes[at:at + self.bytes[at + 64] - 2]).decode("utf-16-le")
+
+    def write_entry(self, entry, new):
+        at = self.entry_at(entry)
+        self.bytes[at:at + 128] = new
+
+    def blanks(self):
+        return [e for e in range(self.g.entries * len(self.directory)) if self.type(e) == 0]
+
+    def tree(self, top):
+        """A tree of siblings: none, or its left side, its top and its right side."""
+        return (self.tree(self.link(top, LEFT)), top, self.tree(self.link(top, RIGHT))) if top != NONE else None
+
+    def create(self, holder, name, kind):
+        """The lowest blank entry becomes a stream or a storage, and a leaf at its place in the holder's tree."""
+        at, field, below = holder, CHILD, self.link(holder, CHILD)
+        while below != NONE:
+            if order(name) == order(self.name(below)):
+                return 29
+            at, field = below, LEFT if order(name) < order(self.name(below)) else RIGHT
+            below = self.link(at, field)
+        if not self.blanks():
+            return 30
+        new = self.blanks()[0]
+        self.write_entry(new, entry_bytes(name, kind))
+        self.relink(at, field, new)
+        return 0
+
+    def remove(self, holder, entry):
+        """A stream is cut to 0; the holder's tree without it is black, and the entry is blank."""
+        if self.type(entry) == STORAGE and self.link(entry, CHILD) != NONE:
+            return 28
+        if entry == 0:
+            return 31
+        if self.type(entry) == STREAM:
+            self.set_length(entry, 0)
+        left = without(self.tree(self.link(holder, CHILD)), entry)
+        self.relink(holder, CHILD, top(left))
+        self.rewrite(left)
+        self.write_entry(entry, entry_bytes())
+        return 0
+
+    def rewrite(self, tree):
+        """Each of a tree is black, and has its links."""
+        if tree:
+            left, entry, right = tree
+            self.bytes[self.entry_at(entry) + COLOUR] = BLACK
+            self.relink(entry, LEFT, top(left))
+            self.relink(entry, RIGHT, top(right))
+            self.rewrite(left)
+            self.rewrite(right)
+
+
+def top(tree):
+    return tree[1] if tree else NONE
+
+
+def members(tree):
+    return members(tree[0]) + [tree[1]] + members(tree[2]) if tree else []
+
+
+def without(tree, entry):
+    """The tree without one of its entries. In its place is what stood on its only side; else the greatest of its left side, which leaves its own place in
+    the same way."""
+    left, here, right = tree
+    if here != entry:
+        return (without(left, entry), here, right) if entry in members(left) else (left, here, without(right, entry))
+    if not (left and right):
+        return left or right
+    heir = members(left)[-1]
+    return without(left, heir), heir, right

@@ -2,38 +2,54 @@
 
 What the program reads, all numbers little-endian: groups of an image's length and its number of calls (4 bytes each), the image, the calls. A
 call is its kind, the units of its path, the numbers of its work buffer, the bytes of its buffer, how many of those are given (4 bytes each), and
-an offset or a length (8 bytes); then the path's units and the given bytes. Kinds: 0 validate, 1 find, 2 read, 3 list, 4 overwrite, 5 set length;
-4 writes all bytes of its buffer, all given, and 5 has no buffer. The other bytes of a buffer are 90, and a work buffer is all 7.
+an offset or a length (8 bytes); then the path's units and the given bytes. Kinds: 0 validate, 1 find, 2 read, 3 list, 4 overwrite, 5 set length, 6 create
+stream, 7 create storage, 8 remove; 4 writes all bytes of its buffer, all given, and those behind it have no buffer. The other bytes of a buffer are 90, and
+a work buffer is all 7.
 
 What it prints for each call: number, entry, type, size, count, how many numbers of the work buffer are 0, and digests of the buffer and of the image.
 Of a kind that there is not it prints `unknown`, and ends."""
 import functools
+import itertools
+import operator
 import struct
 from edits import Edited
+from letters import order
+from plain import Reader
+from plans import printed
 
-VALIDATE, FIND, READ, LIST, OVERWRITE, SET_LENGTH = range(6)
+VALIDATE, FIND, READ, LIST, OVERWRITE, SET_LENGTH, CREATE_STREAM, CREATE_STORAGE, REMOVE = range(9)
 STORAGE, STREAM, ROOT = 1, 2, 5
+
+
+# of 16777619, modulo 2 ** 32
+POWERS = list(itertools.accumulate(itertools.repeat(16777619, 65536), lambda h, base: h * base % 2 ** 32, initial=1))
 
 
 @functools.lru_cache(maxsize=64)
 def digest(b):
-    h = 1
-    for x in b:
-        h = (h * 16777619 + x) % 2 ** 32
-    return h
+    """From 1 on, each byte is added to 16777619 times what there is; all modulo 2 ** 32."""
+    return (POWERS[len(b)] + sum(map(operator.mul, reversed(b), POWERS))) % 2 ** 32
 
 
 def units(path):
     return path.encode("utf-16-le")
 
 
+def folded(path):
+    """What a path is compared by, and listed."""
+    return [order(name) for name in path.split("/")]
+
+
 class Group:
-    """Calls on one image, with their lines. `rows` has each stream's bytes by the calls so far, `image` the image's."""
+    """Calls on one image, with their lines. By the calls so far, `rows` has each stream's bytes, `entries` each path's entry number, `storages` the paths of
+    storages, and `image` the image's bytes."""
 
     def __init__(self, plan=None, img=None):
         self.plan = plan
         self.first = self.image = plan.image if plan else img
         self.rows = dict(plan.streams) if plan else {}
+        self.entries = dict(plan.entries) if plan else {}
+        self.storages = set(plan.storages) if plan else set()
         self.edited = Edited(plan.image) if plan else None
         self.calls, self.lines = [], []
 
@@ -53,17 +69,25 @@ class Group:
 
     def finds(self, path, spelled=None):
         spelled = path if spelled is None else spelled
-        kind = ROOT if spelled == "" else STORAGE if spelled in self.plan.storages else STREAM
+        kind = ROOT if spelled == "" else STORAGE if spelled in self.storages else STREAM
         size = self.plan.g.size(self.plan.root) if kind == ROOT else len(self.rows.get(spelled, b""))
-        self.call(FIND, 0, path, entry=self.plan.entries[spelled], type=kind, size=size)
+        self.call(FIND, 0, path, entry=self.entries[spelled], type=kind, size=size)
 
     def reads(self, path, place, room, spelled=None):
         got = self.rows[spelled or path][place:place + room]
         self.call(READ, 0, path, place=place, room=room, count=len(got), left=got)
 
     def lists(self, room):
-        listing = self.plan.listed(self.rows)
+        listing = self.listed()
+        assert len(listing) <= room
         self.call(LIST, 0, room=room, count=len(listing), left=listing)
+
+    def listed(self):
+        """The listing: paths in order, a storage before all that is below it."""
+        paths = sorted((p for p in self.entries if p), key=folded)
+        kinds = ["D 0" if p in self.storages else "F %d" % len(self.rows[p]) for p in paths]
+        shown = ["/".join(printed(n) for n in p.split("/")) for p in paths]
+        return ("objects %d\n" % len(paths) + "".join("%s %s\n" % line for line in zip(kinds, shown))).encode()
 
     # ---- refusals
 
@@ -81,7 +105,7 @@ class Group:
     def overwrite(self, path, place, given, number, spelled=None, **more):
         spelled = spelled or path
         if number in (0, 24):
-            assert number == self.edited.overwrite(self.plan.entries[spelled], place, given), (path, place)
+            assert number == self.edited.overwrite(self.entries[spelled], place, given), (path, place)
         if number == 0:
             row = self.rows[spelled]
             self.became(spelled, row[:place] + given + row[place + len(given):])
@@ -90,18 +114,59 @@ class Group:
     def resize(self, path, length, number, spelled=None, **more):
         spelled = spelled or path
         if number in (0, 26):
-            assert number == self.edited.set_length(self.plan.entries[spelled], length), (path, length)
+            assert number == self.edited.set_length(self.entries[spelled], length), (path, length)
         if number == 0:
             row = self.rows[spelled]
             self.became(spelled, row[:length] + bytes(max(0, length - len(row))))
         self.call(SET_LENGTH, number, path, place=length, **more)
 
+    def create(self, kind, path, number, **more):
+        """A stream or a storage of this path; the names before the last may be spelled otherwise. Their spelling is kept, and that of the last."""
+        if number in (0, 29, 30) and path:
+            before, _, name = path.rpartition("/")
+            above = self.spelled(before)
+            assert number == self.edited.create(self.entries[above], name, STREAM if kind == CREATE_STREAM else STORAGE), path
+        if number == 0:
+            made = (above + "/" if above else "") + name
+            self.entries[made] = min(set(range(1, len(self.entries) + 1)) - set(self.entries.values()))
+            if kind == CREATE_STREAM:
+                self.rows[made] = b""
+            else:
+                self.storages.add(made)
+            self.rearranged()
+        self.call(kind, number, path, **more)
+
+    def remove(self, path, number, **more):
+        if number in (0, 28, 31):
+            spelled = self.spelled(path)
+            above = spelled.rpartition("/")[0]
+            assert number == self.edited.remove(self.entries[above], self.entries[spelled]), path
+        if number == 0:
+            del self.entries[spelled]
+            self.rows.pop(spelled, None)
+            self.storages.discard(spelled)
+            self.rearranged()
+        self.call(REMOVE, number, path, **more)
+
+    def spelled(self, path):
+        """The path as the objects on it are spelled."""
+        return next(p for p in self.entries if folded(p) == folded(path))
+
     def became(self, spelled, row):
-        """After an edit the image holds every row."""
         self.rows[spelled] = row
+        self.edit_done()
+
+    def edit_done(self):
+        """After an edit the image holds every row."""
         self.image = bytes(self.edited.bytes)
-        for path, r in self.rows.items():
-            assert r == self.edited.contents(self.plan.entries[path]), path
+        for path, row in self.rows.items():
+            assert row == self.edited.contents(self.entries[path]), path
+
+    def rearranged(self):
+        """After a creation or a removal too. The image lists what is there, and all other entries are blank."""
+        self.edit_done()
+        assert self.listed() == Reader(self.image).listing()
+        assert sorted(self.edited.blanks() + list(self.entries.values())) == list(range(self.plan.g.entries * len(self.edited.directory)))
 
     def shows(self, path):
         """The size and bytes of a stream as find and read give them."""

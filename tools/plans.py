@@ -20,10 +20,11 @@ class Plan:
 
     Units are dealt out in an order that the seed shuffles, so that chains wander; `free` and `free_minis` units are left over. The byte `waste`
     stands wherever nothing is stored and nothing is judged: in free units, behind a stream's end and a name's, in a stream's state bits. `upper` has
-    the upper half of the sizes of streams and of the root, by path, where it is not zero. `g` has the sizes of the image's version."""
+    the upper half of the sizes of streams and of the root, by path, where it is not zero. `blank_sectors` are directory sectors beyond those that the
+    objects need. `g` has the sizes of the image's version."""
 
-    def __init__(self, tree, free=0, free_minis=0, seed=1, waste=0, fat=0, upper={}, g=V3):
-        self.tree, self.waste, self.fat, self.upper, self.g = tree, bytes([waste]), fat, upper, g
+    def __init__(self, tree, free=0, free_minis=0, seed=1, waste=0, fat=0, upper={}, blank_sectors=0, g=V3):
+        self.tree, self.waste, self.fat, self.upper, self.blank_sectors, self.g = tree, bytes([waste]), fat, upper, blank_sectors, g
         self.entries, self.streams, self.storages = {"": 0}, {}, []
         self.number(tree, "")
         self.mix = random.Random(seed)
@@ -66,7 +67,7 @@ class Plan:
         minis = list(range(sum(-(-len(b) // 64) for b in small.values()) + free_minis))
         size = 64 * len(minis)
         g = self.g
-        counts = [-(-len(self.entries) // g.entries), -(-len(minis) // g.cells), g.need(size)] + [g.need(len(b)) for b in large.values()]
+        counts = [-(-len(self.entries) // g.entries) + self.blank_sectors, -(-len(minis) // g.cells), g.need(size)] + [g.need(len(b)) for b in large.values()]
         total = 1 + sum(counts) + free
         sectors = [s for s in range(total) if s != self.fat]
         self.mix.shuffle(sectors)

@@ -6,6 +6,8 @@ pub mod Overwrite
 pub mod SetLength
 pub mod Move
 pub mod Search
+pub mod Create
+pub mod Remove
 pub mod Text
 pub mod Listing
 pub mod Call

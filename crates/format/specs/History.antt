@@ -1,5 +1,8 @@
 -- Demand 3: what holds after any list of calls.
 pub mod Rows
 pub mod Setting
+pub mod Storages
+pub mod State
+pub mod Accepts
 pub mod Step
 pub mod Claim

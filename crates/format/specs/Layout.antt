@@ -8,8 +8,10 @@ pub mod Tables
 pub mod Name
 pub mod PathOrder
 pub mod Entry
+pub mod NewEntry
 pub mod Directory
 pub mod Tree
+pub mod Siblings
 pub mod Volume
 pub mod Objects
 pub mod Stream

@@ -5,16 +5,18 @@ use Prim.Native.Nat.{ℕ}
 use lib.ListN.{replicate}
 use Rattle.format.specs.Layout.Geometry.{version3}
 use Rattle.format.specs.Layout.Volume.{volume}
-use Rattle.format.specs.Calls.Call.{Call, setLength}
+use Rattle.format.specs.Calls.Create.{stream, storage}
+use Rattle.format.specs.Calls.Call.{Call, setLength, create, remove}
 use Rattle.format.specs.Basics.Bytes.{Bytes}
 use Rattle.format.specs.Layout.Space.{allocated}
 use Rattle.format.specs.Rules.Verdict.{verdict}
 use Rattle.format.specs.History.Rows.{Row, rowsOf}
 use Rattle.format.specs.History.Setting.{settingOf}
-use Rattle.format.specs.History.Step.{rowsAfter}
+use Rattle.format.specs.History.State.{stateOf}
+use Rattle.format.specs.History.Step.{stateAfter}
 use Rattle.format.specs.History.Claim.{after}
 use Rattle.format_tests.specs.Opened.{opened}
-use Rattle.format_tests.specs.Images.{Site, log, LOG, Jets, below, site, built}
+use Rattle.format_tests.specs.Images.{Site, log, LOG, Jets, below, smallest, bare, site, built}
 
 unfoldable calls : List Call
 calls =
@@ -37,10 +39,46 @@ record Summary : Type 0 where
 abbrev summary : Bytes → Summary
 summary img = record { answer = verdict version3 img 65; streams = rowsOf version3 img; minis = allocated (volume version3 img .minis) }
 
-rows-by-history : rowsAfter (settingOf version3 site) (rowsOf version3 site) calls ≡ rows
+rows-by-history : stateAfter (stateOf site) calls .rows ≡ rows
 unfolding opened built calls
 rows-by-history = refl
 
 image-after : summary (after site calls) ≡ record { answer = 0; streams = rows; minis = 4 }
 unfolding opened built calls
 image-after = refl
+
+-- ---- objects made and removed
+
+-- the third and the fourth are refused: 29 and 28
+unfoldable making : List Call
+making =
+    create storage Site (replicate 39 0)
+    ∷ create stream (below (0x73 ∷ 0x49 ∷ 0x74 ∷ 0x65 ∷ []) log) (replicate 39 0)
+    ∷ create stream (below Site LOG) (replicate 39 0)
+    ∷ remove Site (replicate 39 0)
+    ∷ create stream Jets (replicate 39 0)
+    ∷ []
+
+-- the row's path has the storage's spelling, and `Jets` comes before `Site` and what is in it
+made-by-history :
+    stateAfter (stateOf smallest) making
+    ≡ record {
+      setting = settingOf version3 smallest;
+      rows = record { path = Jets ∷ []; bytes = [] } ∷ record { path = Site ∷ log ∷ []; bytes = [] } ∷ [];
+      storages = (Site ∷ []) ∷ [];
+      blankCount = 0;
+    }
+unfolding opened built making
+made-by-history = refl
+
+unfoldable removing : List Call
+removing = remove (below Site log) (replicate 39 0) ∷ remove Site (replicate 39 0) ∷ create stream (below Site log) (replicate 39 0) ∷ []
+
+-- with `Jets` in it the storage stays; a stream that is made again comes to its place
+removed-in-image : stateOf (after bare removing) ≡ stateAfter (stateOf bare) removing
+unfolding opened built removing
+removed-in-image = refl
+
+removed-by-history : stateAfter (stateOf bare) removing .rows ≡ record { path = Site ∷ log ∷ []; bytes = [] } ∷ record { path = Site ∷ Jets ∷ []; bytes = [] } ∷ []
+unfolding opened built removing
+removed-by-history = refl

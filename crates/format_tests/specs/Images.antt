@@ -129,6 +129,21 @@ smallAndLarge =
 unfoldable pub roomy : (free : ℕ) → Bytes
 roomy free = site ++ replicate (512 * free) 0xEE
 
+-- five empty streams in one tree, over two directory sectors: `d` at its top, `a` and `e` beside it; on the right of `a` is `c`, and on the
+-- left of that `b`. Red are `c` and `e`.
+unfoldable pub fiveSiblings : Bytes
+fiveSiblings =
+    header END 0
+    ++ cells (FATSECT ∷ 2 ∷ END ∷ [])
+    ++ (rootEntry 1 END 0
+    ++ entry (0x64 ∷ []) 2 1 2 5 NOSTREAM END 0
+    ++ entry (0x61 ∷ []) 2 1 NOSTREAM 3 NOSTREAM END 0
+    ++ entry (0x63 ∷ []) 2 0 4 NOSTREAM NOSTREAM END 0)
+    ++ (entry (0x62 ∷ []) 2 1 NOSTREAM NOSTREAM NOSTREAM END 0
+    ++ entry (0x65 ∷ []) 2 0 NOSTREAM NOSTREAM NOSTREAM END 0
+    ++ blank
+    ++ blank)
+
 -- Version 4, in sectors of so many bytes: a root, and a stream `log` of no bytes.
 unfoldable pub fourth : (sector directory : ℕ) → Bytes
 fourth sector directory =
@@ -138,5 +153,5 @@ fourth sector directory =
 
 -- all of these, opened at once
 unfoldable pub built : Unit {0}
-unfolding words header header4 cells cellsIn nameField entry blank blanks rootEntry Site log LOG Jets gone below smallest withThird bare threeSiblings twoSiblings site large hollow smallAndLarge roomy fourth
+unfolding words header header4 cells cellsIn nameField entry blank blanks rootEntry Site log LOG Jets gone below smallest withThird bare threeSiblings twoSiblings fiveSiblings site large hollow smallAndLarge roomy fourth
 built = tt

@@ -13,6 +13,8 @@ pub mod SmallLengths
 pub mod LargeLengths
 pub mod Crossings
 pub mod Searches
+pub mod Creates
+pub mod Removes
 pub mod Listings
 pub mod Histories
 pub mod Objects

@@ -1,9 +1,10 @@
 -- An image is accepted exactly if it keeps each group.
 use mathlib.Core.Path.{_≡_, refl}
 use mathlib.Core.Logic.{_≢_}
-use mathlib.Core.Bool.{Bool, true, false}
+use mathlib.Core.Bool.{Bool, true, false, cond}
 use Prim.Native.Nat.{ℕ}
 use native.Mathlib.Omega.{arith}
+use lib.Dec.{leb}
 use lib.ListN.{length}
 use borrow.Author.Tests.{le-leb}
 use Rattle.format.specs.Basics.Bytes.{Bytes}
@@ -72,3 +73,14 @@ kept-accepted g img h =
       check-passed _ 11 _ (h .tables),
     )
     (volume-passed (volume g img) (h .volume))
+
+-- an accepted image is refused for a short work buffer alone
+pub verdict-accepted : (g : Geometry) (img : Bytes) (n : ℕ) → Accepted g img → verdict g img n ≡ cond (leb (workNeed (length img)) n) 0 2
+unfolding verdict groups check
+verdict-accepted g img n h =
+    let j = accepted-kept g img h in
+    rw (j .allowed, j .header, j .tables, volume-passed (volume g img) (j .volume)) (go (leb (workNeed (length img)) n))
+  where
+    go : (t : Bool) → check true 1 (check t 2 (check true 10 (check true 11 0))) ≡ cond t 0 2
+    go true = refl
+    go false = refl

@@ -31,11 +31,11 @@ stamped b s n = sets (sets b 116 (le32 s)) 120 (le64 n)
 unfoldable pub stampedIn : Geometry → List ℕ → Bytes → ℕ → ℕ → ℕ → Bytes
 stampedIn g secs img e s n = put64 (put32 img (entryPlace g secs e + 116) s) (entryPlace g secs e + 120) n
 
-S128 : (g : Geometry) → Sized g → g .sectorBytes ≡ entriesIn g * 128
+pub S128 : (g : Geometry) → Sized g → g .sectorBytes ≡ entriesIn g * 128
 unfolding entriesIn entryBytes
 S128 g z = let e = z .even in omega arith
 
-sector-some : (g : Geometry) → Sized g → 0 < g .sectorBytes
+pub sector-some : (g : Geometry) → Sized g → 0 < g .sectorBytes
 sector-some g z = let w = z .wide in omega arith
 
 module _ (g : Geometry) (z : Sized g) (len : ℕ) (secs : List ℕ) (t : Table g len secs) (img : Bytes) (e s n : ℕ) (he : e < entryCount g secs) where

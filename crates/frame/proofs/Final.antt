@@ -16,6 +16,9 @@ use Rattle.frame.proofs.Writing.{writing}
 use Rattle.frame.proofs.Resizing.{resizing}
 use Rattle.frame.proofs.Accepted.{accepted-kept}
 use Rattle.frame.proofs.Versions.{version-cases}
+use Rattle.frame.proofs.Redrawing.{entry-long, entries-few}
+use Rattle.frame.proofs.Adding.{adding}
+use Rattle.frame.proofs.Erasing.{erasing}
 
 pub frame : (g : Geometry) → Sized g → Frame g
 frame g z =
@@ -24,6 +27,10 @@ frame g z =
       miniSized = λ img h u l. block-length (volume g img .minis) (length img) (mini-units g z img (sound-of g z img (accepted-kept g img h))) img refl u l;
       resizing = λ img e new m. resizing g z img e new m;
       writing = λ img e offset bytes m. writing g z img e offset bytes m;
+      entryLong = entry-long g z;
+      entriesFew = entries-few g z;
+      adding = λ img made n h x m. adding g z img made n h x m;
+      erasing = λ img s t x m. erasing g z img s t x m;
     }
 
 pub sized3 : Sized version3

@@ -1,12 +1,11 @@
 -- A call replies as it did before letters beyond a to z were folded, where neither the file's names nor its path have a unit folded anew.
-use Prim.Native.Nat.{ℕ, zero, suc}
-use mathlib.Core.Path.{_≡_, refl, sym, _∙_}
+use Prim.Native.Nat.{ℕ, zero, suc, _-_}
+use mathlib.Core.Path.{_≡_, refl}
 use mathlib.Core.Bool.{Bool, true, false, cond}
 use mathlib.Core.List.{List, [], _∷_}
 use lib.Dec.{eqb}
-use lib.ListN.{length}
+use lib.ListN.{length, take}
 use Rattle.format.specs.Basics.Lists.{all}
-use Rattle.format.specs.Basics.Bytes.{Bytes}
 use Rattle.format.specs.Layout.Geometry.{Geometry}
 use Rattle.format.specs.Layout.Name.{Name, slash, nameEqual}
 use Rattle.format.specs.Layout.Entry.{name, isStream}
@@ -15,13 +14,13 @@ use Rattle.format.specs.Layout.Tree.{Forest, empty, broken, node, forest, entri
 use Rattle.format.specs.Layout.Volume.{Volume, volume, directory}
 use Rattle.format.specs.Rules.Entries.{entryRules}
 use Rattle.format.specs.Rules.Verdict.{verdict}
-use Rattle.format.specs.Calls.Paths.{Path, pushFront, split, names, wellFormed}
-use Rattle.format.specs.Calls.Find.{Child, missing, present, orElse, childNamed, Found, at, refused, foundChild, enter, descend, resolve, resolveStream, needStream}
-use Rattle.format.specs.Calls.Call.{Call, validate, find, read, overwrite, setLength, list, workOf}
+use Rattle.format.specs.Calls.Paths.{Path, pushFront, split, names, namesBefore}
+use Rattle.format.specs.Calls.Find.{Child, missing, present, orElse, childNamed, Found, at, refused, foundChild, enter, descend, resolve, resolveStream, resolveParent}
+use Rattle.format.specs.Calls.Call.{Call, validate, find, read, overwrite, setLength, create, remove, list, workOf}
 use Rattle.format.specs.Calls.Answer.{firstOf, target, targetAnswer, answerIn, answer}
 use Rattle.format.specs.Calls.Reply.{plain, onZero, done, replyBy}
-use Rattle.format.specs.Claims.Folding.{formerVerdict, steadyUnit, steadyNames, plainUnit}
-use Rattle.format.specs.Claims.FoldingPaths.{formerEqual, formerChild, formerEnter, formerDescend, formerResolve, formerStream, formerAnswerIn, formerAnswer, formerDone, formerReply, pathOf, KeepsReply, PlainKeepsReply}
+use Rattle.format.specs.Claims.Folding.{steadyUnit, steadyNames, plainUnit}
+use Rattle.format.specs.Claims.FoldingPaths.{formerEqual, formerChild, formerEnter, formerDescend, formerResolve, formerParent, formerStream, formerAnswerIn, formerAnswer, formerDone, formerReply, pathOf, KeepsReply, PlainKeepsReply}
 use Rattle.theory.proofs.Tests.{both, and-true-of, all-weaker}
 use Rattle.theory.proofs.Folding.{fold-same, steady, node-apart, forest-steady, keeps-verdict, plain-steady, names-steady}
 use Rattle.frame.proofs.Accepted.{verdict-kept}
@@ -56,6 +55,11 @@ names-of-path : (p : Path) → all steadyUnit p ≡ true → Steady (names p)
 unfolding names
 names-of-path [] h = tt
 names-of-path (u ∷ p) h = split-steady (u ∷ p) h
+
+take-steady : (n : ℕ) (ns : List Name) → Steady ns → Steady (take n ns)
+take-steady zero ns s = tt
+take-steady (suc n) [] s = tt
+take-steady (suc n) (x ∷ ns) s = (s .0, take-steady n ns (s .1))
 
 -- ---- one name after the other
 
@@ -127,6 +131,11 @@ module _ (d : Directory) where
     unfolding formerResolve resolve
     former-resolve p h = rw (descend-same (at 0 (forest d)) (names p) (names-of-path p h) (forest-steady d fields ok))
 
+    former-parent : (p : Path) → all steadyUnit p ≡ true → formerParent d p ≡ resolveParent d p
+    unfolding formerParent resolveParent namesBefore
+    former-parent p h =
+        rw (descend-same (at 0 (forest d)) (namesBefore p) (take-steady (length (names p) - 1) (names p) (names-of-path p h)) (forest-steady d fields ok))
+
 -- ---- the replies
 
 module _ (g : Geometry) (v : Volume) (fields : entryRules (v .directory) ≡ true) (ok : steadyNames (v .directory) ≡ true) where
@@ -141,6 +150,8 @@ module _ (g : Geometry) (v : Volume) (fields : entryRules (v .directory) ≡ tru
   answer-same (read path offset out work) h = rw (stream-same path h)
   answer-same (overwrite path offset bytes work) h = rw (stream-same path h)
   answer-same (setLength path new work) h = rw (stream-same path h)
+  answer-same (create made path work) h = rw (former-parent (v .directory) fields ok path h, former-resolve (v .directory) fields ok path h)
+  answer-same (remove path work) h = rw (former-resolve (v .directory) fields ok path h)
   answer-same (list out work) h = refl
 
   done-same : (call : Call) → all steadyUnit (pathOf call) ≡ true → formerDone v call ≡ done v call
@@ -150,6 +161,8 @@ module _ (g : Geometry) (v : Volume) (fields : entryRules (v .directory) ≡ tru
   done-same (read path offset out work) h = rw (stream-same path h)
   done-same (overwrite path offset bytes work) h = refl
   done-same (setLength path new work) h = refl
+  done-same (create made path work) h = refl
+  done-same (remove path work) h = refl
   done-same (list out work) h = refl
 
 pub keeps-reply : (g : Geometry) → KeepsReply g

@@ -29,7 +29,7 @@ use Rattle.frame.specs.Kept.{Sized, Kept, Off}
 use Rattle.frame.proofs.Blocks.{block-length}
 use Rattle.frame.proofs.Sound.{Sound, sound-of}
 use Rattle.frame.specs.Edits.{inSectors, inMinis, MayResize, IsResized}
-use Rattle.frame.proofs.Parts.{mini-cells-is, mini-cell-is, system-apart, dirs-in, miniFat-in, miniStream-in, table-of, mini-units, kept-fatCell, sector-block, kept-entry, preserved, mini-cell-at, mini-block-at, mini-place, entry-is, entry-at}
+use Rattle.frame.proofs.Parts.{RootKept, root-kept, mini-cells-is, mini-cell-is, system-apart, dirs-in, miniFat-in, miniStream-in, table-of, mini-units, kept-fatCell, sector-block, kept-entry, preserved, mini-cell-at, mini-block-at, mini-place, entry-is, entry-at}
 use Rattle.frame.proofs.Streams.{space-small, inSectors-small, inMinis-small, stream-in-minis, stream-units-long, mini-few}
 use Rattle.frame.proofs.Writing.{minis-put, sector-cell, sector-sized}
 use Rattle.frame.proofs.Entry.{stamped}
@@ -162,8 +162,8 @@ module _ (g : Geometry) (z : Sized g) (img : Bytes) (e new : ℕ) (m : MayResize
   other : (i : ℕ) → i ≢ e → entryIn g w dirs i ≡ entryIn g img dirs i
   other = edit-other g z img (v .minis) mf ms dirs us ws n new e anyUnit setup
 
-  entry0 : entryIn g w dirs 0 ≡ entryIn g img dirs 0
-  entry0 = other 0 (λ q. (entry-facts g z img e new m) .0 (sym q))
+  entry0 : RootKept g img w
+  entry0 = root-kept g img w (other 0 (λ q. (entry-facts g z img e new m) .0 (sym q)))
 
   same-entry : volume g w .directory .entry e ≡ stamped (v .directory .entry e) (startOf ws) new
   same-entry =

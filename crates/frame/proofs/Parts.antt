@@ -148,6 +148,15 @@ pub entry-count-is : (g : Geometry) (a : Bytes) → volume g a .directory .count
 unfolding volume directory directoryOf
 entry-count-is g a = refl
 
+-- start and size of the root stay, of which the mini stream is
+abbrev pub RootKept : Geometry → Bytes → Bytes → Type 0
+RootKept g a b =
+    (start (entryIn g b (directorySectorsOf g a) 0) ≡ start (entryIn g a (directorySectorsOf g a) 0))
+    × (size (sizeWidth g) (entryIn g b (directorySectorsOf g a) 0) ≡ size (sizeWidth g) (entryIn g a (directorySectorsOf g a) 0))
+
+pub root-kept : (g : Geometry) (a b : Bytes) → entryIn g b (directorySectorsOf g a) 0 ≡ entryIn g a (directorySectorsOf g a) 0 → RootKept g a b
+root-kept g a b e = (ap start e, ap (size (sizeWidth g)) e)
+
 module _ (g : Geometry) (z : Sized g) (T : List ℕ) (a b : Bytes) (x : Kept g (Off T) a b) (A : Sound g a)
     (off : (s : ℕ) → 0 < count s (difatSectors g a) → count s T ≡ 0) where
   pub kept-fatCell : ((s : ℕ) → 0 < count s (fatSectors g a) → count s T ≡ 0) → (s : ℕ) → fatCell g b s ≡ fatCell g a s
@@ -160,7 +169,7 @@ module _ (g : Geometry) (z : Sized g) (T : List ℕ) (a b : Bytes) (x : Kept g (
   sector-block u h = rw add-zero at (part-body g (Off T) a b x u 0 (g .sectorBytes) (omega arith) (λ i l. h))
 
   module _ (cells : (s : ℕ) → 0 < count s (directorySectorsOf g a) + count s (miniFatSectors g a) + count s (miniStreamSectors g a) → fatCell g b s ≡ fatCell g a s)
-      (entry0 : entryIn g b (directorySectorsOf g a) 0 ≡ entryIn g a (directorySectorsOf g a) 0) where
+      (entry0 : RootKept g a b) where
     pub kept-dirs : directorySectorsOf g b ≡ directorySectorsOf g a
     unfolding directorySectorsOf directorySectors sectorSpace
     kept-dirs =
@@ -174,9 +183,9 @@ module _ (g : Geometry) (z : Sized g) (T : List ℕ) (a b : Bytes) (x : Kept g (
     pub entry-at : (i : ℕ) → volume g b .directory .entry i ≡ entryIn g b (directorySectorsOf g a) i
     entry-at i = entry-is g b i ∙ ap (λ (l : List ℕ). entryIn g b l i) kept-dirs
 
-    kept-root : directory g b .entry 0 ≡ directory g a .entry 0
+    kept-start : start (directory g b .entry 0) ≡ start (directory g a .entry 0)
     unfolding directory directoryOf
-    kept-root = rw kept-dirs entry0
+    kept-start = rw kept-dirs (entry0 .0)
 
     pub kept-miniFat : miniFatSectors g b ≡ miniFatSectors g a
     unfolding miniFatSectors
@@ -186,12 +195,12 @@ module _ (g : Geometry) (z : Sized g) (T : List ℕ) (a b : Bytes) (x : Kept g (
 
     kept-size : sizeOf (directory g b) 0 ≡ sizeOf (directory g a) 0
     unfolding sizeOf directory directoryOf
-    kept-size = ap (size (sizeWidth g)) kept-root
+    kept-size = rw kept-dirs (entry0 .1)
 
     pub kept-miniStream : miniStreamSectors g b ≡ miniStreamSectors g a
     unfolding miniStreamSectors unitsFor sectorSpace
     kept-miniStream =
-        rw (kept-size, kept-root)
+        rw (kept-size, kept-start)
         (units-agree (fatCell g a) (fatCell g b) (roundUp (sizeOf (directory g a) 0) (g .sectorBytes)) (start (directory g a .entry 0)) (λ s q. cells s (omega arith)))
 
     pub kept-parts : SameParts (volume g a) (volume g b)

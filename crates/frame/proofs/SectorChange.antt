@@ -31,7 +31,7 @@ use Rattle.frame.proofs.Blocks.{block-length}
 use Rattle.frame.proofs.Sound.{Sound, sound-of, marks-of}
 use Rattle.frame.proofs.Views.{kept-fat}
 use Rattle.frame.specs.Edits.{inSectors, inMinis, MayResize, IsResized}
-use Rattle.frame.proofs.Parts.{fat-cells-is, fat-cell-is, system-apart, fat-in, difat-in, dirs-in, miniFat-in, miniStream-in, table-of, sector-units, mini-units, kept-entry, preserved, kept-miniCell, mini-block, sector-place, entry-is, entry-at}
+use Rattle.frame.proofs.Parts.{RootKept, root-kept, fat-cells-is, fat-cell-is, system-apart, fat-in, difat-in, dirs-in, miniFat-in, miniStream-in, table-of, sector-units, mini-units, kept-entry, preserved, kept-miniCell, mini-block, sector-place, entry-is, entry-at}
 use Rattle.frame.proofs.Streams.{space-large, inSectors-large, inMinis-large, stream-in-sectors, stream-units-long, stream-apart}
 use Rattle.frame.proofs.Writing.{sectors-put, sector-limit, sector-cell, sector-block-at, sector-sized}
 use Rattle.frame.proofs.Entry.{stamped}
@@ -196,8 +196,8 @@ module _ (g : Geometry) (z : Sized g) (img : Bytes) (e new : ℕ) (m : MayResize
   other : (i : ℕ) → i ≢ e → entryIn g w dirs i ≡ entryIn g img dirs i
   other = edit-other g z img (v .sectors) (fatSectors g img) ws dirs us ws n new e (λ u. count u (systemSectors v) ≡ 0) setup
 
-  entry0 : entryIn g w dirs 0 ≡ entryIn g img dirs 0
-  entry0 = other 0 (λ q. (entry-facts g z img e new m) .0 (sym q))
+  entry0 : RootKept g img w
+  entry0 = root-kept g img w (other 0 (λ q. (entry-facts g z img e new m) .0 (sym q)))
 
   same-entry : volume g w .directory .entry e ≡ stamped (v .directory .entry e) (startOf ws) new
   same-entry =

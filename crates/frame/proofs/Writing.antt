@@ -16,7 +16,6 @@ use Rattle.format.specs.Layout.Chain.{FATSECT, DIFSECT}
 use Rattle.format.specs.Layout.Space.{Space, laid, block}
 use Rattle.format.specs.Layout.Tables.{fatSectors, difatSectors, fatCell, sectorSpace}
 use Rattle.format.specs.Layout.Entry.{size}
-use Rattle.format.specs.Layout.Directory.{entryIn}
 use Rattle.format.specs.Layout.Volume.{Volume, volume, systemSectors, miniSpace, miniCells, directorySectorsOf, miniFatSectors, miniStreamSectors}
 use Rattle.format.specs.Layout.Stream.{spaceFor, streamUnits, streamSize}
 use Rattle.format.specs.Calls.Overwrite.{putChain, overwritten}
@@ -29,7 +28,7 @@ use Rattle.frame.proofs.Kept.{kept-sets}
 use Rattle.frame.proofs.Things.{thing-kept}
 use Rattle.frame.proofs.Blocks.{block-length, chain-put, chain-kept}
 use Rattle.frame.proofs.Sound.{Sound, sound-of}
-use Rattle.frame.proofs.Parts.{system-apart, fat-in, difat-in, dirs-in, miniFat-in, miniStream-in, table-of, sector-units, mini-units, mini-index, minis-in-sector, sector-some, kept-fatCell, sector-block, kept-entry, preserved, kept-miniCell, mini-block-at, mini-block}
+use Rattle.frame.proofs.Parts.{RootKept, root-kept, system-apart, fat-in, difat-in, dirs-in, miniFat-in, miniStream-in, table-of, sector-units, mini-units, mini-index, minis-in-sector, sector-some, kept-fatCell, sector-block, kept-entry, preserved, kept-miniCell, mini-block-at, mini-block}
 use Rattle.frame.proofs.Streams.{kept-entryIn, space-large, space-small, inSectors-large, inSectors-small, inMinis-large, inMinis-small, stream-in-sectors, stream-in-minis, stream-units-long, stream-apart, mini-few}
 use Rattle.frame.specs.Groups.{ImageGroups}
 use Rattle.frame.proofs.Accepted.{accepted-kept}
@@ -144,8 +143,8 @@ module _ (g : Geometry) (z : Sized g) (img : Bytes) (e offset : ℕ) (bytes : By
       cells : (s : ℕ) → 0 < count s (directorySectorsOf g img) + count s (miniFatSectors g img) + count s (miniStreamSectors g img) → fatCell g w s ≡ fatCell g img s
       cells s q = cell s
 
-      entry0 : entryIn g w (directorySectorsOf g img) 0 ≡ entryIn g img (directorySectorsOf g img) 0
-      entry0 = kept-entryIn g z us img w K (directorySectorsOf g img) (off (directorySectorsOf g img) (dirs-in g z img A)) 0
+      entry0 : RootKept g img w
+      entry0 = root-kept g img w (kept-entryIn g z us img w K (directorySectorsOf g img) (off (directorySectorsOf g img) (dirs-in g z img A)) 0)
 
       bigBytes : Refilled (v .sectors) (volume g w .sectors) img w (systemSectors v) us (putBytes (laid (block (v .sectors) img) us) offset bytes)
       bigBytes =
@@ -213,8 +212,8 @@ module _ (g : Geometry) (z : Sized g) (img : Bytes) (e offset : ℕ) (bytes : By
       cells : (s : ℕ) → 0 < count s (directorySectorsOf g img) + count s (miniFatSectors g img) + count s (miniStreamSectors g img) → fatCell g w s ≡ fatCell g img s
       cells s q = cell s
 
-      entry0 : entryIn g w (directorySectorsOf g img) 0 ≡ entryIn g img (directorySectorsOf g img) 0
-      entry0 = kept-entryIn g z T img w K (directorySectorsOf g img) offDirs 0
+      entry0 : RootKept g img w
+      entry0 = root-kept g img w (kept-entryIn g z T img w K (directorySectorsOf g img) offDirs 0)
 
       bigBytes : Refilled (v .sectors) (volume g w .sectors) img w (systemSectors v) [] (putBytes (laid (block (v .sectors) img) us) offset bytes)
       bigBytes =

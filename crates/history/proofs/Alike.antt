@@ -9,16 +9,7 @@ use Rattle.format.specs.Layout.Entry.{NOSTREAM, name, colour, kind, left, right
 use Rattle.format.specs.Layout.Directory.{Directory}
 use Rattle.format.specs.Layout.Tree.{Forest, empty, broken, node, grow, forest, entries, siblings, treeOf}
 use Rattle.format.specs.Rules.Trees.{isObject, reachedOnce, less, sidesOrdered, red, topBlack, coloured, treeRules, reachedRight, greater}
-
--- two directories that look alike
-pub record Alike (d d′ : Directory) : Type 0 where
-  pub count : d′ .count ≡ d .count
-  pub name : (i : ℕ) → name (d′ .entry i) ≡ name (d .entry i)
-  pub kind : (i : ℕ) → kind (d′ .entry i) ≡ kind (d .entry i)
-  pub colour : (i : ℕ) → colour (d′ .entry i) ≡ colour (d .entry i)
-  pub left : (i : ℕ) → left (d′ .entry i) ≡ left (d .entry i)
-  pub right : (i : ℕ) → right (d′ .entry i) ≡ right (d .entry i)
-  pub child : (i : ℕ) → child (d′ .entry i) ≡ child (d .entry i)
+use Rattle.history.specs.Alike.{Alike}
 
 module _ (d d′ : Directory) (a : Alike d d′) where
   grow-same : (depth x : ℕ) → grow d′ depth x ≡ grow d depth x

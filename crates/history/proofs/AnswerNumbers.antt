@@ -1,19 +1,15 @@
 -- Which answer numbers come out of tests: 0, 26, or neither.
 use Prim.Native.Nat.{ℕ, zero, suc, _≤_}
-use mathlib.Core.Path.{_≡_, refl}
+use mathlib.Core.Path.{_≡_, refl, sym, _∙_}
 use mathlib.Core.Logic.{_≢_, _↔_}
 use mathlib.Core.Bool.{Bool, true, false, not, cond, _&&_}
 use native.Mathlib.Omega.{arith}
+use lib.Dec.{eqb}
+use borrow.Author.Tests.{eqb-true, eq-eqb, ne-eqb}
 use Rattle.format.specs.Calls.Answer.{firstOf}
 use Rattle.format.specs.Calls.Find.{Found, at, refused, answerOf}
 use Rattle.theory.proofs.Tests.{clash}
 use Rattle.theory.proofs.Refusals.{RefusedLow}
-
--- two answers are 0 together
-pub first-zero : (a b : ℕ) → firstOf a b ≡ 0 → (a ≡ 0) × (b ≡ 0)
-unfolding firstOf
-first-zero zero b h = (refl, h)
-first-zero (suc a) b h = absurd (omega arith)
 
 -- no occasion of 26
 pub cond-26-zero : (t : Bool) → cond {A = ℕ} t 26 0 ≡ 0 → t ≡ false
@@ -69,3 +65,19 @@ iff-along a b x y n p q h = rw (p, q) h
 
 pub iff-never : (a n : ℕ) (x : Bool) → a ≢ n → x ≡ false → (a ≡ n) ↔ (x ≡ true)
 iff-never a n x h q = ((λ e. absurd (h e)), λ e. absurd (clash e q))
+
+-- ---- 0 or not
+
+-- after the answer of the work buffer
+pub zero-iff : (fits : Bool) (n : ℕ) (t : Bool) → eqb n 0 ≡ t → (firstOf (cond fits 0 2) n ≡ 0) ↔ ((fits && t) ≡ true)
+unfolding firstOf
+zero-iff true n t h = ((λ z. sym h ∙ eq-eqb n 0 z), λ z. eqb-true n 0 (h ∙ z))
+zero-iff false n t h = ((λ z. absurd (omega arith)), λ z. absurd (clash z refl))
+
+pub low-not-0 : (a : ℕ) → 20 ≤ a → eqb a 0 ≡ false
+low-not-0 a h = ne-eqb a 0 (λ z. omega arith)
+
+pub low-first-not-0 : (a m : ℕ) → 20 ≤ a → eqb (firstOf a m) 0 ≡ false
+unfolding firstOf
+low-first-not-0 zero m h = absurd (omega arith)
+low-first-not-0 (suc a) m h = low-not-0 (suc a) h

@@ -15,37 +15,30 @@ use Rattle.format.specs.Layout.Tree.{Forest}
 use Rattle.format.specs.Layout.Volume.{Volume, volume, directory}
 use Rattle.format.specs.Layout.Stream.{streamSize}
 use Rattle.format.specs.Rules.Length.{workNeed}
-use Rattle.format.specs.Rules.Verdict.{check, groups, verdict, Accepted}
+use Rattle.format.specs.Rules.Verdict.{Accepted}
 use Rattle.format.specs.Calls.Answer.{firstOf, target, targetAnswer, beyond, lengthAnswer, answerIn, answer}
 use Rattle.format.specs.Calls.Paths.{Path}
 use Rattle.format.specs.Calls.Find.{Found, at, refused, resolve, resolveStream, answerOf, entryOf}
 use Rattle.format.specs.Calls.SetLength.{tooFew}
 use Rattle.format.specs.Calls.Listing.{listing}
-use Rattle.format.specs.Calls.Call.{Call, validate, find, read, overwrite, setLength, list, workOf}
+use Rattle.format.specs.Calls.Call.{Call, validate, find, read, overwrite, setLength, create, remove, list, workOf}
 use Rattle.format.specs.History.Rows.{Row, rowsOf, hasRow, rowLength}
 use Rattle.format.specs.History.Setting.{Setting, settingOf}
-use Rattle.format.specs.History.Step.{reaches, lacks, accepts, answers26}
+use Rattle.format.specs.History.State.{State, stateIn}
+use Rattle.format.specs.History.Accepts.{reachesRow, lacksRoom, accepts, answers26}
 use Rattle.format.specs.History.Claim.{isEdit}
 use Rattle.theory.proofs.Tests.{leb-not, clash}
-use Rattle.frame.specs.Good.{Good}
-use Rattle.frame.proofs.Accepted.{accepted-kept, volume-passed}
-use Rattle.frame.proofs.Good.{accepted-good}
-use Rattle.history.proofs.Filled.{Sized}
 use Rattle.theory.proofs.Refusals.{RefusedLow, resolve-low, resolve-stream-low}
+use Rattle.frame.specs.Good.{Good}
+use Rattle.frame.proofs.Accepted.{verdict-accepted}
+use Rattle.frame.proofs.Good.{accepted-good}
+use Rattle.frame.proofs.EntryFacts.{root-plain}
+use Rattle.history.proofs.Filled.{Sized}
 use Rattle.history.proofs.Finding.{refused-has-no-row, has-row, row-length}
+use Rattle.history.proofs.CreateAnswer.{create-iff, create-not-26}
+use Rattle.history.proofs.RemoveAnswer.{remove-iff, remove-not-26}
 use Rattle.history.proofs.AnswerNumbers.{cond-not-26, first-not-26, iff-along, iff-never, length-26-iff, length-zero-iff, work-first-not-26, refused-not-0-26, refused-not-26, write-zero-iff}
 use Rattle.history.proofs.Room.{free-minis, free-sectors}
-use Rattle.frame.proofs.EntryFacts.{root-plain}
-
-pub verdict-accepted : (g : Geometry) (img : Bytes) (n : ℕ) → Accepted g img → verdict g img n ≡ cond (leb (workNeed (length img)) n) 0 2
-unfolding verdict groups check
-verdict-accepted g img n h =
-    let j = accepted-kept g img h in
-    rw (j .allowed, j .header, j .tables, volume-passed (volume g img) (j .volume)) (go (leb (workNeed (length img)) n))
-  where
-    go : (t : Bool) → check true 1 (check t 2 (check true 10 (check true 11 0))) ≡ cond t 0 2
-    go true = refl
-    go false = refl
 
 module _ (g : Geometry) (pos : 0 < g .sectorBytes) (img : Bytes) (acc : Accepted g img) (sized : Sized (volume g img) img) where
   abbrev v : Volume
@@ -56,6 +49,9 @@ module _ (g : Geometry) (pos : 0 < g .sectorBytes) (img : Bytes) (acc : Accepted
 
   abbrev s : Setting
   s = settingOf g img
+
+  abbrev st : State
+  st = stateIn g img
 
   abbrev workFits : List ℕ → Bool
   workFits work = leb (workNeed (length img)) (length work)
@@ -89,27 +85,27 @@ module _ (g : Geometry) (pos : 0 < g .sectorBytes) (img : Bytes) (acc : Accepted
   refused-no-row p n f = refused-has-no-row v img good sized rootPlain p n f
 
   write-accepts : (p : Path) (offset : ℕ) (bytes : Bytes) (work : List ℕ) (e : ℕ) (b : Forest) → resolveStream (v .directory) p ≡ at e b →
-      accepts s rows (overwrite p offset bytes work) ≡ (workFits work && true && not (ltb (streamSize v e) (offset + length bytes)))
-  unfolding accepts reaches rowsOf settingOf
+      accepts st (overwrite p offset bytes work) ≡ (workFits work && true && not (ltb (streamSize v e) (offset + length bytes)))
+  unfolding accepts reachesRow rowsOf settingOf stateIn
   write-accepts p offset bytes work e b f =
       rw (has-row v img good sized rootPlain p f, row-length v img good sized rootPlain p f, leb-not (offset + length bytes) (streamSize v e))
 
   lacks-found : (p : Path) (new e : ℕ) (b : Forest) → resolveStream (v .directory) p ≡ at e b →
-      lacks s rows p new ≡ tooFew g (length (freeUnits (v .sectors))) (length (freeUnits (v .minis))) (streamSize v e) new
-  unfolding lacks rowsOf settingOf
+      lacksRoom s rows p new ≡ tooFew g (length (freeUnits (v .sectors))) (length (freeUnits (v .minis))) (streamSize v e) new
+  unfolding lacksRoom rowsOf settingOf
   lacks-found p new e b f =
       ap₂ (λ a b. tooFew g a b (rowLength rows p) new) (free-sectors g pos img acc sized) (free-minis g pos img acc sized)
       ∙ ap (λ n. tooFew g (length (freeUnits (v .sectors))) (length (freeUnits (v .minis))) n new) (row-length v img good sized rootPlain p f)
 
   length-accepts : (p : Path) (new : ℕ) (work : List ℕ) (e : ℕ) (b : Forest) → resolveStream (v .directory) p ≡ at e b →
-      accepts s rows (setLength p new work) ≡ (workFits work && true && not (tooFew g (length (freeUnits (v .sectors))) (length (freeUnits (v .minis))) (streamSize v e) new))
-  unfolding accepts reaches settingOf
+      accepts st (setLength p new work) ≡ (workFits work && true && not (tooFew g (length (freeUnits (v .sectors))) (length (freeUnits (v .minis))) (streamSize v e) new))
+  unfolding accepts reachesRow settingOf stateIn
   length-accepts p new work e b f =
       rw (lacks-found p new e b f) (rows-say p e b f (λ h n. workFits work && h && not (tooFew g (length (freeUnits (v .sectors))) (length (freeUnits (v .minis))) (streamSize v e) new)))
 
   length-answers26 : (p : Path) (new : ℕ) (work : List ℕ) (e : ℕ) (b : Forest) → resolveStream (v .directory) p ≡ at e b →
-      answers26 s rows (setLength p new work) ≡ (workFits work && true && tooFew g (length (freeUnits (v .sectors))) (length (freeUnits (v .minis))) (streamSize v e) new)
-  unfolding answers26 reaches settingOf
+      answers26 st (setLength p new work) ≡ (workFits work && true && tooFew g (length (freeUnits (v .sectors))) (length (freeUnits (v .minis))) (streamSize v e) new)
+  unfolding answers26 reachesRow settingOf stateIn
   length-answers26 p new work e b f =
       rw (lacks-found p new e b f) (rows-say p e b f (λ h n. workFits work && h && tooFew g (length (freeUnits (v .sectors))) (length (freeUnits (v .minis))) (streamSize v e) new))
 
@@ -140,58 +136,60 @@ module _ (g : Geometry) (pos : 0 < g .sectorBytes) (img : Bytes) (acc : Accepted
   refused-length new work n l =
       refused-not-0-26 (workFits work) n (cond (tooFew g (length (freeUnits (v .sectors))) (length (freeUnits (v .minis))) (streamSize v (entryOf (refused n))) new) 26 0) (l .0) (l .1)
 
-  unreached-write : (p : Path) (offset : ℕ) (bytes : Bytes) (work : List ℕ) → reaches s rows p work ≡ false → accepts s rows (overwrite p offset bytes work) ≡ false
-  unfolding accepts
+  unreached-write : (p : Path) (offset : ℕ) (bytes : Bytes) (work : List ℕ) → reachesRow s rows p work ≡ false → accepts st (overwrite p offset bytes work) ≡ false
+  unfolding accepts stateIn
   unreached-write p offset bytes work h = rw h
 
-  unreached-length : (p : Path) (new : ℕ) (work : List ℕ) → reaches s rows p work ≡ false →
-      (accepts s rows (setLength p new work) ≡ false) × (answers26 s rows (setLength p new work) ≡ false)
-  unfolding accepts answers26
+  unreached-length : (p : Path) (new : ℕ) (work : List ℕ) → reachesRow s rows p work ≡ false →
+      (accepts st (setLength p new work) ≡ false) × (answers26 st (setLength p new work) ≡ false)
+  unfolding accepts answers26 stateIn
   unreached-length p new work h = (rw h, rw h)
 
   -- a path that leads nowhere
-  refused-unreached : (p : Path) (n : ℕ) → resolveStream (v .directory) p ≡ refused n → (work : List ℕ) → reaches s rows p work ≡ false
-  unfolding reaches
+  refused-unreached : (p : Path) (n : ℕ) → resolveStream (v .directory) p ≡ refused n → (work : List ℕ) → reachesRow s rows p work ≡ false
+  unfolding reachesRow
   refused-unreached p n f work = rw (refused-no-row p n f) (and-false (leb (s .work) (length work)))
 
   write-iff : (p : Path) (offset : ℕ) (bytes : Bytes) (work : List ℕ) (f : Found) → resolveStream (v .directory) p ≡ f → RefusedLow f →
-      (answer g img (overwrite p offset bytes work) ≡ 0) ↔ (accepts s rows (overwrite p offset bytes work) ≡ true)
+      (answer g img (overwrite p offset bytes work) ≡ 0) ↔ (accepts st (overwrite p offset bytes work) ≡ true)
   write-iff p offset bytes work (at e b) h l =
-      iff-along (answer g img (overwrite p offset bytes work)) _ (accepts s rows (overwrite p offset bytes work)) _ 0
+      iff-along (answer g img (overwrite p offset bytes work)) _ (accepts st (overwrite p offset bytes work)) _ 0
       (write-answer p offset bytes work (at e b) h ∙ found-write offset bytes work e b) (write-accepts p offset bytes work e b h)
       (write-zero-iff (workFits work) (ltb (streamSize v e) (offset + length bytes)))
   write-iff p offset bytes work (refused n) h l =
-      iff-never (answer g img (overwrite p offset bytes work)) 0 (accepts s rows (overwrite p offset bytes work))
+      iff-never (answer g img (overwrite p offset bytes work)) 0 (accepts st (overwrite p offset bytes work))
       (λ z. refused-write offset bytes work n l (sym (write-answer p offset bytes work (refused n) h) ∙ z))
       (unreached-write p offset bytes work (refused-unreached p n h work))
 
   length-iff : (p : Path) (new : ℕ) (work : List ℕ) (f : Found) → resolveStream (v .directory) p ≡ f → RefusedLow f →
-      ((answer g img (setLength p new work) ≡ 0) ↔ (accepts s rows (setLength p new work) ≡ true))
-      × ((answer g img (setLength p new work) ≡ 26) ↔ (answers26 s rows (setLength p new work) ≡ true))
+      ((answer g img (setLength p new work) ≡ 0) ↔ (accepts st (setLength p new work) ≡ true))
+      × ((answer g img (setLength p new work) ≡ 26) ↔ (answers26 st (setLength p new work) ≡ true))
   length-iff p new work (at e b) h l =
       let t = tooFew g (length (freeUnits (v .sectors))) (length (freeUnits (v .minis))) (streamSize v e) new in
       let a = length-answer p new work (at e b) h ∙ found-length new work e b in (
-        iff-along (answer g img (setLength p new work)) _ (accepts s rows (setLength p new work)) _ 0 a (length-accepts p new work e b h)
+        iff-along (answer g img (setLength p new work)) _ (accepts st (setLength p new work)) _ 0 a (length-accepts p new work e b h)
             (length-zero-iff (workFits work) t),
-        iff-along (answer g img (setLength p new work)) _ (answers26 s rows (setLength p new work)) _ 26 a (length-answers26 p new work e b h)
+        iff-along (answer g img (setLength p new work)) _ (answers26 st (setLength p new work)) _ 26 a (length-answers26 p new work e b h)
             (length-26-iff (workFits work) t),
       )
   length-iff p new work (refused n) h l =
       let a = length-answer p new work (refused n) h in
       let r = refused-unreached p n h work in (
-        iff-never (answer g img (setLength p new work)) 0 (accepts s rows (setLength p new work)) (λ z. refused-length new work n l .0 (sym a ∙ z))
+        iff-never (answer g img (setLength p new work)) 0 (accepts st (setLength p new work)) (λ z. refused-length new work n l .0 (sym a ∙ z))
             (unreached-length p new work r .0),
-        iff-never (answer g img (setLength p new work)) 26 (answers26 s rows (setLength p new work)) (λ z. refused-length new work n l .1 (sym a ∙ z))
+        iff-never (answer g img (setLength p new work)) 26 (answers26 st (setLength p new work)) (λ z. refused-length new work n l .1 (sym a ∙ z))
             (unreached-length p new work r .1),
       )
 
-  pub answers-0-iff : (c : Call) → isEdit c ≡ true → (answer g img c ≡ 0) ↔ (accepts s rows c ≡ true)
+  pub answers-0-iff : (c : Call) → isEdit c ≡ true → (answer g img c ≡ 0) ↔ (accepts st c ≡ true)
   unfolding isEdit
   answers-0-iff (validate work) h = absurd (clash h refl)
   answers-0-iff (find p work) h = absurd (clash h refl)
   answers-0-iff (read p offset out work) h = absurd (clash h refl)
   answers-0-iff (overwrite p offset bytes work) h = write-iff p offset bytes work (resolveStream (v .directory) p) refl (resolve-stream-low (v .directory) p)
   answers-0-iff (setLength p new work) h = length-iff p new work (resolveStream (v .directory) p) refl (resolve-stream-low (v .directory) p) .0
+  answers-0-iff (create made p work) h = create-iff g pos img acc sized made p work
+  answers-0-iff (remove p work) h = remove-iff g pos img acc sized p work
   answers-0-iff (list out work) h = absurd (clash h refl)
 
   other-not-26 : (c : Call) → (n : ℕ) → answerIn g v c ≡ n → n ≢ 26 → answer g img c ≢ 26
@@ -199,7 +197,7 @@ module _ (g : Geometry) (pos : 0 < g .sectorBytes) (img : Bytes) (acc : Accepted
   other-not-26 c n e h z =
       work-first-not-26 (leb (workNeed (length img)) (length (workOf c))) n h (sym (ap₂ firstOf (verdict-accepted g img (length (workOf c)) acc) e) ∙ z)
 
-  pub answers-26-iff : (c : Call) → (answer g img c ≡ 26) ↔ (answers26 s rows c ≡ true)
+  pub answers-26-iff : (c : Call) → (answer g img c ≡ 26) ↔ (answers26 st c ≡ true)
   unfolding answers26 answerIn targetAnswer beyond
   answers-26-iff (validate work) = iff-never _ 26 false (other-not-26 (validate work) 0 refl (omega arith)) refl
   answers-26-iff (find p work) = iff-never _ 26 false (other-not-26 (find p work) _ refl (refused-not-26 (resolve (v .directory) p) (resolve-low (v .directory) p))) refl
@@ -212,5 +210,7 @@ module _ (g : Geometry) (pos : 0 < g .sectorBytes) (img : Bytes) (acc : Accepted
       (first-not-26 (answerOf (resolveStream (v .directory) p)) _ (refused-not-26 (resolveStream (v .directory) p) (resolve-stream-low (v .directory) p))
       (cond-not-26 (ltb (streamSize v (target v p)) (offset + length bytes)) 24 0 (omega arith) (omega arith)))) refl
   answers-26-iff (setLength p new work) = length-iff p new work (resolveStream (v .directory) p) refl (resolve-stream-low (v .directory) p) .1
+  answers-26-iff (create made p work) = iff-never _ 26 false (other-not-26 (create made p work) _ refl (create-not-26 (v .directory) p)) refl
+  answers-26-iff (remove p work) = iff-never _ 26 false (other-not-26 (remove p work) _ refl (remove-not-26 (v .directory) (resolve (v .directory) p) (resolve-low (v .directory) p))) refl
   answers-26-iff (list out work) =
       iff-never _ 26 false (other-not-26 (list out work) _ refl (cond-not-26 (ltb (length out) (length (listing (v .directory)))) 27 0 (omega arith) (omega arith))) refl

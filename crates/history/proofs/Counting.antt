@@ -7,26 +7,27 @@ use mathlib.Core.List.{List, [], _∷_, _++_, map}
 use native.Mathlib.Omega.{arith}
 use lib.Dec.{ltb, eqb}
 use lib.ListN.{length}
-use borrow.Author.Tests.{eqb-true}
 use Rattle.format.specs.Basics.Lists.{count, bit, sum}
 use Rattle.format.specs.Basics.Bytes.{Bytes}
 use Rattle.format.specs.Layout.Need.{cutoff, roundUp}
 use Rattle.format.specs.Layout.Space.{allocated, freeUnits}
 use Rattle.format.specs.Layout.Name.{Name}
-use Rattle.format.specs.Layout.Entry.{name, kind, child, isStream}
+use Rattle.format.specs.Layout.Entry.{name, kind, isStream}
 use Rattle.format.specs.Layout.Tree.{Forest, empty, broken, node, forest, entries}
 use Rattle.format.specs.Layout.Volume.{Volume}
 use Rattle.format.specs.Layout.Stream.{streamUnits, contents, streamSize}
-use Rattle.format.specs.Rules.Trees.{sound, reachedOnce, everyNode, sidesOrdered, topBlack, coloured, isObject, treeRules, reachedRight}
+use Rattle.format.specs.Rules.Trees.{isObject}
 use Rattle.format.specs.History.Rows.{Row, rowsIn, total, needOf}
 use Rattle.theory.specs.Sums.{sumBelow, lengths}
+use Rattle.theory.specs.TreeOrder.{Rules}
 use Rattle.theory.proofs.Counts.{sum-ext, eqb-cases, bit-self}
 use Rattle.theory.proofs.Owned.{allocated-is, free-count}
-use Rattle.theory.proofs.Tests.{both, below-at}
 use Rattle.theory.proofs.ListSums.{lengths-below, sum-map-append, sum-map-count}
+use Rattle.theory.proofs.Trees.Grow.{count-node}
+use Rattle.theory.proofs.Trees.Nodes.{reached-inside, shape-count}
+use Rattle.theory.proofs.Trees.Rules.{rules-apart}
 use Rattle.frame.specs.Good.{spaceOf, systemOf, unitsOf, entryUnits, Good, sideOf}
 use Rattle.history.proofs.Filled.{Sized, length-contents}
-use Rattle.history.proofs.Forest.{count-node, entries-below}
 
 -- ---- the rows' needs
 
@@ -64,27 +65,16 @@ module _ (v : Volume) (img : Bytes) (o : Good v) (sized : Sized v img) where
       one-row true z path k = rw (length-contents v img o sized e k z) (omega arith)
       one-row false z path k = refl
 
+  abbrev rules : Rules (v .directory)
+  rules = rules-apart (v .directory) (o .trees)
+
   pub inside-forest : (s : ℕ) → 0 < count s (entries (forest (v .directory))) → s < v .directory .count
   unfolding forest
-  inside-forest s h = entries-below (v .directory) (v .directory .count) (child (v .directory .entry 0)) s h
-
-  -- the parts of group 15
-  pub tree-parts : (sound (forest (v .directory)) ≡ true) × (reachedOnce (v .directory) ≡ true) × (everyNode (sidesOrdered (v .directory)) (forest (v .directory)) ≡ true)
-  unfolding treeRules
-  tree-parts =
-      let d = v .directory in
-      let a = sound (forest d) in
-      let b = reachedOnce d in
-      let c = everyNode (sidesOrdered d) (forest d) in
-      let k = topBlack d (forest d) in
-      let h = both (a && b && c) k (both (a && b && c && k) (everyNode (coloured d) (forest d)) (o .trees) .0) .0 in
-      (both a b (both (a && b) c h .0) .0, both a b (both (a && b) c h .0) .1, both (a && b) c h .1)
+  inside-forest = reached-inside (v .directory) (rules .shape)
 
   pub reached : (s : ℕ) → s < v .directory .count → count s (entries (forest (v .directory))) ≡ bit (isObject (v .directory) s)
-  unfolding reachedOnce reachedRight
-  reached s h =
-      eqb-true (count s (entries (forest (v .directory)))) (bit (isObject (v .directory) s))
-      (below-at (v .directory .count) (reachedRight (v .directory)) (tree-parts .1) s h)
+  unfolding forest
+  reached = shape-count (v .directory) (rules .shape)
 
   entries-need : (need : ℕ → ℕ) → sum (map (entryNeed v need) (entries (forest (v .directory)))) ≡ sumBelow (entryNeed v need) (v .directory .count)
   unfolding entryNeed

@@ -1,6 +1,6 @@
 -- DEMAND 3, for every geometry with sectors of at least one byte, from the frame laws.
 use Prim.Native.Nat.{ℕ, zero, suc, _+_, _<_}
-use mathlib.Core.Path.{_≡_, refl, sym, _∙_, subst}
+use mathlib.Core.Path.{_≡_, refl, sym, ap, _∙_, subst}
 use mathlib.Core.Logic.{_↔_}
 use mathlib.Core.Bool.{Bool, true, false, cond}
 use mathlib.Core.List.{List, [], _∷_, map}
@@ -13,6 +13,7 @@ use Rattle.format.specs.Layout.Geometry.{Geometry}
 use Rattle.format.specs.Layout.Space.{freeUnits}
 use Rattle.format.specs.Layout.Stream.{streamSize}
 use Rattle.format.specs.Layout.Volume.{Volume, volume}
+use Rattle.format.specs.Layout.Tree.{Forest}
 use Rattle.format.specs.Rules.Version.{versionOf}
 use Rattle.format.specs.Rules.Verdict.{Accepted}
 use Rattle.format.specs.Calls.Answer.{target, answer}
@@ -20,27 +21,31 @@ use Rattle.format.specs.Calls.Reply.{onZero}
 use Rattle.format.specs.Calls.Paths.{Path}
 use Rattle.format.specs.Calls.Find.{Found, at, refused, resolveStream, answerOf, entryOf}
 use Rattle.format.specs.Calls.SetLength.{crosses, tooFew, resized}
-use Rattle.format.specs.Layout.Tree.{Forest}
 use Rattle.format.specs.Calls.Move.{moved, lengthChanged}
 use Rattle.format.specs.Calls.Overwrite.{overwritten}
-use Rattle.format.specs.Calls.Call.{Call, validate, find, read, overwrite, setLength, list}
+use Rattle.format.specs.Calls.Call.{Call, validate, find, read, overwrite, setLength, create, remove, list}
 use Rattle.format.specs.Calls.Buffers.{edited, imageAfterBy, imageAfter}
 use Rattle.format.specs.History.Rows.{rowsOf}
 use Rattle.format.specs.History.Setting.{settingOf}
-use Rattle.format.specs.History.Step.{accepts, changed, change, rowsStep, rowsAfter, putInto}
+use Rattle.format.specs.History.State.{State, stateIn, stateOf}
+use Rattle.format.specs.History.Accepts.{accepts}
+use Rattle.format.specs.History.Step.{changed, change, stateStep, stateAfter, putInto}
 use Rattle.format.specs.History.Claim.{after, isEdit, Holds, Demand3}
 use Rattle.theory.proofs.Tests.{clash}
+use Rattle.theory.proofs.Refusals.{RefusedLow, resolve-stream-low, first-zero}
 use Rattle.frame.specs.Frame.{Frame}
-use Rattle.theory.proofs.Refusals.{RefusedLow, resolve-stream-low}
+use Rattle.frame.proofs.Versions.{version-cases, accepted-version}
+use Rattle.history.specs.Step.{Step, Next, CallStep, After, lengthRows}
 use Rattle.history.proofs.Room.{allocated-sectors, allocated-minis}
-use Rattle.history.proofs.AnswerNumbers.{first-zero, cond-26-zero}
+use Rattle.history.proofs.AnswerNumbers.{cond-26-zero}
 use Rattle.history.proofs.Answers.{answers-0-iff, answers-26-iff, write-answer, length-answer}
 use Rattle.history.proofs.EditStep.{preserved-itself, write-step}
 use Rattle.history.proofs.LengthStep.{length-step}
 use Rattle.history.proofs.MoveStep.{move-step}
 use Rattle.history.proofs.Filled.{frame-sized, Sized}
-use Rattle.frame.proofs.Versions.{version-cases, accepted-version}
-use Rattle.history.specs.Step.{Step, CallStep, After, lengthRows}
+use Rattle.history.proofs.StateSame.{step-next}
+use Rattle.history.proofs.CreateStep.{create-answered-0}
+use Rattle.history.proofs.RemoveStep.{remove-answered-0}
 
 on-zero-same : (n : ℕ) (x : Bytes) → onZero n x x ≡ x
 unfolding onZero
@@ -59,21 +64,20 @@ module _ (g : Geometry) (pos : 0 < g .sectorBytes) (fr : Frame g) (img : Bytes) 
   sized = frame-sized fr img acc
 
   -- what holds of the image itself
-  pub holds-now : versionOf img ≡ g → Holds (settingOf g img) img (rowsOf g img)
-  unfolding settingOf
-  holds-now own =
+  pub holds-now : (e : versionOf img ≡ g) → Holds img (stateIn g img)
+  unfolding stateIn stateOf settingOf
+  holds-now e =
       record {
-        version = own;
         accepted = acc;
-        streams = refl;
+        state = ap (λ (x : Geometry). stateIn x img) e;
         sectors = allocated-sectors g pos img acc sized;
         minis = allocated-minis g pos img acc sized;
         answersZero = answers-0-iff g pos img acc sized;
         answersFull = answers-26-iff g pos img acc sized;
       }
 
-  unchanged-step : Step g img img (rowsOf g img)
-  unchanged-step = record { accepted = acc; kept = preserved-itself g img acc; setting = refl; rows = refl; found = λ p. refl }
+  unchanged-step : Next g img img (stateIn g img)
+  unchanged-step = record { accepted = acc; kept = preserved-itself g img acc; state = refl }
 
   -- ---- one call
 
@@ -110,34 +114,36 @@ module _ (g : Geometry) (pos : 0 < g .sectorBytes) (fr : Frame g) (img : Bytes) 
       let r = first-zero _ _ (first-zero _ _ (sym (length-answer g pos img acc sized p new work (refused n) h) ∙ a) .1) .0 in
       absurd (omega (arith, l .0))
 
-  accepted-step : (c : Call) → isEdit c ≡ true → answer g img c ≡ 0 → Step g img (edited v img c) (changed (rowsOf g img) c)
-  unfolding isEdit edited changed target
+  accepted-step : (c : Call) → isEdit c ≡ true → answer g img c ≡ 0 → Next g img (edited v img c) (changed (stateIn g img) c)
+  unfolding isEdit edited changed target stateIn
   accepted-step (validate work) h a = absurd (clash h refl)
   accepted-step (find p work) h a = absurd (clash h refl)
   accepted-step (read p offset out work) h a = absurd (clash h refl)
-  accepted-step (overwrite p offset bytes work) h a = write-answered-0 p offset bytes work (resolveStream (v .directory) p) refl (resolve-stream-low (v .directory) p) a
-  accepted-step (setLength p new work) h a = length-answered-0 p new work (resolveStream (v .directory) p) refl (resolve-stream-low (v .directory) p) a
+  accepted-step (overwrite p offset bytes work) h a =
+      step-next g img _ _ (write-answered-0 p offset bytes work (resolveStream (v .directory) p) refl (resolve-stream-low (v .directory) p) a)
+  accepted-step (setLength p new work) h a =
+      step-next g img _ _ (length-answered-0 p new work (resolveStream (v .directory) p) refl (resolve-stream-low (v .directory) p) a)
+  accepted-step (create made p work) h a = create-answered-0 g pos fr img acc made p work a
+  accepted-step (remove p work) h a = remove-answered-0 g pos fr img acc p work a
   accepted-step (list out work) h a = absurd (clash h refl)
 
   edit-call : (c : Call) → isEdit c ≡ true → CallStep g img c
-  unfolding imageAfterBy rowsStep onZero
+  unfolding imageAfterBy stateStep onZero
   edit-call c h = go (answer g img c) refl
     where
-      says : (answer g img c ≡ 0) ↔ (accepts (settingOf g img) (rowsOf g img) c ≡ true)
+      says : (answer g img c ≡ 0) ↔ (accepts (stateIn g img) c ≡ true)
       says = answers-0-iff g pos img acc sized c h
 
-      refusal : (n : ℕ) → answer g img c ≡ suc n → (t : Bool) → accepts (settingOf g img) (rowsOf g img) c ≡ t → t ≡ false
+      refusal : (n : ℕ) → answer g img c ≡ suc n → (t : Bool) → accepts (stateIn g img) c ≡ t → t ≡ false
       refusal n e true k = absurd (omega (arith, says .1 k))
       refusal n e false k = refl
 
-      go : (n : ℕ) → answer g img c ≡ n → Step g img (onZero n (edited v img c) img)
-          (cond (accepts (settingOf g img) (rowsOf g img) c) (changed (rowsOf g img) c) (rowsOf g img))
+      go : (n : ℕ) → answer g img c ≡ n → Next g img (onZero n (edited v img c) img) (cond (accepts (stateIn g img) c) (changed (stateIn g img) c) (stateIn g img))
       go zero e = rw (says .0 e) (accepted-step c h e)
-      go (suc n) e = rw (refusal n e (accepts (settingOf g img) (rowsOf g img) c) refl) unchanged-step
+      go (suc n) e = rw (refusal n e (accepts (stateIn g img) c) refl) unchanged-step
 
-  other-call : (c : Call) → edited v img c ≡ img → accepts (settingOf g img) (rowsOf g img) c ≡ false →
-      Step g img (imageAfterBy g img c) (rowsStep (settingOf g img) (rowsOf g img) c)
-  unfolding imageAfterBy rowsStep
+  other-call : (c : Call) → edited v img c ≡ img → accepts (stateIn g img) c ≡ false → Next g img (imageAfterBy g img c) (stateStep (stateIn g img) c)
+  unfolding imageAfterBy stateStep
   other-call c e a = rw (e, a, on-zero-same (answer g img c) img) unchanged-step
 
   pub call-step : (c : Call) → CallStep g img c
@@ -147,13 +153,15 @@ module _ (g : Geometry) (pos : 0 < g .sectorBytes) (fr : Frame g) (img : Bytes) 
   call-step (read p offset out work) = other-call (read p offset out work) refl refl
   call-step (overwrite p offset bytes work) = edit-call (overwrite p offset bytes work) refl
   call-step (setLength p new work) = edit-call (setLength p new work) refl
+  call-step (create made p work) = edit-call (create made p work) refl
+  call-step (remove p work) = edit-call (remove p work) refl
   call-step (list out work) = other-call (list out work) refl refl
 
 -- ---- every list of calls: each call reads the image's version, and that stays
 
 module _ (pos : (img : Bytes) → 0 < versionOf img .sectorBytes) (fr : (img : Bytes) → Frame (versionOf img)) where
   list-after : (img : Bytes) (calls : List Call) → Accepted (versionOf img) img → After img calls
-  unfolding after rowsAfter
+  unfolding after stateAfter stateOf
   list-after img [] acc = holds-now (versionOf img) (pos img) (fr img) img acc refl
   list-after img (c ∷ calls) acc =
       let g = versionOf img in
@@ -161,9 +169,8 @@ module _ (pos : (img : Bytes) → 0 < versionOf img .sectorBytes) (fr : (img : B
       let s = call-step g (pos img) (fr img) img acc c in
       let e = accepted-version g next (version-cases img) (s .accepted) in
       let h = list-after next calls (subst (λ (x : Geometry). Accepted x next) (sym e) (s .accepted)) in
-      let same = subst (λ (x : Geometry). Holds (settingOf x next) (after next calls) (rowsAfter (settingOf x next) (rowsOf x next) calls)) e h in
-      subst (λ rows. Holds (settingOf g img) (after next calls) (rowsAfter (settingOf g img) rows calls)) (s .rows)
-      (subst (λ st. Holds st (after next calls) (rowsAfter st (rowsOf g next) calls)) (s .setting) same)
+      subst (λ (st : State). Holds (after next calls) (stateAfter st calls))
+      (ap (λ (x : Geometry). stateIn x next) e ∙ s .state) h
 
   pub demand3 : Demand3
   demand3 = list-after

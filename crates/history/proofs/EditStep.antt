@@ -98,7 +98,7 @@ preserved-trans x y =
       };
     }
 
-setting : Geometry → ℕ → ℕ → ℕ → ℕ → Setting
+unfoldable pub setting : Geometry → ℕ → ℕ → ℕ → ℕ → Setting
 setting g a b c d = record { geometry = g; sectors = a; minis = b; fixed = c; work = d }
 
 module _ (g : Geometry) (pos : 0 < g .sectorBytes) (fr : Frame g) (img : Bytes) (acc : Accepted g img) where
@@ -153,6 +153,7 @@ module _ (g : Geometry) (pos : 0 < g .sectorBytes) (fr : Frame g) (img : Bytes) 
           kept = kept;
           setting = edit-setting;
           rows = edit-rows;
+          alike = alike good x;
           found = resolve-stream-same (v .directory) (volume g img′ .directory) (alike good x);
         }
 

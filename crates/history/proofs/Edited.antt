@@ -27,7 +27,8 @@ use Rattle.theory.proofs.Owned.{stays}
 use Rattle.theory.proofs.Tests.{both, and-true-of, below-at, below-of, clash}
 use Rattle.frame.specs.Good.{spaceOf, unitsOf, entryUnits, Chain, Good, sideOf}
 use Rattle.history.specs.Changed.{Changed}
-use Rattle.history.proofs.Alike.{Alike, trees-same}
+use Rattle.history.specs.Alike.{Alike}
+use Rattle.history.proofs.Alike.{trees-same}
 use Rattle.history.proofs.EditedUnits.{edit-becomes, edit-cells, edited-units, in-entry-units, limit-same, unit-same, units-other, cells-same, edit-linked, other-chain, owned-after, size-other}
 use Rattle.history.proofs.CellCases.{rechain-cases, or-more, plain-free, plain-end, plain-number}
 use Rattle.frame.proofs.EntryFacts.{entry-fields, root-no-stream, edited-fields}

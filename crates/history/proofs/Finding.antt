@@ -18,23 +18,20 @@ use Rattle.format.specs.Rules.Trees.{isObject}
 use Rattle.format.specs.Calls.Paths.{Path, names}
 use Rattle.format.specs.Calls.Find.{at, refused, resolveStream}
 use Rattle.format.specs.History.Rows.{rowsIn, hasRow, rowLength}
-use Rattle.theory.proofs.Counts.{bit-self, eqb-cases}
+use Rattle.theory.proofs.Counts.{bit-self, bit-true, eqb-cases}
+use Rattle.theory.proofs.Trees.Rules.{rules-apart}
 use Rattle.theory.proofs.Tests.{or-only}
+use Rattle.theory.proofs.Refusals.{found-stream}
+use Rattle.theory.proofs.Trees.Depth.{named-inside}
 use Rattle.frame.specs.Good.{Good}
+use Rattle.frame.proofs.EntryFacts.{entry-fields, name-fields-legal, stream-fields-say, stream-fields-of, storage-fields-say, storage-fields-of}
 use Rattle.history.proofs.Filled.{Sized, length-contents}
-use Rattle.history.proofs.Counting.{inside-forest, tree-parts, reached}
+use Rattle.history.proofs.Counting.{inside-forest, reached}
 use Rattle.history.proofs.Hits.{strip, hits, hits-le}
 use Rattle.history.proofs.Paths.{Findable, path-hits, foundList}
-use Rattle.theory.proofs.Refusals.{found-stream}
 use Rattle.history.proofs.Rows.{meantLengths, nonEmpty, firstOr0, has-row-meant, row-length-meant, rows-meant}
-use Rattle.frame.proofs.EntryFacts.{entry-fields, name-fields-legal, stream-fields-say, stream-fields-of, storage-fields-say, storage-fields-of}
-use Rattle.history.proofs.Forest.{named-below}
 
 module _ (v : Volume) (img : Bytes) (o : Good v) (sized : Sized v img) (rootPlain : isStream (v .directory .entry 0) ≡ false) where
-  bit-true : (b : Bool) → 0 < bit b → b ≡ true
-  bit-true true h = refl
-  bit-true false h = absurd (omega arith)
-
   reached-legal : (x : ℕ) → 0 < count x (entries (forest (v .directory))) → legalName (name (v .directory .entry x)) ≡ true
   reached-legal x h =
       let k = inside-forest v img o sized x h in
@@ -49,10 +46,11 @@ module _ (v : Volume) (img : Bytes) (o : Good v) (sized : Sized v img) (rootPlai
 
   stream-childless : (x : ℕ) → named (v .directory) x ≡ true → isStream (v .directory .entry x) ≡ true → child (v .directory .entry x) ≡ NOSTREAM
   stream-childless x h st =
-      stream-fields-say (v .directory .entry x) (stream-fields-of (v .directory .entry x) x (entry-fields o x (named-below (v .directory) x h)) st) .1
+      stream-fields-say (v .directory .entry x) (stream-fields-of (v .directory .entry x) x (entry-fields o x (named-inside (v .directory) x h)) st) .1
 
   pub findable : Findable (v .directory)
-  findable = record { ordered = tree-parts v img o sized .2; leaves = stream-childless; legal = reached-legal; rootPlain = rootPlain }
+  unfolding forest
+  findable = record { ordered = rules-apart (v .directory) (o .trees) .sorted; leaves = stream-childless; legal = reached-legal; rootPlain = rootPlain }
 
   found-hits : (p : Path) → foundList (resolveStream (v .directory) p) ≡ hits (v .directory) (strip (names p) []) (forest (v .directory))
   unfolding strip

@@ -25,13 +25,13 @@ use Rattle.format.specs.Calls.Answer.{target, answer}
 use Rattle.format.specs.Calls.Reply.{onZero}
 use Rattle.format.specs.Calls.Buffers.{edited, imageAfterBy}
 use Rattle.format.specs.Claims.Search.{LengthSearched}
-use Rattle.theory.proofs.Refusals.{RefusedLow, resolve-stream-low}
+use Rattle.theory.proofs.Refusals.{RefusedLow, resolve-stream-low, first-zero}
 use Rattle.frame.specs.Frame.{Frame}
 use Rattle.frame.specs.Good.{Good}
 use Rattle.frame.proofs.EntryFacts.{root-plain}
 use Rattle.frame.proofs.Final.{frame, own-sized}
 use Rattle.frame.proofs.Good.{accepted-good}
-use Rattle.history.proofs.AnswerNumbers.{first-zero, cond-26-zero}
+use Rattle.history.proofs.AnswerNumbers.{cond-26-zero}
 use Rattle.history.proofs.Answers.{length-answer}
 use Rattle.history.proofs.Filled.{Sized, frame-sized}
 use Rattle.history.proofs.Finding.{is-stream, is-inside}

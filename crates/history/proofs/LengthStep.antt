@@ -39,7 +39,7 @@ use Rattle.frame.proofs.LengthUnits.{sides-uncrossed, old-units-length}
 use Rattle.history.proofs.Resized.{resize-changed, resize-contents}
 use Rattle.history.proofs.EditStep.{preserved-itself, edit-step}
 use Rattle.frame.proofs.EntryFacts.{root-plain}
-use Rattle.history.proofs.Alike.{Alike}
+use Rattle.history.specs.Alike.{Alike}
 use Rattle.history.specs.Step.{Step, lengthRows, Enough}
 
 -- the same directory is like itself
@@ -112,6 +112,7 @@ module _ (g : Geometry) (pos : 0 < g .sectorBytes) (fr : Frame g) (img : Bytes) 
           kept = preserved-itself g img acc;
           setting = refl;
           rows = same-length-rows (sym (ap (λ n. fit n (contents v img e)) (z ∙ sym (length-contents v img good sized e inside stream)) ∙ fit-same (contents v img e)));
+          alike = alike-itself v;
           found = λ q. refl;
         }
 

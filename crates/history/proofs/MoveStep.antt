@@ -13,6 +13,7 @@ use Rattle.format.specs.Layout.Geometry.{Geometry}
 use Rattle.format.specs.Layout.Need.{cutoff, roundUp}
 use Rattle.format.specs.Layout.Space.{freeUnits}
 use Rattle.format.specs.Layout.Entry.{isStream}
+use Rattle.format.specs.Layout.Directory.{Directory}
 use Rattle.format.specs.Layout.Tree.{Forest, forest}
 use Rattle.format.specs.Layout.Stream.{streamSize, contents}
 use Rattle.format.specs.Layout.Volume.{Volume, volume}
@@ -36,7 +37,21 @@ use Rattle.history.proofs.EditStep.{preserved-trans, write-step}
 use Rattle.history.proofs.LengthStep.{alike-itself, resize-step}
 use Rattle.history.proofs.Moving.{move-room, cut-may, grow-may, grow-size}
 use Rattle.history.proofs.MoveRows.{change-change, kept-fit}
+use Rattle.history.specs.Alike.{Alike}
 use Rattle.history.specs.Step.{Step, lengthRows}
+
+-- one after the other
+alike-on : {a c : Directory} (b : Directory) → Alike b c → Alike a b → Alike a c
+alike-on b y x =
+    record {
+      count = y .count ∙ x .count;
+      name = λ i. y .name i ∙ x .name i;
+      kind = λ i. y .kind i ∙ x .kind i;
+      colour = λ i. y .colour i ∙ x .colour i;
+      left = λ i. y .left i ∙ x .left i;
+      right = λ i. y .right i ∙ x .right i;
+      child = λ i. y .child i ∙ x .child i;
+    }
 
 module _ (g : Geometry) (pos : 0 < g .sectorBytes) (fr : Frame g) (img : Bytes) (acc : Accepted g img) (p : Path) (new : ℕ) {e : ℕ} {b : Forest}
     (found : resolveStream (volume g img .directory) p ≡ at e b) (over : crosses (streamSize (volume g img) e) new ≡ true)
@@ -106,6 +121,7 @@ module _ (g : Geometry) (pos : 0 < g .sectorBytes) (fr : Frame g) (img : Bytes) 
         accepted = put-step .accepted;
         kept = preserved-trans (preserved-trans (cut-step .kept) (grow-step .kept)) (put-step .kept);
         setting = put-step .setting ∙ grow-step .setting ∙ cut-step .setting;
+        alike = alike-on (volume g cut .directory) (alike-on (volume g grown .directory) (put-step .alike) (grow-step .alike)) (cut-step .alike);
         rows =
             put-step .rows
             ∙ ap (map (change p (putInto 0 kept))) (grow-step .rows ∙ ap (lengthRows p new) (cut-step .rows))

@@ -9,7 +9,7 @@ use native.Mathlib.Decide.{ℕ-discrete}
 use lib.Dec.{eqb}
 use lib.ListN.{length}
 use Rattle.format.specs.Basics.Bytes.{Bytes}
-use Rattle.format.specs.Basics.Lists.{bit, count}
+use Rattle.format.specs.Basics.Lists.{any, bit, count}
 use Rattle.format.specs.Layout.Name.{Name}
 use Rattle.format.specs.Layout.Directory.{Directory}
 use Rattle.format.specs.Layout.Entry.{name, kind, isStream}
@@ -20,8 +20,8 @@ use Rattle.format.specs.Calls.Paths.{Path, names}
 use Rattle.format.specs.History.Rows.{Row, rowsIn, means, hasRow, rowLength}
 use Rattle.format.specs.History.Step.{change}
 use Rattle.theory.proofs.Counts.{count-append, bit-self}
-use Rattle.history.proofs.Alike.{Alike}
-use Rattle.history.proofs.Forest.{count-node}
+use Rattle.history.specs.Alike.{Alike}
+use Rattle.theory.proofs.Trees.Grow.{count-node}
 use Rattle.history.proofs.Hits.{Want, advance, strip, isDone, ownHit, hits, strip-snoc, same-path-strip, hits-le, own-hit-le}
 
 unfoldable pub meantLengths : List Row → Path → List ℕ
@@ -37,7 +37,7 @@ firstOr0 [] = 0
 firstOr0 (x ∷ xs) = x
 
 pub has-row-meant : (rows : List Row) (p : Path) → hasRow rows p ≡ nonEmpty (meantLengths rows p)
-unfolding meantLengths nonEmpty hasRow
+unfolding meantLengths nonEmpty hasRow any
 has-row-meant [] p = refl
 has-row-meant (r ∷ rs) p = go (means p r) (has-row-meant rs p)
   where

@@ -6,7 +6,8 @@ use Rattle.format.specs.Layout.Directory.{Directory}
 use Rattle.format.specs.Layout.Tree.{Forest, empty, broken, node, forest}
 use Rattle.format.specs.Calls.Paths.{Path, names}
 use Rattle.format.specs.Calls.Find.{childNamed, Found, at, refused, enter, descend, resolve, needStream, resolveStream}
-use Rattle.history.proofs.Alike.{Alike, forest-same}
+use Rattle.history.specs.Alike.{Alike}
+use Rattle.history.proofs.Alike.{forest-same}
 
 module _ (d d′ : Directory) (a : Alike d d′) where
   child-same : (n : Name) (t : Forest) → childNamed d′ n t ≡ childNamed d n t
@@ -25,7 +26,7 @@ module _ (d d′ : Directory) (a : Alike d d′) where
   descend-same [] f = refl
   descend-same (n ∷ ns) f = rw (enter-same f n) (descend-same ns (enter d f n))
 
-  resolve-same : (p : Path) → resolve d′ p ≡ resolve d p
+  pub resolve-same : (p : Path) → resolve d′ p ≡ resolve d p
   unfolding resolve
   resolve-same p = rw (forest-same d d′ a, descend-same (names p) (at 0 (forest d)))
 

@@ -1,7 +1,7 @@
 -- What one call of a list leaves, and the claim about the whole list.
+use Prim.Native.Nat.{ℕ, _+_, _≤_}
 use mathlib.Core.Path.{_≡_}
 use mathlib.Core.List.{List, map}
-use Prim.Native.Nat.{ℕ, _+_, _≤_}
 use lib.ListN.{length}
 use Rattle.format.specs.Basics.Bytes.{Bytes}
 use Rattle.format.specs.Basics.Lists.{fit}
@@ -9,7 +9,6 @@ use Rattle.format.specs.Layout.Geometry.{Geometry}
 use Rattle.format.specs.Layout.Need.{roundUp}
 use Rattle.format.specs.Layout.Space.{Space, freeUnits}
 use Rattle.format.specs.Layout.Volume.{volume}
-use Rattle.format.specs.Rules.Version.{versionOf}
 use Rattle.format.specs.Rules.Verdict.{Accepted}
 use Rattle.format.specs.Calls.Paths.{Path}
 use Rattle.format.specs.Calls.Find.{resolveStream}
@@ -17,9 +16,11 @@ use Rattle.format.specs.Calls.Call.{Call}
 use Rattle.format.specs.Calls.Buffers.{imageAfterBy}
 use Rattle.format.specs.History.Rows.{Row, rowsOf}
 use Rattle.format.specs.History.Setting.{settingOf}
-use Rattle.format.specs.History.Step.{change, rowsStep, rowsAfter}
+use Rattle.format.specs.History.State.{State, stateIn, stateOf}
+use Rattle.format.specs.History.Step.{change, stateStep, stateAfter}
 use Rattle.format.specs.History.Claim.{after, Holds}
 use Rattle.frame.specs.Edits.{Preserved}
+use Rattle.history.specs.Alike.{Alike}
 
 -- from img to an accepted image img′ of the same setting, whose rows are rows′. The system's sectors are where they were, and every path leads to
 -- the stream that it led to.
@@ -28,11 +29,18 @@ pub record Step (g : Geometry) (img img′ : Bytes) (rows′ : List Row) : Type 
   pub kept : Preserved g img img′
   pub setting : settingOf g img′ ≡ settingOf g img
   pub rows : rowsOf g img′ ≡ rows′
+  pub alike : Alike (volume g img .directory) (volume g img′ .directory)
   pub found : (p : Path) → resolveStream (volume g img′ .directory) p ≡ resolveStream (volume g img .directory) p
 
--- a call leaves the image and the rows that the definitions say
+-- from img to an accepted image img′ of that state
+pub record Next (g : Geometry) (img img′ : Bytes) (s : State) : Type 0 where
+  pub accepted : Accepted g img′
+  pub kept : Preserved g img img′
+  pub state : stateIn g img′ ≡ s
+
+-- a call leaves the image and the state that the definitions say
 abbrev pub CallStep : Geometry → Bytes → Call → Type 0
-CallStep g img c = Step g img (imageAfterBy g img c) (rowsStep (settingOf g img) (rowsOf g img) c)
+CallStep g img c = Next g img (imageAfterBy g img c) (stateStep (stateIn g img) c)
 
 -- what an accepted change of length makes of a stream's bytes, and the rows after it
 abbrev pub resizedBytes : ℕ → Bytes → Bytes
@@ -47,6 +55,4 @@ Enough sp us new = roundUp new (sp .unit) ≤ length us + length (freeUnits sp)
 
 -- what holds after the whole list: demand 3 of one image
 abbrev pub After : Bytes → List Call → Type 0
-After img calls =
-    Holds (settingOf (versionOf img) img) (after img calls)
-    (rowsAfter (settingOf (versionOf img) img) (rowsOf (versionOf img) img) calls)
+After img calls = Holds (after img calls) (stateAfter (stateOf img) calls)

@@ -4,9 +4,8 @@ use mathlib.Core.List.{List}
 use Rattle.format.specs.Rules.Version.{versionOf}
 use Rattle.format.specs.Rules.Verdict.{Accepted}
 use Rattle.format.specs.Calls.Call.{Call}
-use Rattle.format.specs.History.Rows.{rowsOf}
-use Rattle.format.specs.History.Setting.{settingOf}
-use Rattle.format.specs.History.Step.{rowsAfter}
+use Rattle.format.specs.History.State.{stateOf}
+use Rattle.format.specs.History.Step.{stateAfter}
 use Rattle.format.specs.History.Claim.{after, Holds}
 use Rattle.format_tests.specs.Opened.{opened}
 use Rattle.format_tests.specs.Images.{smallAndLarge, built}
@@ -16,7 +15,5 @@ pub accepted : Accepted (versionOf smallAndLarge) smallAndLarge
 unfolding opened built
 accepted = refl
 
-applies : (calls : List Call)
-    → Holds (settingOf (versionOf smallAndLarge) smallAndLarge) (after smallAndLarge calls)
-    (rowsAfter (settingOf (versionOf smallAndLarge) smallAndLarge) (rowsOf (versionOf smallAndLarge) smallAndLarge) calls)
+applies : (calls : List Call) → Holds (after smallAndLarge calls) (stateAfter (stateOf smallAndLarge) calls)
 applies calls = demand3 smallAndLarge calls accepted

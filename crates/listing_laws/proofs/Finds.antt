@@ -26,7 +26,7 @@ use Rattle.format.specs.Claims.Listing.{isNamed, isKnown, agrees, FoundBy}
 use Rattle.theory.proofs.Refusals.{RefusedLow, resolve-low}
 use Rattle.theory.proofs.Tests.{and-true-of}
 use Rattle.theory.proofs.Trees.PathOrder.{same-self}
-use Rattle.history.proofs.Answers.{verdict-accepted}
+use Rattle.frame.proofs.Accepted.{verdict-accepted}
 use Rattle.listing_laws.specs.Leads.{Led, AllLed}
 use Rattle.listing_laws.proofs.Joined.{names-joined}
 use Rattle.listing_laws.proofs.Leads.{led-all}

@@ -17,7 +17,7 @@ use Rattle.theory.proofs.Counts.{bit-self}
 use Rattle.theory.proofs.Tests.{and-true-of, all-joined}
 use Rattle.theory.proofs.Trees.Nodes.{everyNode-apart}
 use Rattle.theory.proofs.Trees.Sides.{Sorted, sorted-apart}
-use Rattle.history.proofs.Forest.{count-node}
+use Rattle.theory.proofs.Trees.Grow.{count-node}
 use Rattle.history.proofs.Paths.{Findable, streamIsLeaf, leaf-empty, forest-leaf}
 use Rattle.listing_laws.specs.Search.{Own, EachSibling}
 use Rattle.listing_laws.specs.Leads.{Reached, Led, AllLed}

@@ -18,7 +18,7 @@ use Rattle.format.specs.Claims.ListingText.{linesOf, otherWords, decimalValue, 
 use Rattle.theory.specs.TreePaths.{pathBelow}
 use Rattle.theory.proofs.Counts.{bit-self}
 use Rattle.theory.proofs.Tests.{and-true-of, all-joined}
-use Rattle.history.proofs.Forest.{count-node}
+use Rattle.theory.proofs.Trees.Grow.{count-node}
 use Rattle.listing_laws.specs.Text.{isOther, lacks, above, lineText, firstText, Printable}
 use Rattle.listing_laws.proofs.Cuts.{lines-cut}
 use Rattle.listing_laws.proofs.Texts.{decimal-back, decimal-lacks}

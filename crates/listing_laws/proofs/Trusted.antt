@@ -26,6 +26,8 @@ use Rattle.format.specs.Calls.Call.{find, list, workOf}
 use Rattle.format.specs.Calls.Answer.{firstOf, answerIn, answer}
 use Rattle.format.specs.Calls.Reply.{counted, done, onZero, replyBy, reply}
 use Rattle.format.specs.Calls.Buffers.{handedOut, outAfterBy, outAfter}
+use Rattle.format.specs.History.State.{stateOf}
+use Rattle.format.specs.History.Step.{stateAfter}
 use Rattle.format.specs.History.Claim.{after}
 use Rattle.format.specs.Claims.PathOrder.{rising}
 use Rattle.format.specs.Claims.ListingText.{announced, readListing}
@@ -33,14 +35,15 @@ use Rattle.format.specs.Claims.Listing.{listed, entryFound, FoundBy, Trusted, L
 use Rattle.theory.proofs.Trees.PathsRise.{object-paths, paths-rise, rising-apart}
 use Rattle.frame.specs.Good.{Good}
 use Rattle.frame.proofs.Final.{frame, own-sized}
+use Rattle.frame.proofs.Accepted.{verdict-accepted}
 use Rattle.frame.proofs.Good.{accepted-good}
 use Rattle.frame.proofs.EntryFacts.{root-plain}
 use Rattle.history.proofs.Filled.{Sized as SizedUnits, frame-sized}
 use Rattle.history.proofs.Counting.{inside-forest, reached}
 use Rattle.history.proofs.Paths.{Findable}
 use Rattle.history.proofs.Finding.{findable}
-use Rattle.history.proofs.Answers.{verdict-accepted}
 use Rattle.history.proofs.Demand3.{demand3}
+use Rattle.history.proofs.OwnVersion.{own-accepted}
 use Rattle.listing_laws.specs.Leads.{AllLed}
 use Rattle.listing_laws.proofs.ListingBack.{listing-back, announced-back}
 use Rattle.listing_laws.proofs.Leads.{objects-led, led-map}
@@ -149,6 +152,4 @@ listing-trusted img acc out work enough room = (answers-zero img acc out work en
 
 -- the calls of a list leave an accepted image
 pub listing-trusted-after : ListingTrustedAfter
-listing-trusted-after img calls acc =
-    let h = demand3 img calls acc in
-    listing-trusted (after img calls) (subst (λ (g : Geometry). Accepted g (after img calls)) (sym (h .version)) (h .accepted))
+listing-trusted-after img calls acc = listing-trusted (after img calls) (own-accepted (after img calls) (stateAfter (stateOf img) calls) (demand3 img calls acc))

@@ -17,11 +17,10 @@ use Rattle.format.specs.Calls.Reply.{reply}
 use Rattle.format.specs.Calls.Buffers.{imageAfter, outAfter}
 use Rattle.frame.specs.Groups.{ImageGroups}
 use Rattle.frame.specs.Kept.{Sized}
-use Rattle.frame.proofs.Accepted.{accepted-kept, kept-accepted}
+use Rattle.frame.proofs.Accepted.{accepted-kept, kept-accepted, verdict-accepted}
 use Rattle.frame.proofs.Final.{frame}
 use Rattle.frame.proofs.Versions.{version-cases, accepted-version}
 use Rattle.history.specs.Step.{CallStep}
-use Rattle.history.proofs.Answers.{verdict-accepted}
 use Rattle.history.proofs.Demand.{call-step}
 use Rattle.kinds.specs.Sizes.{geometryOf}
 use Rattle.kinds.specs.declared.Refusal.{Refusal}

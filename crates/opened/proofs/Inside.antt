@@ -2,14 +2,17 @@
 use Prim.Native.Nat.{ℕ, zero, suc, _+_, _≤_}
 use mathlib.Core.Path.{_≡_, refl, sym, _∙_}
 use mathlib.Core.Logic.{_⊎_, inl, inr, ⊎-elim}
-use mathlib.Core.Bool.{Bool, true, false, cond}
+use mathlib.Core.Bool.{Bool, true, false, not, cond, _&&_}
 use mathlib.Core.List.{List}
 use native.Mathlib.Omega.{arith}
 use borrow.Author.Tests.{le-leb}
-use lib.Dec.{ltb, leb}
+use lib.Dec.{eqb, ltb, leb}
 use lib.ListN.{length}
 use Rattle.format.specs.Basics.Bytes.{Bytes}
 use Rattle.format.specs.Layout.Geometry.{Geometry}
+use Rattle.format.specs.Layout.Entry.{isStorage}
+use Rattle.format.specs.Layout.Directory.{Directory, blanks}
+use Rattle.format.specs.Layout.Tree.{isEmpty}
 use Rattle.format.specs.Layout.Volume.{Volume, volume}
 use Rattle.format.specs.Rules.Length.{lengthAllowed, workNeed}
 use Rattle.format.specs.Rules.Verdict.{check, groups, verdict, Accepted}
@@ -18,12 +21,12 @@ use Rattle.format.specs.Layout.Stream.{streamSize}
 use Rattle.format.specs.Calls.Paths.{Path}
 use Rattle.format.specs.Calls.SetLength.{tooFew}
 use Rattle.format.specs.Calls.Listing.{listing}
-use Rattle.format.specs.Calls.Find.{Found, at, refused, answerOf, resolve, resolveStream}
-use Rattle.format.specs.Calls.Call.{Call, validate, find, read, overwrite, setLength, list, workOf}
-use Rattle.format.specs.Calls.Answer.{firstOf, target, targetAnswer, beyond, lengthAnswer, answerIn, answer}
+use Rattle.format.specs.Calls.Find.{Found, at, refused, answerOf, resolve, resolveStream, resolveParent}
+use Rattle.format.specs.Calls.Call.{Call, validate, find, read, overwrite, setLength, create, remove, list, workOf}
+use Rattle.format.specs.Calls.Answer.{firstOf, target, targetAnswer, beyond, lengthAnswer, createAnswer, removeAnswer, answerIn, answer}
 use Rattle.format.specs.Calls.Reply.{replyBy}
 use Rattle.format.specs.Calls.Buffers.{workCleared, imageAfterBy, outAfterBy, workAfterBy}
-use Rattle.theory.proofs.Refusals.{RefusedLow, resolve-low, resolve-stream-low}
+use Rattle.theory.proofs.Refusals.{RefusedLow, resolve-low, resolve-stream-low, parent-low}
 use Rattle.tables.specs.Work.{Wrote}
 use Rattle.frame.proofs.Accepted.{accepted-kept}
 use Rattle.volume.specs.Opened.{OpenedRight}
@@ -66,6 +69,18 @@ late-target : (v : Volume) (p : Path) → Late (targetAnswer v p)
 unfolding targetAnswer
 late-target v p = late-found (resolveStream (v .directory) p) (resolve-stream-low (v .directory) p)
 
+late-create : (d : Directory) (p : Path) → Late (createAnswer d (resolveParent d p) (resolve d p))
+unfolding createAnswer
+late-create d p =
+    late-first (answerOf (resolveParent d p)) _ (late-found (resolveParent d p) (parent-low d p))
+    (late-either (eqb (answerOf (resolve d p)) 0) 29 _ (inr (omega arith)) (late-either (eqb (length (blanks d)) 0) 30 0 (inr (omega arith)) (inl refl)))
+
+late-remove : (d : Directory) (f : Found) → RefusedLow f → Late (removeAnswer d f)
+unfolding removeAnswer
+late-remove d (at e b) h =
+    late-either (isStorage (d .entry e) && not (isEmpty b)) 28 _ (inr (omega arith)) (late-either (eqb e 0) 31 0 (inr (omega arith)) (inl refl))
+late-remove d (refused a) h = inr (h .0)
+
 late : (g : Geometry) (v : Volume) (c : Call) → Late (answerIn g v c)
 unfolding answerIn
 late g v (validate work) = inl refl
@@ -74,6 +89,8 @@ late g v (read path offset out work) = late-first (targetAnswer v path) (beyond 
 late g v (overwrite path offset bytes work) =
     late-first (targetAnswer v path) (beyond (streamSize v (target v path)) (offset + length bytes)) (late-target v path) (late-beyond (streamSize v (target v path)) (offset + length bytes))
 late g v (setLength path new work) = late-first (targetAnswer v path) (lengthAnswer g v (streamSize v (target v path)) new) (late-target v path) (late-length g v (streamSize v (target v path)) new)
+late g v (create made path work) = late-create (v .directory) path
+late g v (remove path work) = late-remove (v .directory) (resolve (v .directory) path) (resolve-low (v .directory) path)
 late g v (list out work) = late-either (ltb (length out) (length (listing (v .directory)))) 27 0 (inr (omega arith)) (inl refl)
 
 -- ---- the call, where the verdict is 0

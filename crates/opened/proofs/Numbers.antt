@@ -6,7 +6,7 @@ use Rattle.format.specs.Basics.Bytes.{Bytes}
 use Rattle.format.specs.Layout.Geometry.{Geometry}
 use Rattle.format.specs.Layout.Volume.{Volume, volume}
 use Rattle.format.specs.Calls.Paths.{Path}
-use Rattle.format.specs.Calls.Call.{Call, validate, find, read, overwrite, setLength, list}
+use Rattle.format.specs.Calls.Call.{Call, validate, find, read, overwrite, setLength, create, remove, list}
 use Rattle.format.specs.Calls.Answer.{answer}
 use Rattle.format.specs.Calls.Reply.{plain, foundReply, counted, done, onZero, replyBy}
 use Rattle.format.specs.Calls.Buffers.{edited, imageAfterBy}
@@ -19,6 +19,8 @@ done-number v (find path work) = refl
 done-number v (read path offset out work) = refl
 done-number v (overwrite path offset bytes work) = refl
 done-number v (setLength path new work) = refl
+done-number v (create made path work) = refl
+done-number v (remove path work) = refl
 done-number v (list out work) = refl
 
 module _ (g : Geometry) (img : Bytes) where

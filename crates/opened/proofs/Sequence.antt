@@ -12,7 +12,7 @@ use Rattle.format.specs.Rules.Length.{workNeed}
 use Rattle.format.specs.Rules.Version.{versionOf}
 use Rattle.format.specs.Rules.Verdict.{verdict}
 use Rattle.format.specs.Calls.Paths.{Path}
-use Rattle.format.specs.Calls.Call.{Call, validate, find, read, overwrite, setLength, list, workOf, outOf}
+use Rattle.format.specs.Calls.Call.{Call, validate, find, read, overwrite, setLength, create, remove, list, workOf, outOf}
 use Rattle.format.specs.Calls.Answer.{answerIn}
 use Rattle.format.specs.Calls.Reply.{Reply, plain, reply, done, onZero}
 use Rattle.format.specs.Calls.Buffers.{workCleared, edited, handedOut, imageAfter, outAfter, outAfterBy, workAfter}
@@ -42,6 +42,8 @@ lent-work w (find path work) = refl
 lent-work w (read path offset out work) = refl
 lent-work w (overwrite path offset bytes work) = refl
 lent-work w (setLength path new work) = refl
+lent-work w (create made path work) = refl
+lent-work w (remove path work) = refl
 lent-work w (list out work) = refl
 
 module _ (g : Geometry) (v : Volume) (img : Bytes) (w w′ : List ℕ) where
@@ -52,6 +54,8 @@ module _ (g : Geometry) (v : Volume) (img : Bytes) (w w′ : List ℕ) where
   any-reply (read path offset out work) = refl
   any-reply (overwrite path offset bytes work) = refl
   any-reply (setLength path new work) = refl
+  any-reply (create made path work) = refl
+  any-reply (remove path work) = refl
   any-reply (list out work) = refl
 
   any-out : (c : Call) → outIn g v img (lent w c) ≡ outIn g v img (lent w′ c)
@@ -61,6 +65,8 @@ module _ (g : Geometry) (v : Volume) (img : Bytes) (w w′ : List ℕ) where
   any-out (read path offset out work) = refl
   any-out (overwrite path offset bytes work) = refl
   any-out (setLength path new work) = refl
+  any-out (create made path work) = refl
+  any-out (remove path work) = refl
   any-out (list out work) = refl
 
   any-image : (c : Call) → imageIn g v img (lent w c) ≡ imageIn g v img (lent w′ c)
@@ -70,6 +76,8 @@ module _ (g : Geometry) (v : Volume) (img : Bytes) (w w′ : List ℕ) where
   any-image (read path offset out work) = refl
   any-image (overwrite path offset bytes work) = refl
   any-image (setLength path new work) = refl
+  any-image (create made path work) = refl
+  any-image (remove path work) = refl
   any-image (list out work) = refl
 
 -- ---- one call
@@ -150,6 +158,8 @@ module _ (img : Bytes) (w : List ℕ) where
   edit-out (read path offset out work) h = absurd (clash h refl)
   edit-out (overwrite path offset bytes work) h = nothing _
   edit-out (setLength path new work) h = nothing _
+  edit-out (create made path work) h = nothing _
+  edit-out (remove path work) h = nothing _
   edit-out (list out work) h = absurd (clash h refl)
 
 -- ---- opening is a validation
@@ -178,6 +188,8 @@ reading-same img w (find path work) h = reading-keeps (versionOf img) img w path
 reading-same img w (read path offset out work) h = reading-keeps (versionOf img) img w path offset out .1 .1 .0
 reading-same img w (overwrite path offset bytes work) h = absurd (clash refl h)
 reading-same img w (setLength path new work) h = absurd (clash refl h)
+reading-same img w (create made path work) h = absurd (clash refl h)
+reading-same img w (remove path work) h = absurd (clash refl h)
 reading-same img w (list out work) h = reading-keeps (versionOf img) img w [] 0 out .1 .1 .1
 
 -- a listing

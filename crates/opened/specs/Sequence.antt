@@ -5,7 +5,7 @@ use mathlib.Core.List.{List, [], _∷_}
 use lib.ListN.{length}
 use Rattle.format.specs.Basics.Bytes.{Bytes}
 use Rattle.format.specs.Rules.Length.{workNeed}
-use Rattle.format.specs.Calls.Call.{Call, validate, find, read, overwrite, setLength, list}
+use Rattle.format.specs.Calls.Call.{Call, validate, find, read, overwrite, setLength, create, remove, list}
 use Rattle.format.specs.Calls.Reply.{Reply, reply}
 use Rattle.format.specs.Calls.Buffers.{imageAfter, outAfter, workAfter}
 use Rattle.tables.specs.Work.{Wrote}
@@ -19,6 +19,8 @@ lent w (find path work) = find path w
 lent w (read path offset out work) = read path offset out w
 lent w (overwrite path offset bytes work) = overwrite path offset bytes w
 lent w (setLength path new work) = setLength path new w
+lent w (create made path work) = create made path w
+lent w (remove path work) = remove path w
 lent w (list out work) = list out w
 
 -- all that a call hands out

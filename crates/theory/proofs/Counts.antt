@@ -1,7 +1,7 @@
 -- How often a number stands in a list, and sums over the numbers below a bound: what owners are counted by.
 use mathlib.Core.Path.{_≡_, refl, sym, ap}
 use mathlib.Core.Logic.{_≢_, _⊎_, inl, inr}
-use mathlib.Core.Bool.{true, false}
+use mathlib.Core.Bool.{Bool, true, false}
 use mathlib.Core.List.{List, [], _∷_, _++_}
 use Prim.Native.Nat.{ℕ, zero, suc, _+_, _≤_, _<_}
 use native.Mathlib.Omega.{arith}
@@ -18,6 +18,10 @@ eqb-cases s x = elim (ℕ-discrete s x) [ yes p ↦ inl (p, eq-eqb s x p) | no q
 
 pub bit-self : (s : ℕ) → bit (eqb s s) ≡ 1
 bit-self s = ap bit (eq-eqb s s refl)
+
+pub bit-true : (b : Bool) → 0 < bit b → b ≡ true
+bit-true true h = refl
+bit-true false h = absurd (omega arith)
 
 pub bit-other : (s x : ℕ) → s ≢ x → bit (eqb s x) ≡ 0
 bit-other s x q = ap bit (ne-eqb s x q)

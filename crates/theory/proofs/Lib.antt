@@ -25,6 +25,7 @@ pub mod Contents
 pub mod Fits
 pub mod Edits
 pub mod Refusals
+pub mod LastNames
 pub mod NameOrder
 pub mod NameCompare
 pub mod Trees

@@ -1,4 +1,4 @@
--- The laws of the directory's trees, in the order of reading: how they are drawn; their entries; order and colours; the walk; the verdict; names and paths.
+-- The laws of the directory's trees, in the order of reading: how they are drawn; their entries; order and colours; the walk; the verdict; names and paths; edits.
 pub mod Lists
 pub mod Grow
 pub mod Depth
@@ -20,3 +20,32 @@ pub mod Find
 pub mod Paths
 pub mod PathOrder
 pub mod PathsRise
+pub mod Draw
+pub mod Ways
+pub mod Replace
+pub mod Faces
+pub mod Parts
+pub mod Insert
+pub mod Create
+pub mod Remove
+pub mod Each
+pub mod Removal
+pub mod Objects
+pub mod Levels
+pub mod Listed
+pub mod Meant
+pub mod PathWays
+pub mod Found
+pub mod Beneath
+pub mod Unlink
+pub mod Heirs
+pub mod HeirWays
+pub mod Steps
+pub mod AtPath
+pub mod Pointwise
+pub mod Blanks
+pub mod Rising
+pub mod Gathered
+pub mod Rows
+pub mod Storages
+pub mod Spelled

@@ -9,3 +9,9 @@ pub mod TreeOrder
 pub mod TreeWalk
 pub mod TreeFind
 pub mod TreePaths
+pub mod TreeDraw
+pub mod TreeWays
+pub mod TreeEdits
+pub mod TreeObjects
+pub mod TreeUnlink
+pub mod TreeHeir

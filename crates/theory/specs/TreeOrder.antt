@@ -7,18 +7,14 @@ use Rattle.format.specs.Layout.Directory.{Directory}
 use Rattle.format.specs.Layout.Tree.{Forest, empty, broken, node}
 use Rattle.format.specs.Rules.Trees.{isObject, less, everyNode, sidesOrdered, topBlack, coloured}
 use Rattle.theory.specs.TreeViews.{rows, leftOf, rightOf, at, whole, shapeOk, Standing, testAt}
+use Rattle.format.specs.Layout.Siblings.{greatest}
 
 -- what is asked of an order of entries
 pub record Ordered (less : ℕ → ℕ → Bool) : Type 0 where
   pub strict : (x : ℕ) → less x x ≡ false
   pub trans : (x y z : ℕ) → less x y ≡ true → less y z ≡ true → less x z ≡ true
 
--- the last and the first of a tree's siblings, z where it has none
-unfoldable pub lastOr : ℕ → Forest → ℕ
-lastOr z empty = z
-lastOr z broken = z
-lastOr z (node l e b r) = lastOr e r
-
+-- the first of a tree's siblings, z where it has none
 unfoldable pub firstOr : ℕ → Forest → ℕ
 firstOr z empty = z
 firstOr z broken = z
@@ -28,7 +24,7 @@ firstOr z (node l e b r) = firstOr e l
 unfoldable pub lastLess : Directory → Forest → ℕ → Bool
 lastLess d empty e = true
 lastLess d broken e = true
-lastLess d (node l x b r) e = less d (lastOr x r) e
+lastLess d (node l x b r) e = less d (greatest x r) e
 
 -- e comes before the first of the tree
 unfoldable pub firstMore : Directory → ℕ → Forest → Bool
@@ -60,7 +56,7 @@ pub record Rules (d : Directory) : Type 0 where
 -- ---- what a walk down a spine answers
 
 pub record LastIs (d : Directory) (x r : ℕ) : Type 0 where
-  pub last : r ≡ lastOr x (at d (rightOf d x))
+  pub last : r ≡ greatest x (at d (rightOf d x))
   pub stands : Standing d r
 
 pub record FirstIs (d : Directory) (x r : ℕ) : Type 0 where
@@ -71,7 +67,7 @@ pub record FirstIs (d : Directory) (x r : ℕ) : Type 0 where
 
 pub record LastWalk (d : Directory) (x y : ℕ) : Type 0 where
   pub stands : Standing d y
-  pub same : lastOr y (at d (rightOf d y)) ≡ lastOr x (at d (rightOf d x))
+  pub same : greatest y (at d (rightOf d y)) ≡ greatest x (at d (rightOf d x))
 
 pub record FirstWalk (d : Directory) (x y : ℕ) : Type 0 where
   pub stands : Standing d y

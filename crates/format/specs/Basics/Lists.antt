@@ -67,3 +67,8 @@ sum (x ∷ xs) = x + sum xs
 -- n numbers: the first of the list, and zeros where it has fewer
 unfoldable pub fit : ℕ → List ℕ → List ℕ
 fit n xs = take n xs ++ replicate (n - length xs) 0
+
+-- without all that pass the test
+unfoldable pub without : {A : Type 0} → (A → Bool) → List A → List A
+without p [] = []
+without p (x ∷ xs) = cond (p x) (without p xs) (x ∷ without p xs)

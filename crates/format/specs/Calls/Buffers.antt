@@ -13,8 +13,10 @@ use Rattle.format.specs.Rules.Version.{versionOf}
 use Rattle.format.specs.Calls.Read.{readBytes, over}
 use Rattle.format.specs.Calls.Overwrite.{overwritten}
 use Rattle.format.specs.Calls.Move.{lengthChanged}
+use Rattle.format.specs.Calls.Create.{objectCreated}
+use Rattle.format.specs.Calls.Remove.{objectRemoved}
 use Rattle.format.specs.Calls.Listing.{listing}
-use Rattle.format.specs.Calls.Call.{Call, validate, find, read, overwrite, setLength, list, workOf, outOf}
+use Rattle.format.specs.Calls.Call.{Call, validate, find, read, overwrite, setLength, create, remove, list, workOf, outOf}
 use Rattle.format.specs.Calls.Answer.{target, answer}
 use Rattle.format.specs.Calls.Reply.{onZero}
 
@@ -27,6 +29,8 @@ edited v img (find path work) = img
 edited v img (read path offset out work) = img
 edited v img (overwrite path offset bytes work) = overwritten v img (target v path) offset bytes
 edited v img (setLength path new work) = lengthChanged v img (target v path) new
+edited v img (create made path work) = objectCreated v img made path
+edited v img (remove path work) = objectRemoved v img path
 edited v img (list out work) = img
 
 unfoldable pub imageAfterBy : Geometry → Bytes → Call → Bytes
@@ -48,6 +52,8 @@ handedOut v img (read path offset out work) =
     over (readBytes (contents v img (target v path)) offset (length out)) out
 handedOut v img (overwrite path offset bytes work) = []
 handedOut v img (setLength path new work) = []
+handedOut v img (create made path work) = []
+handedOut v img (remove path work) = []
 handedOut v img (list out work) = over (listing (v .directory)) out
 
 unfoldable pub outAfterBy : Geometry → Bytes → Call → Bytes

@@ -3,6 +3,7 @@ use Prim.Native.Nat.{ℕ}
 use mathlib.Core.List.{List, []}
 use Rattle.format.specs.Basics.Bytes.{Bytes}
 use Rattle.format.specs.Calls.Paths.{Path}
+use Rattle.format.specs.Calls.Create.{NewKind}
 
 pub data Call : Type 0 where
   validate : (work : List ℕ) → Call
@@ -10,6 +11,8 @@ pub data Call : Type 0 where
   read : (path : Path) → (offset : ℕ) → (out : Bytes) → (work : List ℕ) → Call
   overwrite : (path : Path) → (offset : ℕ) → (bytes : Bytes) → (work : List ℕ) → Call
   setLength : (path : Path) → (new : ℕ) → (work : List ℕ) → Call
+  create : (made : NewKind) → (path : Path) → (work : List ℕ) → Call
+  remove : (path : Path) → (work : List ℕ) → Call
   list : (out : Bytes) → (work : List ℕ) → Call
 
 unfoldable pub workOf : Call → List ℕ
@@ -18,6 +21,8 @@ workOf (find path work) = work
 workOf (read path offset out work) = work
 workOf (overwrite path offset bytes work) = work
 workOf (setLength path new work) = work
+workOf (create made path work) = work
+workOf (remove path work) = work
 workOf (list out work) = work
 
 -- of a call that is lent no out buffer it is empty
@@ -27,4 +32,6 @@ outOf (find path work) = []
 outOf (read path offset out work) = out
 outOf (overwrite path offset bytes work) = []
 outOf (setLength path new work) = []
+outOf (create made path work) = []
+outOf (remove path work) = []
 outOf (list out work) = out

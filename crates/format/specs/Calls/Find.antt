@@ -6,7 +6,7 @@ use Rattle.format.specs.Layout.Name.{Name, nameEqual}
 use Rattle.format.specs.Layout.Entry.{name, isStream}
 use Rattle.format.specs.Layout.Directory.{Directory}
 use Rattle.format.specs.Layout.Tree.{Forest, empty, broken, node, forest}
-use Rattle.format.specs.Calls.Paths.{Path, names, wellFormed}
+use Rattle.format.specs.Calls.Paths.{Path, names, wellFormed, namesBefore}
 
 -- ---- one name among siblings
 
@@ -69,3 +69,16 @@ answerOf (refused a) = a
 unfoldable pub entryOf : Found → ℕ
 entryOf (at e b) = e
 entryOf (refused a) = 0
+
+-- where something is to stand below, a stream is refused
+unfoldable pub needParent : Directory → Found → Found
+needParent d (at e b) = cond (isStream (d .entry e)) (refused 22) (at e b)
+needParent d (refused a) = refused a
+
+-- the root or the storage that the last name stands in, with the tree of its children; for the empty path the root
+unfoldable pub resolveParent : Directory → Path → Found
+resolveParent d p = cond (wellFormed p) (needParent d (descend d (at 0 (forest d)) (namesBefore p))) (refused 20)
+
+unfoldable pub belowOf : Found → Forest
+belowOf (at e b) = b
+belowOf (refused a) = empty

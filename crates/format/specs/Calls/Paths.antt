@@ -1,8 +1,9 @@
 -- Paths: 16-bit units, the names parted by slashes ("What a path, a read and an edit do").
-use Prim.Native.Nat.{ℕ}
+use Prim.Native.Nat.{ℕ, _-_}
 use mathlib.Core.Bool.{Bool, cond}
 use mathlib.Core.List.{List, [], _∷_, _++_}
 use lib.Dec.{eqb}
+use lib.ListN.{length, take, getD}
 use Rattle.format.specs.Basics.Lists.{all}
 use Rattle.format.specs.Layout.Name.{Name, slash, legalName}
 
@@ -33,3 +34,10 @@ joined (n ∷ m ∷ ns) = n ++ (slash ∷ joined (m ∷ ns))
 -- each name is a legal one (it cannot hold a slash)
 unfoldable pub wellFormed : Path → Bool
 wellFormed p = all legalName (names p)
+
+-- the names before the last, and the last
+unfoldable pub namesBefore : Path → List Name
+namesBefore p = take (length (names p) - 1) (names p)
+
+unfoldable pub lastName : Path → Name
+lastName p = getD (names p) (length (names p) - 1) []

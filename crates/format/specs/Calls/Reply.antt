@@ -10,7 +10,7 @@ use Rattle.format.specs.Rules.Version.{versionOf}
 use Rattle.format.specs.Calls.Find.{resolve, entryOf}
 use Rattle.format.specs.Calls.Read.{readCount}
 use Rattle.format.specs.Calls.Listing.{listing}
-use Rattle.format.specs.Calls.Call.{Call, validate, find, read, overwrite, setLength, list}
+use Rattle.format.specs.Calls.Call.{Call, validate, find, read, overwrite, setLength, create, remove, list}
 use Rattle.format.specs.Calls.Answer.{target, answer}
 
 -- a value that a call does not give is 0
@@ -40,6 +40,8 @@ done v (find path work) = foundReply v (entryOf (resolve (v .directory) path))
 done v (read path offset out work) = counted (readCount (streamSize v (target v path)) offset (length out))
 done v (overwrite path offset bytes work) = plain 0
 done v (setLength path new work) = plain 0
+done v (create made path work) = plain 0
+done v (remove path work) = plain 0
 done v (list out work) = counted (length (listing (v .directory)))
 
 -- x where the answer is 0, and else y

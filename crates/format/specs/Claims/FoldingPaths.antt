@@ -13,11 +13,11 @@ use Rattle.format.specs.Layout.Directory.{Directory}
 use Rattle.format.specs.Layout.Tree.{Forest, empty, broken, node, forest}
 use Rattle.format.specs.Layout.Volume.{Volume, volume, directory}
 use Rattle.format.specs.Layout.Stream.{streamSize}
-use Rattle.format.specs.Calls.Paths.{Path, names, wellFormed}
-use Rattle.format.specs.Calls.Find.{Child, missing, present, orElse, Found, at, refused, foundChild, needStream, answerOf, entryOf}
+use Rattle.format.specs.Calls.Paths.{Path, names, wellFormed, namesBefore}
+use Rattle.format.specs.Calls.Find.{Child, missing, present, orElse, Found, at, refused, foundChild, needStream, answerOf, entryOf, needParent}
 use Rattle.format.specs.Calls.Read.{readCount}
-use Rattle.format.specs.Calls.Call.{Call, validate, find, read, overwrite, setLength, list, workOf}
-use Rattle.format.specs.Calls.Answer.{firstOf, beyond, lengthAnswer, answerIn}
+use Rattle.format.specs.Calls.Call.{Call, validate, find, read, overwrite, setLength, create, remove, list, workOf}
+use Rattle.format.specs.Calls.Answer.{firstOf, beyond, lengthAnswer, createAnswer, removeAnswer, answerIn}
 use Rattle.format.specs.Calls.Reply.{Reply, plain, foundReply, counted, done, onZero, replyBy}
 use Rattle.format.specs.Claims.Folding.{formerFold, formerVerdict, steadyUnit, steadyNames, plainUnit, plainNames}
 
@@ -43,6 +43,9 @@ formerDescend d f (n ∷ ns) = formerDescend d (formerEnter d f n) ns
 unfoldable pub formerResolve : Directory → Path → Found
 formerResolve d p = cond (wellFormed p) (formerDescend d (at 0 (forest d)) (names p)) (refused 20)
 
+unfoldable pub formerParent : Directory → Path → Found
+formerParent d p = cond (wellFormed p) (needParent d (formerDescend d (at 0 (forest d)) (namesBefore p))) (refused 20)
+
 unfoldable pub formerStream : Volume → Path → Found
 formerStream v path = needStream (v .directory) (formerResolve (v .directory) path)
 
@@ -57,6 +60,8 @@ formerAnswerIn g v (overwrite path offset bytes work) =
     firstOf (answerOf (formerStream v path)) (beyond (streamSize v (entryOf (formerStream v path))) (offset + length bytes))
 formerAnswerIn g v (setLength path new work) =
     firstOf (answerOf (formerStream v path)) (lengthAnswer g v (streamSize v (entryOf (formerStream v path))) new)
+formerAnswerIn g v (create made path work) = createAnswer (v .directory) (formerParent (v .directory) path) (formerResolve (v .directory) path)
+formerAnswerIn g v (remove path work) = removeAnswer (v .directory) (formerResolve (v .directory) path)
 formerAnswerIn g v (list out work) = answerIn g v (list out work)
 
 unfoldable pub formerDone : Volume → Call → Reply
@@ -65,6 +70,8 @@ formerDone v (find path work) = foundReply v (entryOf (formerResolve (v .directo
 formerDone v (read path offset out work) = counted (readCount (streamSize v (entryOf (formerStream v path))) offset (length out))
 formerDone v (overwrite path offset bytes work) = done v (overwrite path offset bytes work)
 formerDone v (setLength path new work) = done v (setLength path new work)
+formerDone v (create made path work) = done v (create made path work)
+formerDone v (remove path work) = done v (remove path work)
 formerDone v (list out work) = done v (list out work)
 
 unfoldable pub formerAnswer : Geometry → Bytes → Call → ℕ
@@ -86,6 +93,8 @@ pathOf (find path work) = path
 pathOf (read path offset out work) = path
 pathOf (overwrite path offset bytes work) = path
 pathOf (setLength path new work) = path
+pathOf (create made path work) = path
+pathOf (remove path work) = path
 pathOf (list out work) = []
 
 -- On a file whose objects' names have no unit that is folded anew, a call whose path has none either replies as it did.

@@ -1,9 +1,9 @@
 -- The rows of demand 3: one for each stream, its path and its bytes.
 use Prim.Native.Nat.{ℕ}
-use mathlib.Core.Bool.{Bool, false, cond, _||_}
+use mathlib.Core.Bool.{Bool, cond}
 use mathlib.Core.List.{List, [], _∷_, _++_, map}
 use lib.ListN.{length}
-use Rattle.format.specs.Basics.Lists.{sum}
+use Rattle.format.specs.Basics.Lists.{any, sum}
 use Rattle.format.specs.Basics.Bytes.{Bytes}
 use Rattle.format.specs.Layout.Geometry.{Geometry}
 use Rattle.format.specs.Layout.Name.{Name}
@@ -41,8 +41,7 @@ unfoldable pub means : Path → Row → Bool
 means p r = samePath (names p) (r .path)
 
 unfoldable pub hasRow : List Row → Path → Bool
-hasRow [] p = false
-hasRow (r ∷ rs) p = means p r || hasRow rs p
+hasRow rows p = any (means p) rows
 
 unfoldable pub rowLength : List Row → Path → ℕ
 rowLength [] p = 0

@@ -1,49 +1,20 @@
--- What a call does to the rows. Nothing here looks at an image.
-use Prim.Native.Nat.{ℕ, _+_}
-use mathlib.Core.Bool.{Bool, false, not, cond, _&&_}
-use mathlib.Core.List.{List, [], _∷_, map}
-use lib.Dec.{leb}
-use lib.ListN.{length}
-use Rattle.format.specs.Basics.Lists.{fit}
+-- What a call does to the state. Nothing here looks at an image.
+use Prim.Native.Nat.{ℕ, suc, _-_}
+use mathlib.Core.Bool.{cond}
+use mathlib.Core.List.{List, [], _∷_, _++_, map}
+use Rattle.format.specs.Basics.Lists.{fit, without}
 use Rattle.format.specs.Basics.Bytes.{Bytes, putBytes}
-use Rattle.format.specs.Calls.Paths.{Path}
-use Rattle.format.specs.Calls.SetLength.{tooFew}
-use Rattle.format.specs.Calls.Call.{Call, validate, find, read, overwrite, setLength, list}
-use Rattle.format.specs.History.Rows.{Row, means, hasRow, rowLength}
-use Rattle.format.specs.History.Setting.{Setting, freeSectors, freeMinis}
+use Rattle.format.specs.Layout.Name.{Name}
+use Rattle.format.specs.Layout.PathOrder.{insert, samePath}
+use Rattle.format.specs.Calls.Paths.{Path, names, namesBefore, lastName}
+use Rattle.format.specs.Calls.Create.{NewKind, stream, storage}
+use Rattle.format.specs.Calls.Call.{Call, validate, find, read, overwrite, setLength, create, remove, list}
+use Rattle.format.specs.History.Rows.{Row, means}
+use Rattle.format.specs.History.Storages.{spelled}
+use Rattle.format.specs.History.State.{State, withRows}
+use Rattle.format.specs.History.Accepts.{accepts}
 
--- ---- which edits are accepted
-
--- the work buffer is long enough, and the path means a row
-unfoldable pub reaches : Setting → List Row → Path → List ℕ → Bool
-reaches s rows path work = leb (s .work) (length work) && hasRow rows path
-
--- the occasion of 26, by the rows
-unfoldable pub lacks : Setting → List Row → Path → ℕ → Bool
-lacks s rows path new = tooFew (s .geometry) (freeSectors s rows) (freeMinis s rows) (rowLength rows path) new
-
--- an edit for which the rows give no occasion of 24 or 26
-unfoldable pub accepts : Setting → List Row → Call → Bool
-accepts s rows (validate work) = false
-accepts s rows (find path work) = false
-accepts s rows (read path offset out work) = false
-accepts s rows (overwrite path offset bytes work) =
-    reaches s rows path work && leb (offset + length bytes) (rowLength rows path)
-accepts s rows (setLength path new work) =
-    reaches s rows path work && not (lacks s rows path new)
-accepts s rows (list out work) = false
-
--- a change of length with no occasion of a lower number, but of 26
-unfoldable pub answers26 : Setting → List Row → Call → Bool
-answers26 s rows (validate work) = false
-answers26 s rows (find path work) = false
-answers26 s rows (read path offset out work) = false
-answers26 s rows (overwrite path offset bytes work) = false
-answers26 s rows (setLength path new work) =
-    reaches s rows path work && lacks s rows path new
-answers26 s rows (list out work) = false
-
--- ---- what an accepted edit does to its row
+-- ---- what an accepted edit does to a row
 
 unfoldable pub change : Path → (Bytes → Bytes) → Row → Row
 change p f r = record { path = r .path; bytes = cond (means p r) (f (r .bytes)) (r .bytes) }
@@ -52,20 +23,62 @@ change p f r = record { path = r .path; bytes = cond (means p r) (f (r .bytes)) 
 unfoldable pub putInto : ℕ → Bytes → Bytes → Bytes
 putInto offset bytes old = putBytes old offset bytes
 
--- an overwrite puts its bytes into the row; a change of length cuts the row, or adds zeros
-unfoldable pub changed : List Row → Call → List Row
-changed rows (validate work) = rows
-changed rows (find path work) = rows
-changed rows (read path offset out work) = rows
-changed rows (overwrite path offset bytes work) = map (change path (putInto offset bytes)) rows
-changed rows (setLength path new work) = map (change path (fit new)) rows
-changed rows (list out work) = rows
+-- ---- what a new object adds
+
+-- the names before the last as their storages spell them, and the last as it is given
+unfoldable pub newPath : State → Path → List Name
+newPath s path = spelled (s .storages) (namesBefore path) ++ (lastName path ∷ [])
+
+abbrev pub rowPath : Row → List Name
+rowPath r = r .path
+
+abbrev pub ownPath : List Name → List Name
+ownPath q = q
+
+-- a stream begins with no bytes
+unfoldable pub withObject : State → NewKind → List Name → State
+withObject s stream path =
+    record {
+      setting = s .setting;
+      rows = insert rowPath (record { path = path; bytes = [] }) (s .rows);
+      storages = s .storages;
+      blankCount = s .blankCount - 1;
+    }
+withObject s storage path =
+    record {
+      setting = s .setting;
+      rows = s .rows;
+      storages = insert ownPath path (s .storages);
+      blankCount = s .blankCount - 1;
+    }
+
+-- ---- what a removal takes away: of a path one row or one storage is there
+
+unfoldable pub withoutObject : State → Path → State
+withoutObject s path =
+    record {
+      setting = s .setting;
+      rows = without (means path) (s .rows);
+      storages = without (samePath (names path)) (s .storages);
+      blankCount = suc (s .blankCount);
+    }
 
 -- ---- one call, and a list of calls
 
-unfoldable pub rowsStep : Setting → List Row → Call → List Row
-rowsStep s rows call = cond (accepts s rows call) (changed rows call) rows
+-- an overwrite puts its bytes into the row; a change of length cuts the row, or adds zeros
+unfoldable pub changed : State → Call → State
+changed s (validate work) = s
+changed s (find path work) = s
+changed s (read path offset out work) = s
+changed s (overwrite path offset bytes work) = withRows s (map (change path (putInto offset bytes)) (s .rows))
+changed s (setLength path new work) = withRows s (map (change path (fit new)) (s .rows))
+changed s (create made path work) = withObject s made (newPath s path)
+changed s (remove path work) = withoutObject s path
+changed s (list out work) = s
 
-unfoldable pub rowsAfter : Setting → List Row → List Call → List Row
-rowsAfter s rows [] = rows
-rowsAfter s rows (c ∷ cs) = rowsAfter s (rowsStep s rows c) cs
+unfoldable pub stateStep : State → Call → State
+stateStep s call = cond (accepts s call) (changed s call) s
+
+unfoldable pub stateAfter : State → List Call → State
+stateAfter s [] = s
+stateAfter s (c ∷ cs) = stateAfter (stateStep s c) cs

@@ -1,14 +1,15 @@
 -- The directory: entries of 128 bytes each, laid over the sectors of a chain (group 13).
 use Prim.Native.Nat.{ℕ, _*_}
-use mathlib.Core.Bool.{cond}
+use mathlib.Core.Bool.{Bool, cond}
 use mathlib.Core.List.{List, []}
 use lib.Dec.{ltb}
 use lib.ListN.{length}
+use Rattle.format.specs.Basics.Lists.{pickBelow}
 use Rattle.format.specs.Basics.Bytes.{Bytes, part}
 use Rattle.format.specs.Layout.Geometry.{Geometry, entryBytes, sizeWidth, placeIn, entriesIn}
 use Rattle.format.specs.Layout.Chain.{follow}
 use Rattle.format.specs.Layout.Space.{Space}
-use Rattle.format.specs.Layout.Entry.{size}
+use Rattle.format.specs.Layout.Entry.{size, isBlank}
 
 pub record Directory : Type 0 where
   -- how many entries there are
@@ -39,3 +40,10 @@ directoryOf g img sectors = record { count = entryCount g sectors; entry = entry
 -- the size of entry i, as read
 unfoldable pub sizeOf : Directory → ℕ → ℕ
 sizeOf d i = size (d .sizeWidth) (d .entry i)
+
+unfoldable pub blankAt : Directory → ℕ → Bool
+blankAt d i = isBlank (d .entry i)
+
+-- the blank entries, lowest first
+unfoldable pub blanks : Directory → List ℕ
+blanks d = pickBelow (d .count) (blankAt d)

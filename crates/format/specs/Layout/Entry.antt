@@ -41,7 +41,24 @@ isRoot e = eqb (kind e) 5
 
 -- ---- the place in the trees
 
--- 0 is red, 1 is black
+-- the three fields that name entries, and the byte of the entry where each stands
+pub data Field : Type 0 where
+  leftField : Field
+  childField : Field
+  rightField : Field
+
+abbrev pub fieldByte : Field → ℕ
+fieldByte leftField = 68
+fieldByte childField = 76
+fieldByte rightField = 72
+
+-- where the colour stands, just before them; 0 is red
+abbrev pub colourByte : ℕ
+colourByte = 67
+
+abbrev pub black : ℕ
+black = 1
+
 unfoldable pub colour : Bytes → ℕ
 colour e = byteAt e 67
 

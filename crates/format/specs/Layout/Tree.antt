@@ -47,3 +47,8 @@ unfoldable pub siblings : Forest → List ℕ
 siblings empty = []
 siblings broken = []
 siblings (node l e b r) = siblings l ++ (e ∷ siblings r)
+
+unfoldable pub isEmpty : Forest → Bool
+isEmpty empty = true
+isEmpty broken = false
+isEmpty (node l e b r) = false

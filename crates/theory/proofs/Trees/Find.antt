@@ -71,7 +71,7 @@ module _ (d : Directory) where
 
 -- ---- the descent
 
-or-missing : (c : Child) → orElse c missing ≡ c
+pub or-missing : (c : Child) → orElse c missing ≡ c
 unfolding orElse
 or-missing missing = refl
 or-missing (present e b) = refl

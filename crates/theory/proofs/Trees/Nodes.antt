@@ -13,7 +13,7 @@ use Rattle.format.specs.Layout.Directory.{Directory}
 use Rattle.format.specs.Layout.Tree.{Forest, node, forest, entries}
 use Rattle.format.specs.Rules.Trees.{sound, isObject, reachedRight, reachedOnce, everyNode}
 use Rattle.theory.specs.TreeViews.{rows, leftOf, rightOf, childOf, at, whole, shapeOk, Standing, NodeTest, testAt}
-use Rattle.theory.proofs.Counts.{eqb-cases, pigeonhole}
+use Rattle.theory.proofs.Counts.{eqb-cases, bit-true, pigeonhole}
 use Rattle.theory.proofs.Tests.{both, below-at, all-at, all-append}
 use Rattle.theory.proofs.Trees.Lists.{all-of, one-of-three}
 use Rattle.theory.proofs.Trees.Grow.{count-node}
@@ -80,6 +80,13 @@ module _ (d : Directory) where
     pub shape-count : (x : ℕ) → x < rows d → count x (entries (whole d)) ≡ bit (isObject d x)
     unfolding shapeOk reachedOnce reachedRight forest
     shape-count x l = eqb-true _ _ (below-at (rows d) (reachedRight d) (both (sound (whole d)) (reachedOnce d) ok .1) x l)
+
+    -- an entry that is in the trees is one of the directory, and an object
+    pub reached-inside : (x : ℕ) → 0 < count x (entries (whole d)) → x < rows d
+    reached-inside x c = entry-stands d (childOf d 0) shape-sound x c .inside
+
+    pub reached-object : (x : ℕ) → 0 < count x (entries (whole d)) → isObject d x ≡ true
+    reached-object x c = bit-true (isObject d x) (omega (arith, shape-count x (reached-inside x c)))
 
     pub object-counts : (x : ℕ) → x < rows d → isObject d x ≡ true → 0 < count x (entries (whole d))
     object-counts x l o = omega (arith, shape-count x l, ap bit o)

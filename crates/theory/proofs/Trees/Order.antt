@@ -6,11 +6,12 @@ use Rattle.format.specs.Basics.Lists.{all}
 use Rattle.format.specs.Layout.Directory.{Directory}
 use Rattle.format.specs.Layout.Tree.{Forest, empty, broken, node, siblings}
 use Rattle.format.specs.Rules.Trees.{less, greater, sidesOrdered, everyNode}
-use Rattle.theory.specs.TreeOrder.{Ordered, lastOr, firstOr, lastLess, firstMore, neighboursOrdered}
+use Rattle.theory.specs.TreeOrder.{Ordered, firstOr, lastLess, firstMore, neighboursOrdered}
 use Rattle.theory.proofs.Tests.{both, and-true-of, all-weaker}
 use Rattle.theory.proofs.Trees.Lists.{same-test}
 use Rattle.theory.proofs.Trees.Nodes.{everyNode-apart, everyNode-join}
 use Rattle.theory.proofs.Trees.Sides.{siblings-apart, siblings-join, last-passes, first-passes, Sorted, sorted-apart}
+use Rattle.format.specs.Layout.Siblings.{greatest}
 
 module _ (d : Directory) (o : Ordered (less d)) where
   -- what comes before y, and what comes after it
@@ -22,9 +23,9 @@ module _ (d : Directory) (o : Ordered (less d)) where
   after-weaker y e t h = all-weaker (less d y) (less d e) (λ z q. o .trans e y z h q) (siblings t)
 
   -- all of a sorted tree comes before what its last comes before
-  last-bounds : (r : Forest) (x e : ℕ) → Sorted d r → all (less d x) (siblings r) ≡ true → less d (lastOr x r) e ≡ true
+  last-bounds : (r : Forest) (x e : ℕ) → Sorted d r → all (less d x) (siblings r) ≡ true → less d (greatest x r) e ≡ true
       → (less d x e ≡ true) × (all (greater d e) (siblings r) ≡ true)
-  unfolding lastOr siblings all greater
+  unfolding greatest siblings all greater
   last-bounds empty x e s a h = (h, refl)
   last-bounds broken x e s a h = (h, refl)
   last-bounds (node l y b r) x e s a h =

@@ -79,6 +79,9 @@ path-trans (a ∷ p) (b ∷ q) (c ∷ r) s t = go (path-says a b p q s) (path-sa
     go (inr h) (inl k) m = path-under a c p r (names-ordered .equal-left a b c (h .0) ∙ k)
     go (inr h) (inr k) m = path-even a c p r (name-alike a b c (h .0) ∙ k .0) ∙ m (h .1) (k .1)
 
+pub path-asym : (p q : List Name) → pathLess p q ≡ true → pathLess q p ≡ false
+path-asym p q h = false-of (pathLess q p) (λ k. clash (path-trans p q p h k) (path-strict p))
+
 -- equal paths are not in order
 same-not-less : (p q : List Name) → samePath p q ≡ true → pathLess p q ≡ false
 unfolding pathLess samePath

@@ -10,9 +10,10 @@ use Rattle.format.specs.Layout.Directory.{Directory}
 use Rattle.format.specs.Layout.Tree.{siblings}
 use Rattle.format.specs.Rules.Trees.{less, red, topBlack}
 use Rattle.theory.specs.TreeViews.{rows, leftOf, rightOf, at, Standing}
-use Rattle.theory.specs.TreeOrder.{lastOr, firstOr, lastLess, firstMore, LastIs, FirstIs, LastWalk, FirstWalk}
+use Rattle.theory.specs.TreeOrder.{firstOr, lastLess, firstMore, LastIs, FirstIs, LastWalk, FirstWalk}
 use Rattle.theory.proofs.Trees.Grow.{grow-none}
 use Rattle.theory.proofs.Trees.Stand.{standing, left-stands, right-stands}
+use Rattle.format.specs.Layout.Siblings.{greatest}
 
 module _ (d : Directory) where
   -- ---- at an entry
@@ -27,8 +28,8 @@ module _ (d : Directory) where
     unfolding siblings
     left-shorter = rw (standing d x s .tree, length-append) (omega arith)
 
-    pub last-at : (z : ℕ) → lastOr z (at d x) ≡ lastOr x (at d (rightOf d x))
-    unfolding lastOr
+    pub last-at : (z : ℕ) → greatest z (at d x) ≡ greatest x (at d (rightOf d x))
+    unfolding greatest
     last-at z = rw (standing d x s .tree)
 
     pub first-at : (z : ℕ) → firstOr z (at d x) ≡ firstOr x (at d (leftOf d x))
@@ -51,8 +52,8 @@ module _ (d : Directory) where
   -- ---- where there is none
 
   module _ (x : ℕ) (e : x ≡ NOSTREAM) where
-    pub last-none : (z : ℕ) → lastOr z (at d x) ≡ z
-    unfolding lastOr
+    pub last-none : (z : ℕ) → greatest z (at d x) ≡ z
+    unfolding greatest
     last-none z = rw (grow-none d (rows d) x e)
 
     pub first-none : (z : ℕ) → firstOr z (at d x) ≡ z
