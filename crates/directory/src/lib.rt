@@ -5,6 +5,7 @@ ghost use Rattle.format.specs.Layout.Entry.{kind as kindOf, colour as colourOf,
 ghost use Rattle.format.specs.Rules.Trees.{isObject, less as lessOf};
 ghost use Rattle.kinds.specs.Ordering.{ordering};
 ghost use Rattle.directory.specs.Listed.{countOf, entriesOf, placeOf, DirectoryListed, Placed, NamedIn};
+ghost use Rattle.directory.specs.Blanks.{LowestBlank};
 use entries::child;
 use entries::colour;
 use entries::entry_type;
@@ -99,6 +100,30 @@ pub fn object(img: &[u8], work: &[u32], d: Directory, x: EntryId) -> bool
 {
     let t = type_of(img, work, d, x);
     t.is_storage() | t.is_stream()
+}
+
+// ---- blank entries
+
+// What a search for a blank entry finds.
+pub enum Blank {
+    At(EntryId),
+    Nothing,
+}
+
+// The blank entry of the lowest number.
+pub fn lowest_blank(img: &[u8], work: &[u32], d: Directory) -> Blank
+    requires { ⌜ DirectoryListed d (now img) (now work) ⌝ }
+    ensures { λ r. ⌜ LowestBlank (entriesOf d (now (img .entry))) r ⌝ }
+{
+    let n = d.count();
+    let mut x = EntryId::ROOT;
+    while x.below(n) {
+        if type_of(img, work, d, x).is_blank() {
+            return Blank::At(x);
+        }
+        x = x.next();
+    }
+    Blank::Nothing
 }
 
 // ---- names

@@ -5,8 +5,10 @@ ghost use lib.Dec.{eqb, ltb};
 ghost use Rattle.format.specs.Layout.Chain.{FREE, END, FATSECT, DIFSECT};
 ghost use Rattle.format.specs.Layout.Entry.{NOSTREAM};
 ghost use Rattle.format.specs.Layout.Geometry.{countsDirectory, sectorPlace, cellsIn, difatIn, entriesIn};
+ghost use Rattle.format.specs.Calls.Create.{kindFor, startFor};
 ghost use Rattle.kinds.specs.Sizes.{geometryOf};
 ghost use Rattle.kinds.specs.Numbers.{refusalNumber, numberOf};
+ghost use Rattle.kinds.specs.Links.{newKindOf};
 
 // ---- geometry
 
@@ -351,6 +353,40 @@ impl EntryType {
     }
 }
 
+// What can be created.
+pub enum NewKind {
+    Stream,
+    Storage,
+}
+
+impl NewKind {
+    pub fn entry_type(self) -> EntryType
+        ensures { λ r. ⌜ r .0 ≡ kindFor (newKindOf self) ⌝ }
+    {
+        match self {
+            NewKind::Stream => EntryType::STREAM,
+            NewKind::Storage => EntryType::STORAGE,
+        }
+    }
+
+    // The start field: of a stream of no bytes, or of a storage.
+    pub fn start(self) -> u32
+        ensures { λ r. ⌜ r ≡ startFor (newKindOf self) ⌝ }
+    {
+        match self {
+            NewKind::Stream => Sector::END.0,
+            NewKind::Storage => 0,
+        }
+    }
+}
+
+// Which of the three fields that name entries.
+pub enum Link {
+    Left,
+    Right,
+    Child,
+}
+
 // ---- names
 
 // How one name lies to another.
@@ -382,6 +418,10 @@ pub enum Refusal {
     Beyond,
     TooFewFree,
     OutTooShort,
+    NotEmpty,
+    AlreadyThere,
+    NoBlankEntry,
+    RootRemoved,
 }
 
 // What a call answers that gives no values.
@@ -413,6 +453,10 @@ pub fn refusal_number(a: Refusal) -> u32
         Refusal::Beyond => 24,
         Refusal::TooFewFree => 26,
         Refusal::OutTooShort => 27,
+        Refusal::NotEmpty => 28,
+        Refusal::AlreadyThere => 29,
+        Refusal::NoBlankEntry => 30,
+        Refusal::RootRemoved => 31,
     }
 }
 

@@ -2,7 +2,7 @@
 ghost use mathlib.Core.Path.{_≡_};
 ghost use Prim.Native.Nat.{_+_, _≤_, _<_, min, max};
 ghost use lib.ListN.{length, replicate};
-ghost use Rattle.format.specs.Basics.Bytes.{part, u16at, u32at, u64at, allZero, putBytes, put32, put64};
+ghost use Rattle.format.specs.Basics.Bytes.{part, u16at, u32at, u64at, allZero, putBytes, put16, put32, put64};
 ghost use Rattle.format.specs.Calls.Buffers.{workCleared};
 
 fn wide(x: u8) -> u32
@@ -76,6 +76,14 @@ pub fn all_zero(b: &[u8], at: usize, n: usize) -> bool
 }
 
 // ---- writes
+
+pub fn put_u16(b: &mut [u8], at: usize, v: u16)
+    requires { ⌜ at + 2 ≤ length (now b) ⌝ }
+    ensures { λ _. ⌜ now (b .exit) ≡ put16 (now (b .entry)) at v ⌝ }
+{
+    b[at] = (v % 256) as u8;
+    b[at + 1] = (v / 256 % 256) as u8;
+}
 
 pub fn put_u32(b: &mut [u8], at: usize, v: u32)
     requires { ⌜ at + 4 ≤ length (now b) ⌝ }

@@ -2,3 +2,5 @@
 pub mod Splits
 pub mod LegalNames
 pub mod Steps
+pub mod LastNames
+pub mod Parents

@@ -32,7 +32,7 @@ use Rattle.paths.proofs.Splits.{names-none, namesFrom, from-start, from
 -- ---- below every entry a search may start
 
 -- an entry that is no object and not the root has no child
-blank-child : (i : ℕ) (e : Bytes) → i ≢ 0 → (isStorage e || isStream e) ≡ false → entryFields i e ≡ true → child e ≡ NOSTREAM
+pub blank-child : (i : ℕ) (e : Bytes) → i ≢ 0 → (isStorage e || isStream e) ≡ false → entryFields i e ≡ true → child e ≡ NOSTREAM
 unfolding blankFields
 blank-child i e h o f =
     let n = neither (isStorage e) (isStream e) o in

@@ -1,2 +1,3 @@
 -- What the functions on paths answer, beside `format`.
 pub mod Found
+pub mod Parents

@@ -1,15 +1,16 @@
 // Paths: whether one is well formed, and the entry that it leads to.
 ghost use mathlib.Core.Path.{_≡_};
 ghost use mathlib.Core.Bool.{true};
-ghost use Prim.Native.Nat.{_<_};
+ghost use Prim.Native.Nat.{_-_, _<_};
 ghost use lib.ListN.{length};
 ghost use Rattle.format.specs.Layout.Name.{legalName};
 ghost use Rattle.format.specs.Rules.Entries.{entryRules};
 ghost use Rattle.format.specs.Rules.Trees.{treeRules};
 ghost use Rattle.format.specs.Calls.Paths.{wellFormed};
-ghost use Rattle.format.specs.Calls.Find.{resolve};
+ghost use Rattle.format.specs.Calls.Find.{resolve, resolveParent};
 ghost use Rattle.directory.specs.Listed.{entriesOf, DirectoryListed};
 ghost use Rattle.paths.specs.Found.{firstName, entered, foundOf, Inside};
+ghost use Rattle.paths.specs.Parents.{AfterSlash, parentOf, ParentInside};
 use directory::Directory;
 use directory::child_of;
 use directory::type_of;
@@ -70,6 +71,30 @@ pub fn well_formed(path: &[u16]) -> bool
     true
 }
 
+// Where the last name of a path begins: behind the last slash.
+fn last_name_start(path: &[u16]) -> usize
+    ensures { λ r. ⌜ AfterSlash (now (path .entry)) r ⌝ }
+{
+    let mut i = path.len();
+    while 0 < i {
+        if path[i - 1] == 0x2F {
+            return i;
+        }
+        i -= 1;
+    }
+    0
+}
+
+// One less, but not below 0.
+fn less_one(n: usize) -> usize
+    ensures { λ r. ⌜ r ≡ n - 1 ⌝ }
+{
+    if n == 0 {
+        return 0;
+    }
+    n - 1
+}
+
 // ---- the way down
 
 pub enum Found {
@@ -124,4 +149,35 @@ pub fn find_entry(path: &[u16], img: &[u8], work: &[u32], d: Directory) -> Found
         i += first_name_length(rest) + 1;
     }
     Found::At(x)
+}
+
+// ---- the last name's storage
+
+// The root or the storage that the last name stands in, and where the last name begins.
+pub enum Parent {
+    At(EntryId, usize),
+    Refused(Refusal),
+}
+
+// The entry that the names before the last lead to; a stream is refused there.
+pub fn find_parent(path: &[u16], img: &[u8], work: &[u32], d: Directory) -> Parent
+    requires { ⌜ DirectoryListed d (now img) (now work) ⌝ }
+    requires { ⌜ entryRules (entriesOf d (now img)) ≡ true ⌝ }
+    requires { ⌜ treeRules (entriesOf d (now img)) ≡ true ⌝ }
+    ensures answer { λ r. ⌜ parentOf (entriesOf d (now (img .entry))) r ≡ resolveParent (entriesOf d (now (img .entry))) (now (path .entry)) ⌝ }
+    ensures inside { λ r. ⌜ ParentInside (entriesOf d (now (img .entry))) (now (path .entry)) r ⌝ }
+{
+    if !well_formed(path) {
+        return Parent::Refused(Refusal::BadPath);
+    }
+    let i = last_name_start(path);
+    match find_entry(&path[..less_one(i)], img, work, d) {
+        Found::Refused(a) => Parent::Refused(a),
+        Found::At(x) => {
+            if type_of(img, work, d, x).is_stream() {
+                return Parent::Refused(Refusal::StreamOnTheWay);
+            }
+            Parent::At(x, i)
+        }
+    }
 }

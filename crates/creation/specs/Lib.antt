@@ -1,0 +1,2 @@
+-- What creation is stated with, beside `format`.
+pub mod Parents

@@ -1,0 +1,2 @@
+-- Laws of the writes into an entry.
+pub mod Blocks

@@ -1,0 +1,4 @@
+-- The laws behind a removal.
+pub mod Refusals
+pub mod Parents
+pub mod Removes

@@ -1,0 +1,2 @@
+-- What a removal requires, beside `format`.
+pub mod Leads
