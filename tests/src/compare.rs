@@ -96,14 +96,16 @@ impl Tally {
         if cfg!(not(feature = "library")) {
             println!("not compared with the library: every call");
         } else if cfg!(not(feature = "edits")) {
-            println!("not compared with the library: overwrite, set_len, opened calls");
+            println!("not compared with the library: overwrite, set_len, create_*, remove, opened calls");
+        } else if cfg!(not(feature = "objects")) {
+            println!("not compared with the library: create_stream, create_storage, remove");
         }
         let opened = if cfg!(feature = "edits") { OPENED_ANSWERS } else { &[] };
         let rows = || ANSWERS.iter().chain(&CROSSINGS).chain(opened);
         for (g, (call, _)) in VERSIONS.into_iter().flat_map(|g| rows().map(move |row| (g, row))) {
             let of_call = self.answers.iter().filter(|((name, major, _), _)| name == call && *major == g.major);
             let counts: Vec<String> = of_call.map(|((_, _, answer), times)| format!("{answer}: {times}")).collect();
-            println!("version {}  {call:<17}{}", g.major, counts.join("  "));
+            println!("version {}  {call:<23}{}", g.major, counts.join("  "));
         }
     }
 

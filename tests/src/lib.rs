@@ -9,6 +9,7 @@ pub mod draw;
 pub mod effects;
 pub mod files;
 pub mod geometry;
+pub mod groups;
 pub mod images;
 pub mod listed;
 pub mod model;

@@ -1,13 +1,15 @@
 //! harness SEED [IMAGES [CALLS [LISTS]]]   all cases: random images to validate, random calls, random lists of calls, as
 //!                                         many lists on opened volumes, and listings read back, one for ten lists
 //! harness SEED only KIND NUMBER           one case again: KIND is fixed, samples, small, large, tables, calls, deep, filled,
-//!                                         lists, opened, listed
+//!                                         crowded, lists, opened, listed
 
 use cfb_tests::breaks::uses::Uses;
 use cfb_tests::calls::{ANSWERS, CROSSINGS, OPENED_ANSWERS};
 #[cfg(feature = "edits")]
 use cfb_tests::cases::opened;
-use cfb_tests::cases::{Case, calls::Calls, deep, filled, fixed, large, listed, lists, samples, small::Cases, tables};
+use cfb_tests::cases::{
+    Case, calls::Calls, crowded, deep, filled, fixed, large, listed, lists, samples, small::Cases, tables,
+};
 use cfb_tests::compare::Tally;
 
 /// So many random images use every break.
@@ -60,6 +62,9 @@ fn all(seed: u64, images: u64, calls: u64, list_count: u64) -> Tally {
     for number in 0..filled::LISTS {
         filled::run(seed, number, false, &mut tally);
     }
+    for number in 0..crowded::LISTS {
+        crowded::run(seed, number, false, &mut tally);
+    }
     for number in 0..list_count {
         lists::run(seed, number, false, &mut tally);
     }
@@ -110,6 +115,10 @@ fn one(seed: u64, kind: &str, number: u64) -> Tally {
     }
     if kind == "filled" {
         filled::run(seed, number, true, &mut tally);
+        return tally;
+    }
+    if kind == "crowded" {
+        crowded::run(seed, number, true, &mut tally);
         return tally;
     }
     if kind == "opened" {

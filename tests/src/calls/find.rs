@@ -10,21 +10,10 @@ pub struct Found {
     pub size: u64,
 }
 
-/// The whole path is judged before any name is looked up; then the first name that fails decides between 21 and 22.
 pub fn find(volume: &Volume, path: &[u16]) -> Result<Found, u32> {
-    if !path::well_formed(path) {
-        return Err(20);
-    }
-    let directory = &volume.directory;
-    let mut at = 0;
-    for name in path::names(path) {
-        if directory.entry(at).kind() == STREAM {
-            return Err(22);
-        }
-        let inside = siblings::within(directory, at);
-        at = inside.into_iter().find(|&number| is_named(&directory.entry(number), name)).ok_or(21u32)?;
-    }
-    let entry = directory.entry(at);
+    let names = names(path)?;
+    let at = follow(volume, &names)?;
+    let entry = volume.directory.entry(at);
     Ok(Found { entry: at, kind: entry.kind(), size: entry.size() })
 }
 
@@ -32,6 +21,31 @@ pub fn find(volume: &Volume, path: &[u16]) -> Result<Found, u32> {
 pub fn find_stream(volume: &Volume, path: &[u16]) -> Result<Found, u32> {
     let found = find(volume, path)?;
     if found.kind == STREAM { Ok(found) } else { Err(23) }
+}
+
+/// The names of a path, which is judged as a whole before any of them is looked up.
+pub fn names(path: &[u16]) -> Result<Vec<&[u16]>, u32> {
+    if path::well_formed(path) { Ok(path::names(path).collect()) } else { Err(20) }
+}
+
+/// The entry that these names lead to. The first one that fails decides between 21 and 22.
+pub fn follow(volume: &Volume, names: &[&[u16]]) -> Result<usize, u32> {
+    let mut at = 0;
+    for name in names {
+        at = child(volume, holder(volume, at)?, name).ok_or(21u32)?;
+    }
+    Ok(at)
+}
+
+/// The entry, if other objects can be in it.
+pub fn holder(volume: &Volume, entry: usize) -> Result<usize, u32> {
+    if volume.directory.entry(entry).kind() == STREAM { Err(22) } else { Ok(entry) }
+}
+
+/// The object of this name in a storage or the root.
+pub fn child(volume: &Volume, holder: usize, name: &[u16]) -> Option<usize> {
+    let inside = siblings::within(&volume.directory, holder);
+    inside.into_iter().find(|&number| is_named(&volume.directory.entry(number), name))
 }
 
 fn is_named(entry: &Entry, name: &[u16]) -> bool {

@@ -1,15 +1,18 @@
 //! The library's calls, done independently: each takes the image apart anew and answers as the papers say.
 
+pub mod create;
 pub mod find;
 pub mod list;
 pub mod overwrite;
 pub mod patch;
 pub mod path;
 pub mod read;
+pub mod remove;
 pub mod set_length;
 pub mod siblings;
 pub mod stream;
 
+use crate::volume::entry::{STORAGE, STREAM};
 use crate::volume::{Volume, admit};
 use patch::Patch;
 
@@ -22,6 +25,9 @@ pub enum Call {
     List { out: Vec<u8> },
     Overwrite { path: Vec<u16>, offset: u64, bytes: Vec<u8> },
     SetLength { path: Vec<u16>, length: u64 },
+    CreateStream { path: Vec<u16> },
+    CreateStorage { path: Vec<u16> },
+    Remove { path: Vec<u16> },
 }
 
 /// What a call hands back.
@@ -50,6 +56,9 @@ impl Call {
             Call::List { .. } => "list",
             Call::Overwrite { .. } => "overwrite",
             Call::SetLength { .. } => "set_len",
+            Call::CreateStream { .. } => "create_stream",
+            Call::CreateStorage { .. } => "create_storage",
+            Call::Remove { .. } => "remove",
         }
     }
 
@@ -62,6 +71,9 @@ impl Call {
             Call::List { .. } => "opened list",
             Call::Overwrite { .. } => "opened overwrite",
             Call::SetLength { .. } => "opened set_len",
+            Call::CreateStream { .. } => "opened create_stream",
+            Call::CreateStorage { .. } => "opened create_storage",
+            Call::Remove { .. } => "opened remove",
         }
     }
 
@@ -86,6 +98,9 @@ pub const ANSWERS: &Answers = &[
     ("list", &[0, 1, 2, 10, 11, 12, 13, 14, 15, 16, 17, 18, 27]),
     ("overwrite", &[0, 1, 2, 10, 11, 12, 13, 14, 15, 16, 17, 18, 20, 21, 22, 23, 24]),
     ("set_len", &[0, 1, 2, 10, 11, 12, 13, 14, 15, 16, 17, 18, 20, 21, 22, 23, 26]),
+    ("create_stream", &[0, 1, 2, 10, 11, 12, 13, 14, 15, 16, 17, 18, 20, 21, 22, 29, 30]),
+    ("create_storage", &[0, 1, 2, 10, 11, 12, 13, 14, 15, 16, 17, 18, 20, 21, 22, 29, 30]),
+    ("remove", &[0, 1, 2, 10, 11, 12, 13, 14, 15, 16, 17, 18, 20, 21, 22, 28, 31]),
 ];
 
 /// Changes of length over the cutoff, which are counted by themselves too (W-201).
@@ -99,6 +114,9 @@ pub const OPENED_ANSWERS: &Answers = &[
     ("opened list", &[0, 27]),
     ("opened overwrite", &[0, 20, 21, 22, 23, 24]),
     ("opened set_len", &[0, 20, 21, 22, 23, 26]),
+    ("opened create_stream", &[0, 20, 21, 22, 29, 30]),
+    ("opened create_storage", &[0, 20, 21, 22, 29, 30]),
+    ("opened remove", &[0, 20, 21, 22, 28, 31]),
 ];
 
 /// What validating or opening answers where a call answers this: only numbers below 20 are about the image and the work
@@ -132,6 +150,9 @@ fn done(call: &Call, volume: &Volume, out: &mut [u8]) -> Result<([u64; 3], Vec<P
         Call::List { .. } => values[0] = list::list(volume, out)?,
         Call::Overwrite { path, offset, bytes } => patches = overwrite::overwrite(volume, path, *offset, bytes)?,
         Call::SetLength { path, length } => patches = set_length::set_length(volume, path, *length)?,
+        Call::CreateStream { path } => patches = create::create(volume, path, STREAM)?,
+        Call::CreateStorage { path } => patches = create::create(volume, path, STORAGE)?,
+        Call::Remove { path } => patches = remove::remove(volume, path)?,
     }
     Ok((values, patches))
 }
@@ -149,6 +170,9 @@ impl std::fmt::Display for Call {
                 write!(f, "overwrite {:?} from {offset}, {} bytes", text(path), bytes.len())
             }
             Call::SetLength { path, length } => write!(f, "set_len {:?} to {length}", text(path)),
+            Call::CreateStream { path } | Call::CreateStorage { path } | Call::Remove { path } => {
+                write!(f, "{} {:?}", self.name(), text(path))
+            }
         }
     }
 }

@@ -1,7 +1,12 @@
-//! The objects of a storage in the order of their names.
+//! The objects of a storage in the order of their names, and the fields that link them.
 
 use crate::number::NOSTREAM;
 use crate::volume::directory::Directory;
+
+/// The places of an entry's links.
+pub const LEFT: usize = 68;
+pub const RIGHT: usize = 72;
+pub const CHILD: usize = 76;
 
 /// The entries in this one, by a walk over the tree that its child field names.
 pub fn within(directory: &Directory, holder: usize) -> Vec<usize> {

@@ -1,15 +1,13 @@
 //! Changes of length over the cutoff, in both directions (W-201): just enough free units of the kind that is taken, and one too few;
 //! and lists of changes on one image. All free units, and the ends of all chains, hold noise before.
 
-use super::Case;
-use crate::calls::{Call, perform};
+use super::names::with_rows;
+use super::{Case, in_a_row};
+use crate::calls::Call;
 use crate::geometry::{Geometry, V3};
 use crate::images::plan::{Fill, Order, Plan};
 use crate::images::{Sample, names};
-use crate::model::Model;
 use crate::random::Random;
-use crate::volume::work_needed;
-use std::rc::Rc;
 
 pub fn cases(g: Geometry) -> Vec<Case> {
     let mut cases = Vec::new();
@@ -85,7 +83,7 @@ fn there_and_back(g: Geometry, cases: &mut Vec<Case>) {
         [100, 100_000, 100, 4_096, 4_095, 4_096, 1, 4_096, 4_033, most, 64, 65, 4_097, 4_032, 0, most, 4_095, 0, 1];
     for order in [Order::Rising, Order::Falling, Order::Scattered] {
         let calls: Vec<_> = lengths.iter().flat_map(|&length| [("log", most + 1, 26), ("log", length, 0)]).collect();
-        in_a_row(sample(g, order, 100, free, 62), &calls, cases);
+        changes(&sample(g, order, 100, free, 62), &calls, cases);
     }
 }
 
@@ -114,7 +112,7 @@ fn taking_turns(g: Geometry, cases: &mut Vec<Case>) {
             ("small", 4_095, 0),
             ("small", 4_096, 26),
         ];
-        in_a_row(Sample::build(&plan, &mut Random::of(0, 0)), &calls, cases);
+        changes(&Sample::build(&plan, &mut Random::of(0, 0)), &calls, cases);
     }
 }
 
@@ -134,25 +132,15 @@ fn sample(g: Geometry, order: Order, size: u32, free: u32, spare_minis: u32) -> 
 
 /// The stream log gets this length.
 fn on(sample: &Sample, length: u64, expected: u32) -> Case {
-    case(&sample.image, Rc::new(Model::of(sample)), set_length("log", length), expected)
+    Case { kind: "cutoff".to_string(), ..with_rows(sample, set_length("log", length), expected) }
 }
 
-/// Each change on the image and the rows that the ones before leave.
-fn in_a_row(sample: Sample, calls: &[(&str, u64, u32)], cases: &mut Vec<Case>) {
-    let (mut image, mut rows) = (sample.image.clone(), Model::of(&sample));
-    for &(path, length, expected) in calls {
-        let (call, work_len) = (set_length(path, length), work_needed(image.len()));
-        cases.push(case(&image, Rc::new(rows.clone()), call.clone(), expected));
-        perform(&call, &mut image, work_len);
-        rows.perform(&call, work_len);
-    }
+/// Each change on the image that the ones before leave.
+fn changes(sample: &Sample, calls: &[(&str, u64, u32)], cases: &mut Vec<Case>) {
+    let calls = calls.iter().map(|&(path, length, expected)| (set_length(path, length), expected));
+    cases.extend(in_a_row("cutoff", sample, calls.collect()));
 }
 
 fn set_length(path: &str, length: u64) -> Call {
     Call::SetLength { path: names::of(path), length }
-}
-
-fn case(image: &[u8], rows: Rc<Model>, call: Call, expected: u32) -> Case {
-    let work_len = work_needed(image.len());
-    Case { call, model: Some(rows), ..Case::new("cutoff", image.to_vec(), work_len, Some(expected)) }
 }

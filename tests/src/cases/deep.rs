@@ -1,11 +1,11 @@
-//! Large images: storages each inside the one before, whose listing is longer than any buffer; and many streams.
+//! Large images: storages each inside the one before, whose listing is longer than any buffer; many streams; and many siblings.
 
 use super::Case;
-use super::large::{MIB_8, MIB_64, many_streams, most_objects, nested};
+use super::large::{MIB_8, MIB_64, many_entries, many_streams, most_objects, nested};
 use crate::calls::{Call, list};
 use crate::draw;
 use crate::geometry::{Geometry, VERSIONS};
-use crate::images::plan::{Fill, Order, Plan};
+use crate::images::plan::{Fill, Order, Plan, Shape};
 use crate::images::{Sample, names};
 use crate::model::Model;
 use crate::random::Random;
@@ -25,14 +25,18 @@ pub fn run(seed: u64, then: &mut dyn FnMut(u64, Case)) {
         let (short, long) = (g.count(MIB_8), g.count(MIB_64));
         let (most, most_of_all) = (most_objects(g, short), most_objects(g, long));
         for (sectors, count) in [(short, 2_000), (short, JUST_ABOVE), (short, most), (long, most_of_all)] {
-            let image = Sample::build(&nested(g, sectors, count), &mut Random::of(seed, 0)).image;
+            let Sample { image, layout } = Sample::build(&nested(g, sectors, count), &mut Random::of(seed, 0));
             finds(&image, count).into_iter().chain(lists(&image)).for_each(&mut next);
+            innermost(&image, count, !layout.blanks.is_empty()).into_iter().for_each(&mut next);
         }
         let mut r = Random::of(seed, 1 + i as u64);
         streams(many_streams(g, short, 5_000, &[1, 64, 65, 200, 0]), 20, &mut r, &mut next);
         streams(many_streams(g, short, 40, &[130_000, 4096, 513, 200_001, 4095]), 20, &mut r, &mut next);
         streams(many_streams(g, long, 60, &[2_000_000, 4096, 513, 1_000_001, 4095]), 8, &mut r, &mut next);
         fills(g, &mut r).into_iter().for_each(&mut next);
+        for shape in [Shape::Random, Shape::Balanced, Shape::RightOnly, Shape::LeftOnly, Shape::ZigZag] {
+            siblings(g, shape, &mut r, &mut next);
+        }
     }
 }
 
@@ -41,14 +45,29 @@ fn on(image: &[u8], call: Call, expected: u32) -> Case {
     Case { call, ..Case::new("large", image.to_vec(), work_len, Some(expected)) }
 }
 
+/// The path of so many storages, each inside the one before.
+fn path(names: usize) -> Vec<u16> {
+    "STORAGE/".repeat(names).trim_end_matches('/').encode_utf16().collect()
+}
+
 /// The deepest storage, and one that is not in it.
 fn finds(image: &[u8], count: usize) -> Vec<Case> {
-    let find = |names: usize, answer| {
-        let path = "STORAGE/".repeat(names);
-        let path = path.trim_end_matches('/').encode_utf16().collect();
-        on(image, Call::Find { path }, answer)
-    };
+    let find = |names: usize, answer| on(image, Call::Find { path: path(names) }, answer);
     vec![find(count, 0), find(count - 1, 0), find(count + 1, 21), find(2 * count, 21)]
+}
+
+/// One more in the deepest storage, if there is an entry for it; and that storage itself removed.
+fn innermost(image: &[u8], count: usize, blank: bool) -> Vec<Case> {
+    let create = |names: usize, answer| on(image, Call::CreateStream { path: path(names) }, answer);
+    let remove = |names: usize, answer| on(image, Call::Remove { path: path(names) }, answer);
+    vec![
+        create(count + 1, if blank { 0 } else { 30 }),
+        create(count, 29),
+        create(count + 2, 21),
+        remove(count, 0),
+        remove(count - 1, 28),
+        remove(count + 1, 21),
+    ]
 }
 
 /// Out buffers too short, also one that is long enough if only 32 bits of the listing's length are kept.
@@ -94,4 +113,22 @@ fn fills(g: Geometry, r: &mut Random) -> Vec<Case> {
         }
     }
     cases
+}
+
+/// One is created at either end of 20,000 siblings and between them, and removed from there; in a tree that may be as deep as that.
+fn siblings(g: Geometry, shape: Shape, r: &mut Random, next: &mut dyn FnMut(Case)) {
+    const COUNT: usize = 20_000;
+    let sectors = g.count(MIB_8) / 2;
+    let plan =
+        Plan { red_once_in: 2, scattered_entries: true, spare_directory: 1, ..many_entries(g, sectors, COUNT, shape) };
+    let sample = Sample::build(&plan, r);
+    let model = Rc::new(Model::of(&sample));
+    let name = |i: usize, end: &str| names::of(&format!("a long name with number {i:06}{end}"));
+    let top = sample.layout.nodes.iter().find(|node| node.links.top).expect("one is the top");
+    let created = [names::of("a"), name(COUNT / 20, "x"), name(999_999, "x")].map(|path| Call::CreateStream { path });
+    let removed = [name(0, "0"), name(COUNT / 20, "0"), name((COUNT - 1) / 10, "9"), top.name.clone()];
+    for call in created.into_iter().chain(removed.map(|path| Call::Remove { path })) {
+        let case = on(&sample.image, call, 0);
+        next(Case { model: Some(model.clone()), ..case });
+    }
 }

@@ -2,14 +2,12 @@
 //! cutoff. Where the library's edits are linked, the volume is opened once before them and closed behind them.
 
 use super::large::MIB_64;
-use super::lists::List;
+use super::lists::{List, OneVolume};
 use crate::calls::Call;
 use crate::compare::Tally;
 use crate::geometry::{Geometry, VERSIONS};
 use crate::images::plan::{Fill, Order, Plan};
 use crate::images::{Sample, names};
-#[cfg(feature = "edits")]
-use crate::library::Opened;
 use crate::random::Random;
 use crate::volume::work_needed;
 
@@ -18,26 +16,16 @@ pub const LISTS: u64 = 2;
 
 /// Runs the list, up to the first call that fails; `shown` prints each call and its answer.
 pub fn run(seed: u64, number: u64, shown: bool, tally: &mut Tally) {
-    let name = format!("seed {seed} filled {number}");
     let mut r = Random::of(seed.rotate_left(24), number);
     let g = VERSIONS[number as usize];
     let sample = sample(g, &mut r);
+    let work_len = work_needed(sample.image.len());
     let calls = calls(g, sample.layout.free.len() * g.sector, &mut r);
-    let mut list = List::on(sample, name.clone(), r, shown);
-    let work_len = work_needed(list.image.len());
-    #[cfg(feature = "edits")]
-    let Some(mut opened) = tally.pass(&name, Opened::open(&list.image, work_len, 0)).flatten() else { return };
-    for (call, answer) in calls {
-        #[cfg(feature = "edits")]
-        let made = list.make(call, Some(answer), work_len, |name, case| tally.run_opened(name, case, &mut opened));
-        #[cfg(not(feature = "edits"))]
-        let made = list.make(call, Some(answer), work_len, |name, case| tally.run(name, case));
-        if made.is_none() {
-            return;
-        }
+    let list = List::on(sample, format!("seed {seed} filled {number}"), r, shown);
+    let Some(mut volume) = OneVolume::open(list, work_len, tally) else { return };
+    if calls.into_iter().all(|(call, answer)| volume.make(call, Some(answer)).is_some()) {
+        volume.close();
     }
-    #[cfg(feature = "edits")]
-    tally.pass(&name, opened.close());
 }
 
 /// The tables and two other streams lie scattered among free sectors full of noise. In version 3 the upper half of each size

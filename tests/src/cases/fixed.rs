@@ -1,8 +1,10 @@
 //! Cases on each side of the lines that the papers draw for lengths, the papers' own, and those of names, sizes, sectors, the
-//! cutoff and versions.
+//! cutoff, objects and versions.
 
 use super::large::{MIB_8, MIB_64};
-use super::{Case, cutoff, folding, names, papers, sectors, sizes, versions};
+use super::{
+    Case, cutoff, folding, names, new_names, object_lists, objects, papers, sectors, siblings, sizes, versions,
+};
 use crate::geometry::{GREATEST_IMAGE, Geometry, V3, VERSIONS};
 use crate::images::Sample;
 use crate::images::plan::Plan;
@@ -25,6 +27,10 @@ pub fn run(then: &mut dyn FnMut(u64, Case)) {
         sizes::cases(g).into_iter().for_each(&mut next);
         sectors::cases(g).into_iter().for_each(&mut next);
         cutoff::cases(g).into_iter().for_each(&mut next);
+        objects::cases(g).into_iter().for_each(&mut next);
+        new_names::cases(g).into_iter().for_each(&mut next);
+        object_lists::cases(g).into_iter().for_each(&mut next);
+        siblings::cases(g).into_iter().for_each(&mut next);
     }
     folding::cases().into_iter().for_each(&mut next);
     versions::cases().into_iter().for_each(&mut next);

@@ -6,6 +6,8 @@ use crate::compare::{After, Tally};
 use crate::draw;
 use crate::images::Sample;
 use crate::images::random_plan;
+#[cfg(feature = "edits")]
+use crate::library::Opened;
 use crate::model::Model;
 use crate::random::Random;
 use crate::volume::work_needed;
@@ -32,7 +34,7 @@ pub struct List {
     shown: bool,
     made: usize,
     pub image: Vec<u8>,
-    model: Rc<Model>,
+    pub model: Rc<Model>,
 }
 
 impl List {
@@ -80,5 +82,47 @@ impl List {
         self.image = after.image;
         self.model = after.model.expect("a case with rows leaves rows");
         Some(())
+    }
+}
+
+/// A list on one volume. Where the library's opened calls are linked, it is opened once for all of them.
+pub struct OneVolume<'t> {
+    list: List,
+    work_len: usize,
+    tally: &'t mut Tally,
+    #[cfg(feature = "edits")]
+    opened: Opened,
+}
+
+impl OneVolume<'_> {
+    /// None if it cannot be opened.
+    pub fn open(list: List, work_len: usize, tally: &mut Tally) -> Option<OneVolume<'_>> {
+        #[cfg(feature = "edits")]
+        let opened = tally.pass(&list.name, Opened::open(&list.image, work_len, 0)).flatten()?;
+        #[cfg(feature = "edits")]
+        return Some(OneVolume { list, work_len, tally, opened });
+        #[cfg(not(feature = "edits"))]
+        Some(OneVolume { list, work_len, tally })
+    }
+
+    pub fn rows(&self) -> &Model {
+        &self.list.model
+    }
+
+    /// Has this call run; its answer may be known. None if it fails.
+    pub fn make(&mut self, call: Call, expected: Option<u32>) -> Option<()> {
+        let OneVolume { list, work_len, tally, .. } = self;
+        #[cfg(feature = "edits")]
+        let run = |name: &str, case: &Case| tally.run_opened(name, case, &mut self.opened);
+        #[cfg(not(feature = "edits"))]
+        let run = |name: &str, case: &Case| tally.run(name, case);
+        list.make(call, expected, *work_len, run)
+    }
+
+    pub fn close(self) {
+        #[cfg(feature = "edits")]
+        let OneVolume { list, tally, mut opened, .. } = self;
+        #[cfg(feature = "edits")]
+        tally.pass(&list.name, opened.close());
     }
 }

@@ -1,6 +1,7 @@
 //! The cases of a run. Each is made from the seed and its own number alone, so that it can be run again by itself.
 
 pub mod calls;
+pub mod crowded;
 pub mod cutoff;
 pub mod deep;
 pub mod filled;
@@ -11,18 +12,24 @@ pub mod listed;
 pub mod lists;
 pub mod mutate;
 pub mod names;
+pub mod new_names;
+pub mod object_lists;
+pub mod objects;
 #[cfg(feature = "edits")]
 pub mod opened;
 pub mod papers;
 pub mod samples;
 pub mod sectors;
+pub mod siblings;
 pub mod sizes;
 pub mod small;
 pub mod tables;
 pub mod versions;
 
-use crate::calls::Call;
+use crate::calls::{Call, perform};
+use crate::images::Sample;
 use crate::model::Model;
+use crate::volume::work_needed;
 use std::rc::Rc;
 
 /// An image, the length of the work buffer lent with it, a call, and the answer where it is known beforehand.
@@ -49,4 +56,18 @@ impl Case {
         let (bytes, work) = (self.image.len(), self.work_len);
         format!("{}, {bytes} bytes, work {work}, {}", self.call, self.kind)
     }
+}
+
+/// Each call on the image and the rows that the ones before it leave, with its answer.
+pub fn in_a_row(kind: &str, sample: &Sample, calls: Vec<(Call, u32)>) -> Vec<Case> {
+    let (mut image, mut rows) = (sample.image.clone(), Rc::new(Model::of(sample)));
+    let work_len = work_needed(image.len());
+    let mut cases = Vec::new();
+    for (call, expected) in calls {
+        let model = Some(rows.clone());
+        cases.push(Case { call: call.clone(), model, ..Case::new(kind, image.clone(), work_len, Some(expected)) });
+        perform(&call, &mut image, work_len);
+        Rc::make_mut(&mut rows).perform(&call, work_len);
+    }
+    cases
 }

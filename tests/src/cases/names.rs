@@ -1,6 +1,6 @@
 //! Names and paths with units that no name has, the exclamation mark (W-202) above all, and with units beside those.
 
-use super::Case;
+use super::{Case, objects};
 use crate::calls::Call;
 use crate::geometry::Geometry;
 use crate::images::Sample;
@@ -55,7 +55,7 @@ fn refused(g: Geometry, name: &[u16], cases: &mut Vec<Case>) {
         let sample = beside_site(g, name, size);
         cases.push(on(&sample, Call::Validate, 14));
         // The image is judged before the path.
-        cases.extend(calls(name).map(|call| on(&sample, call, 14)));
+        cases.extend(calls(name).into_iter().chain(objects::calls(name)).map(|call| on(&sample, call, 14)));
         cases.push(on(&sample, Call::List { out: vec![b'#'; 400] }, 14));
     }
     let mut sample = beside_site(g, &names::of("last"), Some(70));
@@ -93,8 +93,9 @@ fn paths(g: Geometry, cases: &mut Vec<Case>) {
     for (before, behind, missing) in places {
         let around = |name: Vec<u16>| [names::of(before), name, names::of(behind)].concat();
         // All that are refused but the slash, which parts names.
-        for name in with(&[0, 0x5C, 0x3A, 0x21]) {
-            cases.extend(calls(&around(name)).map(|call| with_rows(&sample, call, 20)));
+        for path in with(&[0, 0x5C, 0x3A, 0x21]).into_iter().map(around) {
+            let all = calls(&path).into_iter().chain(objects::calls(&path));
+            cases.extend(all.map(|call| with_rows(&sample, call, 20)));
         }
         for name in with(&[0x20, 0x22, 0x2100, 0x0121]) {
             cases.extend(calls(&around(name)).map(|call| with_rows(&sample, call, missing)));
@@ -105,7 +106,7 @@ fn paths(g: Geometry, cases: &mut Vec<Case>) {
     }
 }
 
-/// Each call that takes a path; on a stream of at least two bytes all are done.
+/// Each call on what is at a path; on a stream of at least two bytes all are done.
 pub fn calls(path: &[u16]) -> [Call; 4] {
     let path = || path.to_vec();
     [

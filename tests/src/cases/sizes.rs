@@ -2,7 +2,7 @@
 //! stays until its stream gets another length; in version 4 all of a size counts (W-207), so that no chain is long enough.
 //! Storages and blank entries have none in either.
 
-use super::Case;
+use super::{Case, objects};
 use crate::breaks::edit::{SIZE, UPPER};
 use crate::calls::Call;
 use crate::geometry::{Geometry, V3};
@@ -70,6 +70,9 @@ fn accepted(sample: &Sample, upper: u32, cases: &mut Vec<Case>) {
     for path in ["", "Site"] {
         calls(path).into_iter().for_each(|call| next(call, 23));
     }
+    for path in ["Site/log", "Site/Jets", "Site/notes"] {
+        next(Call::Remove { path: names::of(path) }, 0);
+    }
     for (path, size) in [("Site/log", 5_000), ("Site/Jets", 70), ("Site/notes", 0)] {
         let whole = ((upper as u64) << 32) + size;
         for (offset, answer) in [(0, 0), (size / 2, 0), (size, 0), (size + 1, 24), (1 << 32, 24), (whole, 24)] {
@@ -100,7 +103,8 @@ fn refused(sample: &Sample, group: u32, cases: &mut Vec<Case>) {
     cases.push(on(&sample.image, Call::Validate, group));
     cases.push(on(&sample.image, Call::List { out: vec![b'#'; 400] }, group));
     cases.push(on(&sample.image, Call::Find { path: names::of("Site") }, group));
-    cases.extend(calls("Site/log").into_iter().map(|call| on(&sample.image, call, group)));
+    let all = calls("Site/log").into_iter().chain(objects::calls(&names::of("Site/new")));
+    cases.extend(all.map(|call| on(&sample.image, call, group)));
 }
 
 /// One byte of the size of a storage or of a blank entry is not zero; with rubbish in the other sizes too.

@@ -1,9 +1,9 @@
 //! What tells the versions apart in the header (W-207): major version and sector shift, the bytes behind 511, and the count of
 //! directory sectors.
 
-use super::Case;
 use super::fixed::{of_sectors, refused};
 use super::names::{calls, on, with_rows};
+use super::{Case, objects};
 use crate::breaks::edit::SIZE;
 use crate::calls::Call;
 use crate::geometry::{Geometry, V3, V4, VERSIONS};
@@ -38,7 +38,8 @@ pub fn site(g: Geometry, spare_directory: u32) -> Sample {
 pub fn broken(sample: &Sample, group: u32, cases: &mut Vec<Case>) {
     cases.push(on(sample, Call::Validate, group));
     cases.push(on(sample, Call::List { out: vec![b'#'; 400] }, group));
-    cases.extend(calls(&names::of("Site/log")).map(|call| on(sample, call, group)));
+    let all = calls(&names::of("Site/log")).into_iter().chain(objects::calls(&names::of("Site/new")));
+    cases.extend(all.map(|call| on(sample, call, group)));
 }
 
 /// Only the right pair of major version and sector shift passes group 10. Only major version 4 asks for a length of version 4.

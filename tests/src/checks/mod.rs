@@ -2,7 +2,9 @@
 
 mod calls;
 mod cutoff;
+mod objects;
 mod plain_owners;
+mod plain_siblings;
 mod plain_tree;
 mod samples;
 mod sizes;

@@ -9,6 +9,16 @@ use crate::random::Random;
 
 /// A call on an image that holds these rows.
 pub fn call(model: &Model, r: &mut Random) -> Call {
+    match r.below(48) {
+        0..6 => Call::CreateStream { path: paths::new(model, r) },
+        6..9 => Call::CreateStorage { path: paths::new(model, r) },
+        9..16 => Call::Remove { path: paths::old(model, r) },
+        _ => on_streams(model, r),
+    }
+}
+
+/// One that leaves every object where it is.
+pub fn on_streams(model: &Model, r: &mut Random) -> Call {
     match r.below(32) {
         0 => Call::Validate,
         1..5 => Call::Find { path: paths::path(model, r) },

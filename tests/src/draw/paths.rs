@@ -19,6 +19,37 @@ pub fn path(model: &Model, r: &mut Random) -> Vec<u16> {
     }
 }
 
+/// A path for an object to be created.
+pub fn new(model: &Model, r: &mut Random) -> Vec<u16> {
+    match r.below(32) {
+        0..10 => of(&[storage(model, r), vec![name(r)]].concat()),
+        // Few names: they come again, in either case, and after they are removed.
+        10..15 => of(&[storage(model, r), vec![names::of(r.pick(&["a", "A", "b", "log", "LOG", "Log"]))]].concat()),
+        15..19 => beside(model, r),
+        19..22 => recased(&of(&object(model, r)), r),
+        22 => Vec::new(),
+        23..26 => absent(model, r),
+        26..28 => through_stream(model, r),
+        28 => changed(&of(&object(model, r)), r),
+        _ => badly_formed(model, r),
+    }
+}
+
+/// A path for an object to be removed.
+pub fn old(model: &Model, r: &mut Random) -> Vec<u16> {
+    match r.below(32) {
+        0..14 => of(&leaf(model, r)),
+        14..18 => recased(&of(&leaf(model, r)), r),
+        18..20 => of(&object(model, r)),
+        20..23 => of(&storage(model, r)),
+        23 => Vec::new(),
+        24..27 => absent(model, r),
+        27..29 => through_stream(model, r),
+        29 => changed(&of(&object(model, r)), r),
+        _ => badly_formed(model, r),
+    }
+}
+
 /// The names as a path.
 fn of(names: &[Vec<u16>]) -> Vec<u16> {
     names.join(&SLASH)
@@ -36,6 +67,19 @@ fn stream(model: &Model, r: &mut Random) -> Vec<Vec<u16>> {
 /// The root's too.
 fn storage(model: &Model, r: &mut Random) -> Vec<Vec<u16>> {
     of_some(&model.rows, r, |row| row.bytes.is_none())
+}
+
+/// An object that holds no other; the root where there is nothing else.
+fn leaf(model: &Model, r: &mut Random) -> Vec<Vec<u16>> {
+    let mut names = object(model, r);
+    loop {
+        let below = |row: &&Row| row.path.len() > names.len() && row.path.starts_with(&names);
+        let inside: Vec<&Row> = model.rows.iter().filter(below).collect();
+        match r.some(&inside) {
+            Some(row) => names = row.path.clone(),
+            None => return names,
+        }
+    }
 }
 
 fn of_some(rows: &[Row], r: &mut Random, asked: fn(&Row) -> bool) -> Vec<Vec<u16>> {
@@ -74,6 +118,23 @@ fn absent(model: &Model, r: &mut Random) -> Vec<u16> {
         3 => drop(names.last_mut().map(|last| last.pop())),
         4 => drop(names.last_mut().map(|last| last.push(b'a' as u16))),
         _ => names.reverse(),
+    }
+    of(&names)
+}
+
+/// A name that stands close to one that is there in the order of names: its last unit is another, it is one unit longer or shorter,
+/// or it is that name.
+fn beside(model: &Model, r: &mut Random) -> Vec<u16> {
+    let mut names = object(model, r);
+    if let Some(last) = names.last_mut() {
+        match r.below(4) {
+            0 => last.push(r.pick(&[0x20, 0x41, 0x61, 0x430])),
+            1 => drop(last.pop()),
+            _ => {
+                let unit = last.pop().unwrap_or(0x41);
+                last.push(unit.wrapping_add(r.pick(&[0, 1, 1, 2, u16::MAX, u16::MAX - 1])));
+            }
+        }
     }
     of(&names)
 }

@@ -25,6 +25,9 @@ pub fn plan(random: &mut Random) -> Plan {
         98..100 if g == V3 => long_fat(&mut plan, random, 234, 240),
         _ => objects(&mut plan, random, 12, 40 << 10),
     }
+    if random.one_in(8) {
+        crowd(&mut plan, random);
+    }
     plan
 }
 
@@ -40,6 +43,9 @@ pub fn scarce(random: &mut Random) -> Plan {
     plan.free = if g == V4 { random.below(6) } else { random.pick(&[0, 1, 2, 5, 7, 8, 9, 10, 16, 24]) };
     plan.spare_minis = random.pick(&[0, 1, 2, 3, 8, 20, 63, 64, 70, 140]);
     plan.fill = random.pick(&[Fill::Noise, Fill::Noise, Fill::Noise, Fill::Byte(0xFF)]);
+    if random.one_in(3) {
+        crowd(&mut plan, random);
+    }
     plan
 }
 
@@ -104,6 +110,23 @@ fn objects(plan: &mut Plan, random: &mut Random, most: u32, mut room: u32) {
             plan.add(parent, name, Some(size));
         } else {
             storages.push(plan.add(parent, name, None));
+        }
+    }
+}
+
+/// Hardly an entry is blank: the directory's last sector is filled with storages and empty streams.
+fn crowd(plan: &mut Plan, random: &mut Random) {
+    let (alphabet, blanks) = (random.pick(&Alphabet::ALL), random.below(4) as usize);
+    plan.spare_directory = 0;
+    let all = plan.objects.iter().enumerate();
+    let mut storages: Vec<usize> = all.filter(|(_, object)| object.size.is_none()).map(|(number, _)| number).collect();
+    let mut taken: HashSet<_> = plan.objects.iter().map(|object| (object.parent, names::key(&object.name))).collect();
+    while !(plan.objects.len() + blanks).is_multiple_of(plan.geometry.entries) {
+        let (parent, name) = (random.pick(&storages), names::random(random, alphabet));
+        if taken.insert((parent, names::key(&name))) {
+            let size = if random.one_in(3) { None } else { Some(0) };
+            let object = plan.add(parent, name, size);
+            storages.extend(size.is_none().then_some(object));
         }
     }
 }

@@ -64,6 +64,34 @@ unsafe extern "C" {
     ) -> u32;
 }
 
+#[cfg(feature = "objects")]
+unsafe extern "C" {
+    fn cfb_create_stream(
+        image: *mut u8,
+        image_len: usize,
+        work: *mut u32,
+        work_len: usize,
+        path: *const u16,
+        path_len: usize,
+    ) -> u32;
+    fn cfb_create_storage(
+        image: *mut u8,
+        image_len: usize,
+        work: *mut u32,
+        work_len: usize,
+        path: *const u16,
+        path_len: usize,
+    ) -> u32;
+    fn cfb_remove(
+        image: *mut u8,
+        image_len: usize,
+        work: *mut u32,
+        work_len: usize,
+        path: *const u16,
+        path_len: usize,
+    ) -> u32;
+}
+
 /// The library's answer for an image that it may not change.
 pub fn validate(image: &[u8], work: &mut [u32]) -> u32 {
     // A slice's pointer is not null, aligned, and good for its length.
@@ -100,8 +128,18 @@ pub fn call(call: &Call, image: &mut [u8], work: &mut [u32], out: &mut [u8]) -> 
         Call::SetLength { path, length } => unsafe {
             cfb_set_len(image, image_len, work, work_len, path.as_ptr(), path.len(), *length)
         },
-        #[cfg(not(feature = "edits"))]
-        Call::Overwrite { .. } | Call::SetLength { .. } => return None,
+        #[cfg(feature = "objects")]
+        Call::CreateStream { path } => unsafe {
+            cfb_create_stream(image, image_len, work, work_len, path.as_ptr(), path.len())
+        },
+        #[cfg(feature = "objects")]
+        Call::CreateStorage { path } => unsafe {
+            cfb_create_storage(image, image_len, work, work_len, path.as_ptr(), path.len())
+        },
+        #[cfg(feature = "objects")]
+        Call::Remove { path } => unsafe { cfb_remove(image, image_len, work, work_len, path.as_ptr(), path.len()) },
+        #[cfg(not(feature = "objects"))]
+        _ => return None,
     };
     Some((answer, values.of(call)))
 }

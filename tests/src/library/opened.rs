@@ -46,16 +46,17 @@ impl Opened {
         Ok((answer == 0).then_some(Opened { image, work, volume, found, noise }))
     }
 
-    /// Makes the case's call; to validate is to close and open again. Finds and reads leave the work buffer as it is, and
-    /// the others all but its first W numbers.
+    /// Makes the case's call; to validate is to close and open again, as it is to make a call that is not linked. Finds and
+    /// reads leave the work buffer as it is, and the others all but its first W numbers.
     pub fn check(&mut self, case: &Case, due: &After) -> Result<(), String> {
         if case.call == Call::Validate {
-            return self.open_again();
+            return self.open_again(&due.image);
         }
         let given = case.call.clone();
         let work_before = self.work.content().to_vec();
         let mut out = Lent::new(case.call.out(), self.noise.index(16), || self.noise.byte());
         let done = opened_call(&given, self.image.part(), self.work.part(), &mut self.volume.part()[0], out.part());
+        let Some(done) = done else { return self.open_again(&due.image) };
         let work_right = match case.call {
             Call::Find { .. } | Call::Read { .. } => self.work.holds(&work_before),
             _ => self.work.kept_behind(work_needed(due.image.len())),
@@ -70,9 +71,10 @@ impl Opened {
         judge(done, &due.outcome, &buffers).map_err(|fault| format!("opened: {fault}"))
     }
 
-    fn open_again(&mut self) -> Result<(), String> {
+    /// With the image as it is to be then.
+    fn open_again(&mut self, image: &[u8]) -> Result<(), String> {
         self.close()?;
-        let opened = Opened::open(self.image.content(), self.work.content().len(), 0)?;
+        let opened = Opened::open(image, self.work.content().len(), 0)?;
         *self = opened.expect("the answer was 0");
         Ok(())
     }

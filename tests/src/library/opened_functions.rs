@@ -68,6 +68,37 @@ unsafe extern "C" {
     ) -> u32;
 }
 
+#[cfg(feature = "objects")]
+unsafe extern "C" {
+    fn cfb_opened_create_stream(
+        image: *mut u8,
+        image_len: usize,
+        work: *mut u32,
+        work_len: usize,
+        volume: *const Volume,
+        path: *const u16,
+        path_len: usize,
+    ) -> u32;
+    fn cfb_opened_create_storage(
+        image: *mut u8,
+        image_len: usize,
+        work: *mut u32,
+        work_len: usize,
+        volume: *const Volume,
+        path: *const u16,
+        path_len: usize,
+    ) -> u32;
+    fn cfb_opened_remove(
+        image: *mut u8,
+        image_len: usize,
+        work: *mut u32,
+        work_len: usize,
+        volume: *const Volume,
+        path: *const u16,
+        path_len: usize,
+    ) -> u32;
+}
+
 // All that is lent could be written to: what a call has to leave alone is compared behind it.
 
 /// The library's answer; after 0 the volume is opened.
@@ -82,14 +113,15 @@ pub fn close(image: &mut [u8], work: &mut [u32], volume: &mut Volume) {
     unsafe { cfb_close(image.as_mut_ptr(), image.len(), work.as_mut_ptr(), work.len(), volume) }
 }
 
-/// The library's answer, and the values that it wrote. The out buffer is the one lent here, not the call's own.
+/// The library's answer, and the values that it wrote; None for a function that is not linked. The out buffer is the one
+/// lent here, not the call's own.
 pub fn opened_call(
     call: &Call,
     image: &mut [u8],
     work: &mut [u32],
     volume: &mut Volume,
     out: &mut [u8],
-) -> (u32, [u64; 3]) {
+) -> Option<(u32, [u64; 3])> {
     let (image, image_len) = (image.as_mut_ptr(), image.len());
     let (work, work_len) = (work.as_mut_ptr(), work.len());
     let (out, out_len) = (out.as_mut_ptr(), out.len());
@@ -116,6 +148,20 @@ pub fn opened_call(
             let (path, path_len) = (path.as_ptr(), path.len());
             cfb_opened_set_len(image, image_len, work, work_len, volume, path, path_len, *length)
         },
+        #[cfg(feature = "objects")]
+        Call::CreateStream { path } => unsafe {
+            cfb_opened_create_stream(image, image_len, work, work_len, volume, path.as_ptr(), path.len())
+        },
+        #[cfg(feature = "objects")]
+        Call::CreateStorage { path } => unsafe {
+            cfb_opened_create_storage(image, image_len, work, work_len, volume, path.as_ptr(), path.len())
+        },
+        #[cfg(feature = "objects")]
+        Call::Remove { path } => unsafe {
+            cfb_opened_remove(image, image_len, work, work_len, volume, path.as_ptr(), path.len())
+        },
+        #[cfg(not(feature = "objects"))]
+        _ => return None,
     };
-    (answer, values.of(call))
+    Some((answer, values.of(call)))
 }

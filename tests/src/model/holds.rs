@@ -6,9 +6,10 @@ use crate::calls::{list, stream::Stream};
 use crate::number::FREE;
 use crate::volume::Volume;
 use crate::volume::chains::Chains;
+use crate::volume::entry::{BLANK, STREAM};
 
 impl Model {
-    /// The image is valid, has exactly the rows' paths and bytes, and as many units are taken as the rows need.
+    /// The image is valid, has exactly the rows' paths and bytes in their entries, and as many units are taken as the rows need.
     pub fn holds_of(&self, image: &[u8]) -> Result<(), String> {
         let volume = Volume::open(image).map_err(|group| format!("image broken in group {group}"))?;
         let taken = Units { sectors: taken(&volume.sectors), minis: taken(&volume.mini.chains) };
@@ -21,11 +22,14 @@ impl Model {
         }
         for (i, row) in rows.into_iter().enumerate() {
             let path = list::names(&volume, &listed, i);
-            if path != row.path || bytes(&volume, listed[i].entry) != row.bytes {
+            let entry = listed[i].entry;
+            if path != row.path || entry as u32 != row.entry || bytes(&volume, entry) != row.bytes {
                 return Err(format!("object {i} of the listing is not its row"));
             }
         }
-        Ok(())
+        let blank = |entry: &usize| volume.directory.entry(*entry).kind() == BLANK;
+        let blanks = (0..volume.directory.count()).filter(blank).map(|entry| entry as u32);
+        if blanks.eq(self.blanks.iter().copied()) { Ok(()) } else { Err("other entries are blank".to_string()) }
     }
 }
 
@@ -36,7 +40,7 @@ fn taken(chains: &Chains) -> u64 {
 
 /// None for a storage.
 fn bytes(volume: &Volume, entry: usize) -> Option<Vec<u8>> {
-    let is_stream = volume.directory.entry(entry).kind() == crate::volume::entry::STREAM;
+    let is_stream = volume.directory.entry(entry).kind() == STREAM;
     is_stream.then(|| {
         let stream = Stream::of(volume, entry);
         stream.bytes(volume.image, 0, stream.size)

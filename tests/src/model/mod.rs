@@ -4,6 +4,7 @@
 mod edits;
 mod holds;
 mod lines;
+mod objects;
 pub mod room;
 
 use crate::calls::{Call, Outcome};
@@ -13,6 +14,7 @@ use crate::images::layout::Node;
 use crate::images::names;
 use crate::images::write::is_large;
 use crate::number::*;
+use std::collections::BTreeSet;
 
 #[derive(Clone)]
 pub struct Row {
@@ -34,6 +36,8 @@ pub struct Model {
     sectors: u64,
     minis: u64,
     fixed: u64,
+    /// The entries that are blank.
+    pub blanks: BTreeSet<u32>,
 }
 
 impl Model {
@@ -47,12 +51,13 @@ impl Model {
             if node.entry != 0 {
                 path.push(node.name.clone());
             }
-            let key = path.iter().map(|name| names::key(name)).collect();
+            let key = key(&path);
             rows.push(Row { path, key, entry: node.entry, bytes: first_bytes(g, &sample.image, &minis, node) });
         }
         let system = [&layout.fat, &layout.difat, &layout.directory, &layout.mini_fat, &layout.mini_stream];
         let fixed = system.into_iter().map(|part| part.len() as u64).sum();
-        Model { geometry: g, rows, sectors: layout.sectors as u64, minis: layout.minis as u64, fixed }
+        let blanks = layout.blanks.iter().copied().collect();
+        Model { geometry: g, rows, sectors: layout.sectors as u64, minis: layout.minis as u64, fixed, blanks }
     }
 
     /// What the call hands back, on an image that is valid.
@@ -78,17 +83,28 @@ impl Model {
             }
             Call::Overwrite { path, offset, bytes } => self.overwrite(path, *offset, bytes),
             Call::SetLength { path, length } => self.set_length(path, *length),
+            Call::CreateStream { path } => self.create(path, Some(Vec::new())),
+            Call::CreateStorage { path } => self.create(path, None),
+            Call::Remove { path } => self.remove(path),
         }
     }
 
-    /// The row that a path means. Of the names that fail the first one decides.
+    /// The row that a path means.
     pub fn meant(&self, path: &[u16]) -> Result<usize, u32> {
+        self.at(&self.names(path)?)
+    }
+
+    /// The names of a path that is well formed.
+    fn names<'a>(&self, path: &'a [u16]) -> Result<Vec<&'a [u16]>, u32> {
         let names: Vec<&[u16]> =
             if path.is_empty() { Vec::new() } else { path.split(|&unit| unit == b'/' as u16).collect() };
-        if names.iter().any(|name| !(1..=31).contains(&name.len()) || name.iter().any(|&unit| names::refused(unit))) {
-            return Err(20);
-        }
-        let key: Vec<_> = names.into_iter().map(names::key).collect();
+        let bad = |name: &&[u16]| !(1..=31).contains(&name.len()) || name.iter().any(|&unit| names::refused(unit));
+        if names.iter().any(bad) { Err(20) } else { Ok(names) }
+    }
+
+    /// The row of these names. Of those that fail the first one decides.
+    fn at(&self, names: &[&[u16]]) -> Result<usize, u32> {
+        let key = key(names);
         for count in 1..=key.len() {
             let row = self.row(&key[..count]).ok_or(21u32)?;
             if count < key.len() && self.rows[row].bytes.is_some() {
@@ -115,6 +131,11 @@ impl Model {
             None => [entry, 1, 0],
         }
     }
+}
+
+/// Names as they are compared.
+fn key<T: AsRef<[u16]>>(names: &[T]) -> Vec<(usize, Vec<u16>)> {
+    names.iter().map(|name| names::key(name.as_ref())).collect()
 }
 
 /// Puts bytes at the front of the out buffer, and counts them.

@@ -95,7 +95,7 @@ fn opened(image: &[u8], calls: &[Call], times: &mut Times) -> Done {
     assert_eq!(answer, 0, "a valid image");
     once(&mut times.calls, || {
         for (call, out) in calls.iter().zip(&mut *outs) {
-            given.push(library::opened_call(call, image, work, &mut volume, out));
+            given.push(library::opened_call(call, image, work, &mut volume, out).expect("every call is linked"));
         }
     });
     once(&mut times.close, || library::close(image, work, &mut volume));

@@ -1,6 +1,6 @@
-//! What a call does to a valid image, stated as properties of the image before and after, not as a way to get there.
+//! What a change of length does to an image.
 
-use crate::calls::Call;
+use super::held;
 use crate::calls::find::find;
 use crate::calls::patch::{cell, field};
 use crate::calls::stream::Stream;
@@ -8,36 +8,16 @@ use crate::number::*;
 use crate::volume::Volume;
 use std::ops::Range;
 
-/// The error says which property does not hold.
-pub fn check(call: &Call, answer: u32, before: &[u8], after: &[u8]) -> Result<(), &'static str> {
-    let changed = match call {
-        Call::Overwrite { path, offset, bytes } if answer == 0 => {
-            Seen::of(before, path).stream().pieces(*offset, *offset + bytes.len() as u64).collect()
-        }
-        Call::SetLength { path, length } if answer == 0 => length_changed(before, after, path, *length)?,
-        _ => Vec::new(),
-    };
-    let mut put_back = after.to_vec();
-    for part in changed {
-        put_back[part.clone()].copy_from_slice(&before[part]);
-    }
-    held(put_back == before, "a byte changed that must stay")
-}
-
-fn held(property: bool, fault: &'static str) -> Result<(), &'static str> {
-    if property { Ok(()) } else { Err(fault) }
-}
-
 /// One stream in an image.
-struct Seen<'a> {
+pub struct Seen<'a> {
     volume: Volume<'a>,
     entry: usize,
     size: u64,
-    chain: Vec<u32>,
+    pub chain: Vec<u32>,
 }
 
 impl Seen<'_> {
-    fn of<'a>(image: &'a [u8], path: &[u16]) -> Seen<'a> {
+    pub fn of<'a>(image: &'a [u8], path: &[u16]) -> Seen<'a> {
         let volume = Volume::open(image).expect("a valid image");
         let found = find(&volume, path).expect("a stream at this path");
         let start = volume.directory.entry(found.entry).start();
@@ -47,11 +27,11 @@ impl Seen<'_> {
     }
 
     /// Whether it lies in mini sectors.
-    fn is_small(&self) -> bool {
+    pub fn is_small(&self) -> bool {
         self.size < CUTOFF
     }
 
-    fn stream(&self) -> Stream {
+    pub fn stream(&self) -> Stream {
         Stream::of_chain(&self.volume, self.size, &self.chain)
     }
 
@@ -66,7 +46,7 @@ impl Seen<'_> {
     }
 
     /// The places of its cells, its start and its size.
-    fn fields(&self) -> impl Iterator<Item = Range<usize>> {
+    pub fn fields(&self) -> impl Iterator<Item = Range<usize>> {
         let table = if self.is_small() { &self.volume.mini.fat } else { &self.volume.tables.fat };
         let cells = self.chain.iter().map(|&unit| cell(self.volume.geometry, table, unit, FREE));
         let entry = field(&self.volume, self.entry, 116, &[0; 12]);
@@ -75,7 +55,7 @@ impl Seen<'_> {
 }
 
 /// The places that may have changed.
-fn length_changed(before: &[u8], after: &[u8], path: &[u16], length: u64) -> Result<Vec<Range<usize>>, &'static str> {
+pub fn changed(before: &[u8], after: &[u8], path: &[u16], length: u64) -> Result<Vec<Range<usize>>, &'static str> {
     let (old, new) = (Seen::of(before, path), Seen::of(after, path));
     held(new.size == length, "not the length asked for")?;
     if old.size == new.size {

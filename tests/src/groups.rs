@@ -1,0 +1,72 @@
+//! Calls as the gate's program `calls_run` reads them, made by the independent calls. `../tools/groups.py` says how they are laid out,
+//! and what is printed of each.
+
+use crate::calls::{Call, Outcome, perform};
+use crate::number::{u32_at, u64_at};
+use crate::volume::work_needed;
+
+/// What the program must print.
+pub fn lines(input: &[u8]) -> String {
+    let (mut text, mut rest) = (String::new(), Rest(input));
+    while !rest.0.is_empty() {
+        let (length, calls) = (rest.number(), rest.number());
+        let mut image = rest.bytes(length).to_vec();
+        for _ in 0..calls {
+            match rest.call() {
+                Some((call, work_len)) => text += &line(&call, &mut image, work_len),
+                None => return text + "unknown\n",
+            }
+        }
+    }
+    text
+}
+
+/// What is still to be read.
+struct Rest<'a>(&'a [u8]);
+
+impl<'a> Rest<'a> {
+    fn bytes(&mut self, count: usize) -> &'a [u8] {
+        let (bytes, rest) = self.0.split_at(count);
+        self.0 = rest;
+        bytes
+    }
+
+    fn number(&mut self) -> usize {
+        u32_at(self.bytes(4), 0) as usize
+    }
+
+    /// A call, with the length of its work buffer; None for a kind that there is not.
+    fn call(&mut self) -> Option<(Call, usize)> {
+        let [kind, units, work_len, room, given] = [(); 5].map(|()| self.number());
+        let place = u64_at(self.bytes(8), 0);
+        let path = self.bytes(2 * units).chunks(2).map(|unit| u16::from_le_bytes([unit[0], unit[1]])).collect();
+        let mut buffer = self.bytes(given).to_vec();
+        buffer.resize(room, 90);
+        let call = match kind {
+            0 => Call::Validate,
+            1 => Call::Find { path },
+            2 => Call::Read { path, offset: place, out: buffer },
+            3 => Call::List { out: buffer },
+            4 => Call::Overwrite { path, offset: place, bytes: buffer },
+            5 => Call::SetLength { path, length: place },
+            6 => Call::CreateStream { path },
+            7 => Call::CreateStorage { path },
+            8 => Call::Remove { path },
+            _ => return None,
+        };
+        Some((call, work_len))
+    }
+}
+
+fn line(call: &Call, image: &mut [u8], work_len: usize) -> String {
+    let Outcome { answer, values, out } = perform(call, image, work_len);
+    let (found, count) = if matches!(call, Call::Find { .. }) { (values, 0) } else { ([0; 3], values[0]) };
+    let buffer = if let Call::Overwrite { bytes, .. } = call { bytes } else { &out };
+    let zeros = if answer == 1 || answer == 2 { 0 } else { work_needed(image.len()) };
+    let [entry, kind, size] = found;
+    format!("{answer} {entry} {kind} {size} {count} {zeros} {} {}\n", digest(buffer), digest(image))
+}
+
+fn digest(bytes: &[u8]) -> u32 {
+    bytes.iter().fold(1u32, |h, &byte| h.wrapping_mul(16_777_619).wrapping_add(byte as u32))
+}
