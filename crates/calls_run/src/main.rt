@@ -2,10 +2,13 @@
 // its calls, and then those calls; the image goes from call to call, with the edits made on it. `tools/calls_cases.py` writes them, and
 // `tools/groups.py` says how a call is laid out.
 ghost use Prim.Native.Nat.{_≤_};
+use cfb::create_storage;
+use cfb::create_stream;
 use cfb::find;
 use cfb::list;
 use cfb::overwrite;
 use cfb::read;
+use cfb::remove;
 use cfb::set_length;
 use cfb::validate;
 use kinds::number;
@@ -84,7 +87,8 @@ enum Outcome {
     Unknown,
 }
 
-// The call of a kind: 0 validates, 1 finds, 2 reads, 3 lists, 4 overwrites, 5 sets a length.
+// The call of a kind: 0 validates, 1 finds, 2 reads, 3 lists, 4 overwrites, 5 sets a length, 6 creates a
+// stream, 7 a storage, 8 removes.
 fn make(
     kind: u32,
     image: &mut [u8],
@@ -100,6 +104,9 @@ fn make(
         3 => Outcome::Made(listed(list(image, work, bytes))),
         4 => Outcome::Made(plain(number(overwrite(image, work, path, place, bytes)))),
         5 => Outcome::Made(plain(number(set_length(image, work, path, place)))),
+        6 => Outcome::Made(plain(number(create_stream(image, work, path)))),
+        7 => Outcome::Made(plain(number(create_storage(image, work, path)))),
+        8 => Outcome::Made(plain(number(remove(image, work, path)))),
         _ => Outcome::Unknown,
     }
 }

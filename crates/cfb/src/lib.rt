@@ -1,17 +1,23 @@
 // The public calls. Nobody has to check first: no call requires anything, and every call ends and answers.
 ghost use mathlib.Core.Path.{_≡_};
-ghost use Rattle.format.specs.Calls.Call.{validate as validateCall, find as findCall, read as readCall, overwrite as overwriteCall, setLength as lengthCall, list as listCall};
+ghost use Rattle.format.specs.Calls.Call.{validate as validateCall, find as findCall, read as readCall, overwrite as overwriteCall, setLength as lengthCall};
+ghost use Rattle.format.specs.Calls.Call.{create as createCall, remove as removeCall, list as listCall};
+ghost use Rattle.format.specs.Calls.Create.{stream, storage};
 ghost use Rattle.format.specs.Calls.Reply.{plain, reply};
 ghost use Rattle.format.specs.Calls.Buffers.{imageAfter, outAfter, workAfter};
 ghost use Rattle.kinds.specs.Numbers.{numberOf};
+ghost use Rattle.kinds.specs.Links.{newKindOf};
 ghost use Rattle.queries.specs.Replies.{findReply, readReply, listReply};
 use kinds::Answer;
+use kinds::NewKind;
 use opened::close;
+use opened::create_opened;
 use opened::find_opened;
 use opened::list_opened;
 use opened::open_image;
 use opened::overwrite_opened;
 use opened::read_opened;
+use opened::remove_opened;
 use opened::set_length_opened;
 use queries::find::Find;
 use queries::list::List;
@@ -96,6 +102,56 @@ pub fn set_length(image: &mut [u8], work: &mut [u32], path: &[u16], new_len: u64
         Opened::Refused(a) => Answer::Refused(a),
         Opened::Ready(v) => {
             let r = set_length_opened(image, work, v, path, new_len);
+            close(image, work, v);
+            r
+        }
+    }
+}
+
+// An object at a path, where nothing is yet.
+fn create(image: &mut [u8], work: &mut [u32], path: &[u16], kind: NewKind) -> Answer
+    ensures { λ r. ⌜ plain (numberOf r) ≡ reply (now (image .entry)) (createCall (newKindOf kind) (now (path .entry)) (now (work .entry))) ⌝ }
+    ensures { λ _. ⌜ now (image .exit) ≡ imageAfter (now (image .entry)) (createCall (newKindOf kind) (now (path .entry)) (now (work .entry))) ⌝ }
+    ensures { λ _. ⌜ now (work .exit) ≡ workAfter (now (image .entry)) (createCall (newKindOf kind) (now (path .entry)) (now (work .entry))) ⌝ }
+{
+    match open_image(image, work) {
+        Opened::Refused(a) => Answer::Refused(a),
+        Opened::Ready(v) => {
+            let r = create_opened(image, work, v, path, kind);
+            close(image, work, v);
+            r
+        }
+    }
+}
+
+// A stream of no bytes at a path, where nothing is yet.
+pub fn create_stream(image: &mut [u8], work: &mut [u32], path: &[u16]) -> Answer
+    ensures { λ r. ⌜ plain (numberOf r) ≡ reply (now (image .entry)) (createCall stream (now (path .entry)) (now (work .entry))) ⌝ }
+    ensures { λ _. ⌜ now (image .exit) ≡ imageAfter (now (image .entry)) (createCall stream (now (path .entry)) (now (work .entry))) ⌝ }
+    ensures { λ _. ⌜ now (work .exit) ≡ workAfter (now (image .entry)) (createCall stream (now (path .entry)) (now (work .entry))) ⌝ }
+{
+    create(image, work, path, NewKind::Stream)
+}
+
+// A storage with nothing in it at a path, where nothing is yet.
+pub fn create_storage(image: &mut [u8], work: &mut [u32], path: &[u16]) -> Answer
+    ensures { λ r. ⌜ plain (numberOf r) ≡ reply (now (image .entry)) (createCall storage (now (path .entry)) (now (work .entry))) ⌝ }
+    ensures { λ _. ⌜ now (image .exit) ≡ imageAfter (now (image .entry)) (createCall storage (now (path .entry)) (now (work .entry))) ⌝ }
+    ensures { λ _. ⌜ now (work .exit) ≡ workAfter (now (image .entry)) (createCall storage (now (path .entry)) (now (work .entry))) ⌝ }
+{
+    create(image, work, path, NewKind::Storage)
+}
+
+// Removes the object that a path leads to: a stream, or a storage with nothing in it.
+pub fn remove(image: &mut [u8], work: &mut [u32], path: &[u16]) -> Answer
+    ensures { λ r. ⌜ plain (numberOf r) ≡ reply (now (image .entry)) (removeCall (now (path .entry)) (now (work .entry))) ⌝ }
+    ensures { λ _. ⌜ now (image .exit) ≡ imageAfter (now (image .entry)) (removeCall (now (path .entry)) (now (work .entry))) ⌝ }
+    ensures { λ _. ⌜ now (work .exit) ≡ workAfter (now (image .entry)) (removeCall (now (path .entry)) (now (work .entry))) ⌝ }
+{
+    match open_image(image, work) {
+        Opened::Refused(a) => Answer::Refused(a),
+        Opened::Ready(v) => {
+            let r = remove_opened(image, work, v, path);
             close(image, work, v);
             r
         }

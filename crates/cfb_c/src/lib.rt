@@ -1,13 +1,18 @@
 // The public calls for C. A slice passes as a pointer and a length; an answer is 01's number, and values go out through pointers.
 ghost use mathlib.Core.Path.{_≡_};
-ghost use Rattle.format.specs.Calls.Call.{validate as validateCall, find as findCall, read as readCall, overwrite as overwriteCall, setLength as lengthCall, list as listCall};
+ghost use Rattle.format.specs.Calls.Call.{validate as validateCall, find as findCall, read as readCall, overwrite as overwriteCall, setLength as lengthCall};
+ghost use Rattle.format.specs.Calls.Call.{create as createCall, remove as removeCall, list as listCall};
+ghost use Rattle.format.specs.Calls.Create.{stream, storage};
 ghost use Rattle.format.specs.Calls.Reply.{plain, reply};
 ghost use Rattle.format.specs.Calls.Buffers.{imageAfter, outAfter, workAfter};
 ghost use Rattle.kinds.specs.Numbers.{refusalNumber};
+use cfb::create_storage;
+use cfb::create_stream;
 use cfb::find;
 use cfb::list;
 use cfb::overwrite;
 use cfb::read;
+use cfb::remove;
 use cfb::set_length;
 use cfb::validate;
 use kinds::Refusal;
@@ -113,6 +118,33 @@ pub extern "C" fn cfb_set_len(image: &mut [u8], work: &mut [u32], path: &[u16], 
     ensures { λ _. ⌜ now (work .exit) ≡ workAfter (now (image .entry)) (lengthCall (now (path .entry)) «new_len» (now (work .entry))) ⌝ }
 {
     number(set_length(image, work, path, new_len))
+}
+
+#[no_mangle]
+pub extern "C" fn cfb_create_stream(image: &mut [u8], work: &mut [u32], path: &[u16]) -> u32
+    ensures { λ r. ⌜ plain r ≡ reply (now (image .entry)) (createCall stream (now (path .entry)) (now (work .entry))) ⌝ }
+    ensures { λ _. ⌜ now (image .exit) ≡ imageAfter (now (image .entry)) (createCall stream (now (path .entry)) (now (work .entry))) ⌝ }
+    ensures { λ _. ⌜ now (work .exit) ≡ workAfter (now (image .entry)) (createCall stream (now (path .entry)) (now (work .entry))) ⌝ }
+{
+    number(create_stream(image, work, path))
+}
+
+#[no_mangle]
+pub extern "C" fn cfb_create_storage(image: &mut [u8], work: &mut [u32], path: &[u16]) -> u32
+    ensures { λ r. ⌜ plain r ≡ reply (now (image .entry)) (createCall storage (now (path .entry)) (now (work .entry))) ⌝ }
+    ensures { λ _. ⌜ now (image .exit) ≡ imageAfter (now (image .entry)) (createCall storage (now (path .entry)) (now (work .entry))) ⌝ }
+    ensures { λ _. ⌜ now (work .exit) ≡ workAfter (now (image .entry)) (createCall storage (now (path .entry)) (now (work .entry))) ⌝ }
+{
+    number(create_storage(image, work, path))
+}
+
+#[no_mangle]
+pub extern "C" fn cfb_remove(image: &mut [u8], work: &mut [u32], path: &[u16]) -> u32
+    ensures { λ r. ⌜ plain r ≡ reply (now (image .entry)) (removeCall (now (path .entry)) (now (work .entry))) ⌝ }
+    ensures { λ _. ⌜ now (image .exit) ≡ imageAfter (now (image .entry)) (removeCall (now (path .entry)) (now (work .entry))) ⌝ }
+    ensures { λ _. ⌜ now (work .exit) ≡ workAfter (now (image .entry)) (removeCall (now (path .entry)) (now (work .entry))) ⌝ }
+{
+    number(remove(image, work, path))
 }
 
 #[no_mangle]

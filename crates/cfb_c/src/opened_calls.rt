@@ -4,7 +4,9 @@ ghost use mathlib.Core.Path.{_≡_};
 ghost use mathlib.Core.Logic.{_≢_};
 ghost use lib.ListN.{length};
 ghost use Rattle.format.specs.Rules.Length.{workNeed};
-ghost use Rattle.format.specs.Calls.Call.{validate as validateCall, find as findCall, read as readCall, overwrite as overwriteCall, setLength as lengthCall, list as listCall};
+ghost use Rattle.format.specs.Calls.Call.{validate as validateCall, find as findCall, read as readCall, overwrite as overwriteCall, setLength as lengthCall};
+ghost use Rattle.format.specs.Calls.Call.{create as createCall, remove as removeCall, list as listCall};
+ghost use Rattle.format.specs.Calls.Create.{stream, storage};
 ghost use Rattle.format.specs.Calls.Reply.{plain, reply};
 ghost use Rattle.format.specs.Calls.Buffers.{workCleared, imageAfter, outAfter, workAfter};
 ghost use Rattle.tables.specs.Work.{Wrote};
@@ -13,15 +15,18 @@ ghost use Rattle.cfb_c.specs.Packed.{sizesFor, Known, unpacked};
 use super::refused;
 use directory::Directory;
 use kinds::Geometry;
+use kinds::NewKind;
 use kinds::number;
 use kinds::refusal_number;
 use minis::Minis;
 use opened::close;
+use opened::create_opened;
 use opened::find_opened;
 use opened::list_opened;
 use opened::open_image;
 use opened::overwrite_opened;
 use opened::read_opened;
+use opened::remove_opened;
 use opened::set_length_opened;
 use queries::find::Find;
 use queries::list::List;
@@ -205,6 +210,52 @@ pub extern "C" fn cfb_opened_set_len(
     ensures { λ _. ⌜ Wrote (now (work .entry)) (now (work .exit)) 0 (workNeed (length (now (image .entry)))) ⌝ }
 {
     number(set_length_opened(image, work, unpack(volume), path, new_len))
+}
+
+#[no_mangle]
+pub extern "C" fn cfb_opened_create_stream(
+    image: &mut [u8],
+    work: &[u32],
+    volume: &[u64; 9],
+    path: &[u16],
+) -> u32
+    requires { ⌜ OpenVolume (unpacked (now volume)) (now image) (now work) ⌝ }
+    ensures { λ r. ⌜ plain r ≡ reply (now (image .entry)) (createCall stream (now (path .entry)) (now (work .entry))) ⌝ }
+    ensures { λ _. ⌜ now (image .exit) ≡ imageAfter (now (image .entry)) (createCall stream (now (path .entry)) (now (work .entry))) ⌝ }
+    ensures { λ _. ⌜ OpenVolume (unpacked (now (volume .entry))) (now (image .exit)) (now (work .entry)) ⌝ }
+{
+    number(create_opened(image, work, unpack(volume), path, NewKind::Stream))
+}
+
+#[no_mangle]
+pub extern "C" fn cfb_opened_create_storage(
+    image: &mut [u8],
+    work: &[u32],
+    volume: &[u64; 9],
+    path: &[u16],
+) -> u32
+    requires { ⌜ OpenVolume (unpacked (now volume)) (now image) (now work) ⌝ }
+    ensures { λ r. ⌜ plain r ≡ reply (now (image .entry)) (createCall storage (now (path .entry)) (now (work .entry))) ⌝ }
+    ensures { λ _. ⌜ now (image .exit) ≡ imageAfter (now (image .entry)) (createCall storage (now (path .entry)) (now (work .entry))) ⌝ }
+    ensures { λ _. ⌜ OpenVolume (unpacked (now (volume .entry))) (now (image .exit)) (now (work .entry)) ⌝ }
+{
+    number(create_opened(image, work, unpack(volume), path, NewKind::Storage))
+}
+
+#[no_mangle]
+pub extern "C" fn cfb_opened_remove(
+    image: &mut [u8],
+    work: &mut [u32],
+    volume: &[u64; 9],
+    path: &[u16],
+) -> u32
+    requires { ⌜ OpenVolume (unpacked (now volume)) (now image) (now work) ⌝ }
+    ensures { λ r. ⌜ plain r ≡ reply (now (image .entry)) (removeCall (now (path .entry)) (now (work .entry))) ⌝ }
+    ensures { λ _. ⌜ now (image .exit) ≡ imageAfter (now (image .entry)) (removeCall (now (path .entry)) (now (work .entry))) ⌝ }
+    ensures { λ _. ⌜ OpenVolume (unpacked (now (volume .entry))) (now (image .exit)) (now (work .exit)) ⌝ }
+    ensures { λ _. ⌜ Wrote (now (work .entry)) (now (work .exit)) 0 (workNeed (length (now (image .entry)))) ⌝ }
+{
+    number(remove_opened(image, work, unpack(volume), path))
 }
 
 #[no_mangle]

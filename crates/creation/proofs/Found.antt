@@ -15,14 +15,13 @@ use Rattle.directory.specs.Blanks.{LowestBlank}
 use Rattle.directory.specs.declared.Blank.{Blank}
 use Rattle.lookup.specs.Slots.{SeatRight}
 use Rattle.lookup.specs.declared.Seat.{Seat}
-use Rattle.paths.specs.Parents.{parentOf, ParentInside}
+use Rattle.paths.specs.Parents.{parentOf, ParentInside, ParentAt}
 use Rattle.paths.specs.declared.Parent.{Parent}
 use Rattle.paths.specs.declared.Parent.the-variants.{At, Refused}
 use Rattle.volume.specs.declared.Volume.{Volume as Opened}
 use Rattle.spaces.specs.Spaces.{volumeIn}
 use Rattle.queries.specs.Inside.{Open}
 use Rattle.queries.proofs.Finds.{same-entries}
-use Rattle.creation.specs.Parents.{ParentAt}
 
 module _ {v : Opened} {img : Bytes} {w : List ℕ} (o : Open v img w) where
   abbrev d : Directory

@@ -34,10 +34,9 @@ use Rattle.volume.specs.declared.Volume.{Volume as Opened}
 use Rattle.spaces.specs.Spaces.{kindFor, volumeIn, spaceAt, unitBytes, listedSpace}
 use Rattle.spaces.proofs.Listed.{unit-same, units-stand}
 use Rattle.writes.specs.Writable.{Writable}
-use Rattle.queries.specs.Inside.{Open}
+use Rattle.queries.specs.Inside.{Open, imageIn}
 use Rattle.queries.specs.declared.find.Object.{Object}
 use Rattle.queries.specs.Streams.{StreamAt}
-use Rattle.edits.specs.Images.{imageIn}
 use Rattle.edits.proofs.Streams.{kind-side, same-uncrossed, stream-chain}
 use Rattle.edits.proofs.Writables.{writable, put-listed}
 use Rattle.edits.proofs.Targets.{image-refused, image-done}

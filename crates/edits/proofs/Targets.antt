@@ -14,13 +14,12 @@ use Rattle.format.specs.Calls.Buffers.{edited}
 use Rattle.kinds.specs.Numbers.{refusalNumber}
 use Rattle.kinds.specs.declared.Refusal.{Refusal}
 use Rattle.kinds.proofs.Refusals.{else-refused}
-use Rattle.queries.specs.Inside.{FindRight}
+use Rattle.queries.specs.Inside.{FindRight, imageIn}
 use Rattle.queries.specs.declared.find.Object.{Object}
 use Rattle.queries.specs.declared.find.Find.{Find}
 use Rattle.queries.specs.declared.find.Find.the-variants.{Entry, Refused}
 use Rattle.queries.proofs.ReadAnswers.{target-none, target-some, target-refused}
 use Rattle.queries.proofs.Streams.{find-stream}
-use Rattle.edits.specs.Images.{imageIn}
 
 -- ---- any call
 

@@ -1,5 +1,4 @@
 -- What edits are stated with, beside `format`.
-pub mod Images
 pub mod Rewritten
 pub mod Gathered
 pub mod Growths

@@ -30,6 +30,7 @@ use kinds::Answer;
 use kinds::Refusal;
 use le::greatest;
 use le::least;
+use le::less_one;
 use queries::find::Object;
 use spaces::Kind;
 use spaces::Unit;
@@ -98,16 +99,6 @@ fn fill_tail(img: &mut [u8], work: &[u32], v: Volume, kind: Kind, n: usize, size
     if size < new {
         zero_from(img, work, v, kind, n, size as usize);
     }
-}
-
-// One less, but not below 0.
-fn less_one(n: usize) -> usize
-    ensures { λ r. ⌜ r ≡ n - 1 ⌝ }
-{
-    if n == 0 {
-        return 0;
-    }
-    n - 1
 }
 
 // Writes cells, data and entry of a stream that has the first `old` listed units, and gets the first n.

@@ -26,8 +26,7 @@ use Rattle.theory.proofs.Tests.{clash}
 use Rattle.theory.proofs.Trees.Insert.{either, wayTo-level, wayTo-old}
 use Rattle.theory.proofs.Trees.Ways.{slot-onward, plug-onward, still-or-deep}
 use Rattle.theory.proofs.Trees.Unlink.{level-slot}
-use Rattle.theory.proofs.Trees.Parts.{part-sound, old-drawn}
-use Rattle.theory.proofs.Trees.Replace.{drawn-positive}
+use Rattle.theory.proofs.Trees.Parts.{part-sound}
 use Rattle.theory.proofs.Trees.Nodes.{shape-count, reached-inside}
 use Rattle.theory.proofs.Trees.Rules.{rules-apart}
 use Rattle.theory.proofs.Trees.PathWays.{root-way}
@@ -79,10 +78,6 @@ module _ {g : Geometry} {img : Bytes} {n : Name} {ns : List Name} {s : ℕ} {b :
   plug-old : plug lw empty ≡ whole d
   plug-old =
       plug-onward (way .way) (wayTo (goesLeft d n) b) empty ∙ ap (plug (way .way)) (wayTo-old (goesLeft d n) x b tree-sound) ∙ sym (way .tree)
-
-  pub positive : (y : ℕ) → 0 < count y (entries (whole d)) → 0 < y
-  positive y q =
-      drawn-positive d (plug (way .way) b) (old-drawn d (way .way) b (way .tree) rules) y (subst (λ (f : Forest). 0 < count y (entries f)) (way .tree) q)
 
   -- the hook is the root's child field, or a field of an object
   pub hook-where : ((h .entry ≡ 0) × (h .field ≡ childField)) ⊎ (0 < count (h .entry) (entries (whole d)))

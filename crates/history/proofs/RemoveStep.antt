@@ -36,10 +36,10 @@ use Rattle.frame.specs.Frame.{Frame}
 use Rattle.frame.specs.Place.{MayRemove}
 use Rattle.frame.proofs.Good.{accepted-good}
 use Rattle.frame.proofs.RemovedPath.{may-remove, parent-of, removed-image, erasing, own-path}
-use Rattle.history.specs.Step.{Next, Step, lengthRows}
+use Rattle.history.specs.Step.{Next, Step, Cut, lengthRows}
 use Rattle.history.proofs.SamePaths.{resolve-same}
-use Rattle.history.proofs.EditStep.{preserved-trans}
-use Rattle.history.proofs.LengthStep.{resized-same, length-may, length-step}
+use Rattle.history.proofs.EditStep.{preserved-itself, preserved-trans}
+use Rattle.history.proofs.LengthStep.{alike-itself, resized-same, length-may, length-step}
 use Rattle.history.proofs.Moving.{cut-within}
 use Rattle.history.proofs.StateSame.{state, step-next}
 use Rattle.history.proofs.RemovedState.{erase-next}
@@ -97,7 +97,7 @@ module _ (g : Geometry) (pos : 0 < g .sectorBytes) (fr : Frame g) (img : Bytes) 
       (erase-next g pos fr img acc (erasing g fr img acc good p q bare) p (own-path g fr img acc good p q bare))
 
 -- nothing needs no room
-cut-room : (g : Geometry) (fs fm old : ℕ) → tooFew g fs fm old 0 ≡ false
+pub cut-room : (g : Geometry) (fs fm old : ℕ) → tooFew g fs fm old 0 ≡ false
 unfolding tooFew sectorNeed miniNeed cutoff roundUp miniBytes
 cut-room g fs fm old = rw (le-ltb (sectorNeed g old + fs) 0 (omega arith), le-ltb (miniNeed old + fm) 0 (omega arith))
 
@@ -108,6 +108,15 @@ module _ (g : Geometry) (pos : 0 < g .sectorBytes) (fr : Frame g) (img : Bytes) 
   cut-step p q st =
       length-step g pos fr img acc p 0 (stream-found (volume g img .directory) p (q .x) (q .b) (q .found) st) (cut-within (streamSize (volume g img) (q .x)))
       (cut-room g _ _ (streamSize (volume g img) (q .x)))
+
+  -- what the entry is taken from, be it a stream's or not
+  pub cut-left : (p : Path) (q : MayRemove (volume g img .directory) p) → Cut g img (cutToZero (volume g img) img (q .x))
+  unfolding cutToZero
+  cut-left p q =
+      elim (either (isStream (volume g img .directory .entry (q .x)))) [
+        | inl st ↦ let k = cut-step p q st in rw st (record { accepted = k .accepted; kept = k .kept; alike = k .alike })
+        | inr st ↦ rw st (record { accepted = acc; kept = preserved-itself g img acc; alike = alike-itself (volume g img) })
+      ]
 
   cut-size : (p : Path) (q : MayRemove (volume g img .directory) p) → isStream (volume g img .directory .entry (q .x)) ≡ true
       → streamSize (volume g (resized (volume g img) img (q .x) 0)) (q .x) ≡ 0

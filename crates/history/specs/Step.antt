@@ -32,6 +32,12 @@ pub record Step (g : Geometry) (img img′ : Bytes) (rows′ : List Row) : Type 
   pub alike : Alike (volume g img .directory) (volume g img′ .directory)
   pub found : (p : Path) → resolveStream (volume g img′ .directory) p ≡ resolveStream (volume g img .directory) p
 
+-- from img to an accepted image img′ in which the system's sectors are where they were, and every path leads where it led
+pub record Cut (g : Geometry) (img img′ : Bytes) : Type 0 where
+  pub accepted : Accepted g img′
+  pub kept : Preserved g img img′
+  pub alike : Alike (volume g img .directory) (volume g img′ .directory)
+
 -- from img to an accepted image img′ of that state
 pub record Next (g : Geometry) (img img′ : Bytes) (s : State) : Type 0 where
   pub accepted : Accepted g img′

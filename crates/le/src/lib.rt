@@ -1,6 +1,6 @@
 // Little-endian numbers at a place of a slice of bytes; filling and copying; the lesser and the greater of two numbers.
 ghost use mathlib.Core.Path.{_≡_};
-ghost use Prim.Native.Nat.{_+_, _≤_, _<_, min, max};
+ghost use Prim.Native.Nat.{_+_, _-_, _≤_, _<_, min, max};
 ghost use lib.ListN.{length, replicate};
 ghost use Rattle.format.specs.Basics.Bytes.{part, u16at, u32at, u64at, allZero, putBytes, put16, put32, put64};
 ghost use Rattle.format.specs.Calls.Buffers.{workCleared};
@@ -21,6 +21,16 @@ pub fn least(a: usize, b: usize) -> usize
         return a;
     }
     b
+}
+
+// One less, but not below 0.
+pub fn less_one(n: usize) -> usize
+    ensures { λ r. ⌜ r ≡ n - 1 ⌝ }
+{
+    if n == 0 {
+        return 0;
+    }
+    n - 1
 }
 
 // The greater of two lengths.

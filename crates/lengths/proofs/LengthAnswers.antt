@@ -22,7 +22,7 @@ use Rattle.format.specs.Calls.Buffers.{edited}
 use Rattle.kinds.specs.Numbers.{refusalNumber}
 use Rattle.kinds.specs.declared.Refusal.{Refusal}
 use Rattle.kinds.proofs.Refusals.{first-refused}
-use Rattle.edits.specs.Images.{imageIn}
+use Rattle.queries.specs.Inside.{imageIn}
 use Rattle.edits.proofs.Streams.{same-uncrossed}
 use Rattle.edits.proofs.Targets.{image-refused}
 

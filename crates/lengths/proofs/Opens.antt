@@ -1,5 +1,5 @@
 -- An opened volume: what the laws of the history ask of it, and that it stays open after an edit.
-use Prim.Native.Nat.{ℕ, min}
+use Prim.Native.Nat.{ℕ}
 use mathlib.Core.List.{List}
 use native.Mathlib.Omega.{arith}
 use Rattle.format.specs.Basics.Bytes.{Bytes}

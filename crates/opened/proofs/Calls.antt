@@ -30,8 +30,7 @@ use Rattle.volume.specs.declared.Volume.{Volume}
 use Rattle.volume.specs.declared.Opened.{Opened}
 use Rattle.volume.specs.declared.Opened.the-variants.{Refused, Ready}
 use Rattle.volume.proofs.ListsKept.{ready-kept}
-use Rattle.queries.specs.Inside.{replyIn, outIn}
-use Rattle.edits.specs.Images.{imageIn}
+use Rattle.queries.specs.Inside.{replyIn, outIn, imageIn}
 use Rattle.edits.proofs.Gathering.{gathered-within}
 use Rattle.opened.proofs.Validated.{ready-room}
 use Rattle.opened.proofs.Inside.{reply-in, image-in, out-in, ready-open}

@@ -34,8 +34,7 @@ use Rattle.volume.specs.declared.Volume.{Volume as Place}
 use Rattle.volume.specs.declared.Opened.{Opened}
 use Rattle.volume.specs.declared.Opened.the-variants.{Ready}
 use Rattle.volume.proofs.Opening.{left-cleared}
-use Rattle.queries.specs.Inside.{Open, replyIn, outIn}
-use Rattle.edits.specs.Images.{imageIn}
+use Rattle.queries.specs.Inside.{Open, replyIn, outIn, imageIn}
 use Rattle.opened.proofs.Validated.{left-is, ready-is}
 
 -- ---- answers after validation

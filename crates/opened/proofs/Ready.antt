@@ -6,12 +6,12 @@ use Rattle.format.specs.Basics.Bytes.{Bytes}
 use Rattle.format.specs.Layout.Geometry.{Geometry}
 use Rattle.format.specs.Layout.Volume.{Volume}
 use Rattle.format.specs.Calls.Paths.{Path}
-use Rattle.format.specs.Calls.Call.{find, read, overwrite, setLength, list, outOf}
+use Rattle.format.specs.Calls.Call.{find, read, overwrite, setLength, create, remove, list, outOf}
+use Rattle.format.specs.Calls.Create.{NewKind}
 use Rattle.format.specs.Calls.Answer.{answerIn}
 use Rattle.format.specs.Calls.Reply.{plain, done}
 use Rattle.format.specs.Calls.Buffers.{edited, handedOut}
-use Rattle.queries.specs.Inside.{replyIn, outIn}
-use Rattle.edits.specs.Images.{imageIn}
+use Rattle.queries.specs.Inside.{replyIn, outIn, imageIn}
 use Rattle.opened.proofs.Validated.{plain-either}
 
 module _ (g : Geometry) (v : Volume) (img : Bytes) (work : List ℕ) where
@@ -29,6 +29,16 @@ module _ (g : Geometry) (v : Volume) (img : Bytes) (work : List ℕ) where
       → (plain n ≡ replyIn g v (setLength path new work)) × (imageIn g v img (setLength path new []) ≡ imageIn g v img (setLength path new work))
   unfolding replyIn imageIn answerIn done edited
   length-any path new h = (ap plain h ∙ sym (plain-either _), refl)
+
+  pub create-any : (made : NewKind) (path : Path) {n : ℕ} → n ≡ answerIn g v (create made path [])
+      → (plain n ≡ replyIn g v (create made path work)) × (imageIn g v img (create made path []) ≡ imageIn g v img (create made path work))
+  unfolding replyIn imageIn answerIn done edited
+  create-any made path h = (ap plain h ∙ sym (plain-either _), refl)
+
+  pub remove-any : (path : Path) {n : ℕ} → n ≡ answerIn g v (remove path [])
+      → (plain n ≡ replyIn g v (remove path work)) × (imageIn g v img (remove path []) ≡ imageIn g v img (remove path work))
+  unfolding replyIn imageIn answerIn done edited
+  remove-any path h = (ap plain h ∙ sym (plain-either _), refl)
 
   module _ (out : Bytes) where
     pub read-any : (path : Path) (offset : ℕ) → (replyIn g v (read path offset out []) ≡ replyIn g v (read path offset out work)) × (outIn g v img (read path offset out []) ≡ outIn g v img (read path offset out work))

@@ -23,8 +23,7 @@ use Rattle.tables.proofs.WorkLaws.{wrote-none, wrote-two, wrote-cleared}
 use Rattle.volume.specs.declared.Volume.{Volume as Place}
 use Rattle.volume.specs.declared.Opened.the-variants.{Ready}
 use Rattle.volume.proofs.Opening.{cleared-same}
-use Rattle.queries.specs.Inside.{replyIn, outIn}
-use Rattle.edits.specs.Images.{imageIn}
+use Rattle.queries.specs.Inside.{replyIn, outIn, imageIn}
 use Rattle.opened.proofs.Inside.{reply-in, image-in, out-in, work-in}
 use Rattle.opened.proofs.Validated.{reply-is}
 use Rattle.opened.proofs.Numbers.{reading-keeps}

@@ -2,17 +2,21 @@
 ghost use mathlib.Core.Path.{_≡_};
 ghost use lib.ListN.{length};
 ghost use Rattle.format.specs.Rules.Length.{workNeed};
-ghost use Rattle.format.specs.Calls.Call.{find as findCall, read as readCall, overwrite as overwriteCall, setLength as lengthCall, list as listCall};
+ghost use Rattle.format.specs.Calls.Call.{find as findCall, read as readCall, overwrite as overwriteCall, setLength as lengthCall};
+ghost use Rattle.format.specs.Calls.Call.{create as createCall, remove as removeCall, list as listCall};
 ghost use Rattle.format.specs.Calls.Reply.{plain, reply};
 ghost use Rattle.format.specs.Calls.Buffers.{workCleared, imageAfter, outAfter};
 ghost use Rattle.kinds.specs.Numbers.{numberOf};
+ghost use Rattle.kinds.specs.Links.{newKindOf};
 ghost use Rattle.tables.specs.Work.{Wrote};
 ghost use Rattle.queries.specs.Replies.{findReply, readReply, listReply};
 ghost use Rattle.opened.specs.OpenVolume.{OpenVolume};
 ghost use Rattle.opened.specs.Opening.{OpeningRight};
+use creation::create_in;
 use edits::overwrite::overwrite_in;
 use header::work_need;
 use kinds::Answer;
+use kinds::NewKind;
 use le::zero_first;
 use lengths::set_length_in;
 use queries::find::Find;
@@ -21,6 +25,7 @@ use queries::list::List;
 use queries::list::list_in;
 use queries::read::Read;
 use queries::read::read_in;
+use removal::remove_in;
 use volume::Opened;
 use volume::Volume;
 use volume::open_volume;
@@ -99,6 +104,33 @@ pub fn set_length_opened(
     ensures { λ _. ⌜ Wrote (now (work .entry)) (now (work .exit)) 0 (workNeed (length (now (image .entry)))) ⌝ }
 {
     set_length_in(path, image, work, v, new_len)
+}
+
+// Creates an object at a path, in the lowest blank entry: a stream of no bytes, or a storage with nothing in it.
+pub fn create_opened(
+    image: &mut [u8],
+    work: &[u32],
+    v: Volume,
+    path: &[u16],
+    kind: NewKind,
+) -> Answer
+    requires { ⌜ OpenVolume v (now image) (now work) ⌝ }
+    ensures { λ r. ⌜ plain (numberOf r) ≡ reply (now (image .entry)) (createCall (newKindOf kind) (now (path .entry)) (now (work .entry))) ⌝ }
+    ensures { λ _. ⌜ now (image .exit) ≡ imageAfter (now (image .entry)) (createCall (newKindOf kind) (now (path .entry)) (now (work .entry))) ⌝ }
+    ensures { λ _. ⌜ OpenVolume v (now (image .exit)) (now (work .entry)) ⌝ }
+{
+    create_in(path, image, work, v, kind)
+}
+
+// Removes the object that a path leads to: a stream, or a storage with nothing in it.
+pub fn remove_opened(image: &mut [u8], work: &mut [u32], v: Volume, path: &[u16]) -> Answer
+    requires { ⌜ OpenVolume v (now image) (now work) ⌝ }
+    ensures { λ r. ⌜ plain (numberOf r) ≡ reply (now (image .entry)) (removeCall (now (path .entry)) (now (work .entry))) ⌝ }
+    ensures { λ _. ⌜ now (image .exit) ≡ imageAfter (now (image .entry)) (removeCall (now (path .entry)) (now (work .entry))) ⌝ }
+    ensures { λ _. ⌜ OpenVolume v (now (image .exit)) (now (work .exit)) ⌝ }
+    ensures { λ _. ⌜ Wrote (now (work .entry)) (now (work .exit)) 0 (workNeed (length (now (image .entry)))) ⌝ }
+{
+    remove_in(path, image, work, v)
 }
 
 // A line for each object, in an out buffer that has room for all of them.

@@ -6,7 +6,7 @@ use lib.ListN.{length, getD, drop}
 use Rattle.format.specs.Layout.Name.{slash}
 use Rattle.format.specs.Layout.Directory.{Directory}
 use Rattle.format.specs.Calls.Paths.{Path, lastName}
-use Rattle.format.specs.Calls.Find.{Found, refused}
+use Rattle.format.specs.Calls.Find.{Found, refused, resolveParent}
 use Rattle.theory.specs.TreeFind.{reached}
 use Rattle.kinds.specs.Numbers.{refusalNumber}
 use Rattle.paths.specs.declared.Parent.{Parent}
@@ -31,3 +31,9 @@ parentOf e (Refused a) = refused (refusalNumber a)
 abbrev pub ParentInside : Directory → Path → Parent → Type 0
 ParentInside e p (At x i) = (x .0 < e .count) × LastStart p i
 ParentInside e p (Refused a) = Unit {0}
+
+-- the names before the last lead to entry s, and the last begins at unit i
+pub record ParentAt (e : Directory) (p : Path) (s i : ℕ) : Type 0 where
+  pub found : reached e s ≡ resolveParent e p
+  pub inside : s < e .count
+  pub last : LastStart p i

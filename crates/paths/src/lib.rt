@@ -17,6 +17,7 @@ use directory::type_of;
 use entries::names::legal_unit;
 use kinds::EntryId;
 use kinds::Refusal;
+use le::less_one;
 use lookup::Child;
 use lookup::find_child;
 
@@ -83,16 +84,6 @@ fn last_name_start(path: &[u16]) -> usize
         i -= 1;
     }
     0
-}
-
-// One less, but not below 0.
-fn less_one(n: usize) -> usize
-    ensures { λ r. ⌜ r ≡ n - 1 ⌝ }
-{
-    if n == 0 {
-        return 0;
-    }
-    n - 1
 }
 
 // ---- the way down

@@ -30,7 +30,7 @@ pub enum Find {
 }
 
 // The entry of a number.
-fn object_at(img: &[u8], work: &[u32], d: Directory, x: EntryId) -> Object
+pub fn object_at(img: &[u8], work: &[u32], d: Directory, x: EntryId) -> Object
     requires { ⌜ DirectoryListed d (now img) (now work) ⌝ }
     requires { ⌜ x .0 < entriesOf d (now img) .count ⌝ }
     ensures { λ r. ⌜ r .id ≡ x ⌝ }

@@ -2,3 +2,4 @@
 pub mod Refusals
 pub mod Parents
 pub mod Removes
+pub mod Cuts

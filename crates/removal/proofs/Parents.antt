@@ -22,7 +22,7 @@ use Rattle.removal.specs.Leads.{LeadsTo}
 refused-not : (a x : ℕ) (b : Forest) → refused a ≡ foundAt x b → ⊥
 refused-not a x b h = let z : _≡_ {A = ℕ} 0 1 = cc in omega arith
 
-entry-same : (x y : ℕ) (a b : Forest) → foundAt x a ≡ foundAt y b → x ≡ y
+pub entry-same : (x y : ℕ) (a b : Forest) → foundAt x a ≡ foundAt y b → x ≡ y
 entry-same x y a b h = cc
 
 module _ (d : Directory) (p : Path) (m : LeadsTo d p) where

@@ -26,7 +26,7 @@ use Rattle.paths.specs.Found.{foundOf, Inside}
 use Rattle.paths.specs.declared.Found.{Found}
 use Rattle.paths.specs.declared.Found.the-variants.{At, Refused}
 use Rattle.paths.proofs.Steps.{blank-child, searchable-below}
-use Rattle.removal.specs.Leads.{holdsSome, MayRemove, RemovalRight}
+use Rattle.removal.specs.Leads.{holdsSome, RemovableAt, RemovalRight}
 
 -- a tree that a number names is empty exactly if that is NOSTREAM
 empty-is : (e : Directory) (y : ℕ) → soundAt e y ≡ true → isEmpty (at e y) ≡ eqb y NOSTREAM
@@ -67,8 +67,9 @@ module _ (e : Directory) (f : entryRules e ≡ true) (t : treeRules e ≡ true) 
       go false i true j false k s = stream-fields-say (e .entry x) (stream-fields-of (e .entry x) x fields j) .1
       go false i false j false k s = blank-child x (e .entry x) n (rw (i, j)) fields
 
-  pub may-remove : holdsSome e x ≡ false → x ≢ 0 → MayRemove e p x
-  may-remove s n = record { answer = answer-is ∙ rw (s, ne-eqb x 0 n); found = q; inside = h; other = n; bare = childless s n }
+  pub removable-at : holdsSome e x ≡ false → x ≢ 0 → RemovableAt e p x
+  removable-at s n =
+      record { answer = answer-is ∙ rw (s, ne-eqb x 0 n); inside = h; leads = record { entry = x; found = q; other = n; bare = childless s n }; entry = refl }
 
 -- ---- as the code finds it
 

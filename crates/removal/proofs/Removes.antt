@@ -37,13 +37,13 @@ use Rattle.lookup.specs.Slots.{slotOf, Seated, SeatRight}
 use Rattle.lookup.specs.declared.Slot.{Slot as Place}
 use Rattle.lookup.specs.declared.Seat.{Seat}
 use Rattle.lookup.specs.declared.Seat.the-variants.{Free, Taken}
-use Rattle.paths.specs.Parents.{parentOf, ParentInside}
+use Rattle.paths.specs.Parents.{parentOf, ParentInside, ParentAt}
 use Rattle.paths.specs.declared.Parent.{Parent}
 use Rattle.paths.specs.declared.Parent.the-variants.{At, Refused}
 use Rattle.paths.proofs.Steps.{searchable-below}
 use Rattle.paths.proofs.Parents.{found-formed}
 use Rattle.tree_edits.specs.Removable.{Removable}
-use Rattle.removal.specs.Leads.{LeadsTo, StandsBelow}
+use Rattle.removal.specs.Leads.{LeadsTo}
 use Rattle.removal.proofs.Parents.{not-refused, not-missing, child-is}
 
 module _ (d : Where) (img : Bytes) (acc : Accepted (geometryOf (d .geometry)) img) where
@@ -98,7 +98,7 @@ module _ (d : Where) (img : Bytes) (acc : Accepted (geometryOf (d .geometry)) im
 -- ---- what the searches say
 
 module _ (e : Directory) (p : Path) (m : LeadsTo e p) (r : Parent) (a : parentOf e r ≡ resolveParent e p) (b : ParentInside e p r) where
-  pub parent-below : {s : EntryId} {i : ℕ} → r ≡ At s i → StandsBelow e p (s .0) i
+  pub parent-below : {s : EntryId} {i : ℕ} → r ≡ At s i → ParentAt e p (s .0) i
   parent-below {s} {i} q =
       let k = subst (λ (u : Parent). ParentInside e p u) q b in
       record { found = subst (λ (u : Parent). parentOf e u ≡ resolveParent e p) q a; inside = k .0; last = k .1 }
@@ -106,7 +106,7 @@ module _ (e : Directory) (p : Path) (m : LeadsTo e p) (r : Parent) (a : parentOf
   pub parent-refused : {x : Refusal} → r ≡ Refused x → ⊥
   parent-refused {x} q = not-refused e p m (refusalNumber x) (subst (λ (u : Parent). parentOf e u ≡ resolveParent e p) q a)
 
-module _ (e : Directory) (p : Path) (m : LeadsTo e p) (s i : ℕ) (b : StandsBelow e p s i) (n : Name) (l : n ≡ lastName p) (r : Seat) (a : SeatRight e n s r) where
+module _ (e : Directory) (p : Path) (m : LeadsTo e p) (s i : ℕ) (b : ParentAt e p s i) (n : Name) (l : n ≡ lastName p) (r : Seat) (a : SeatRight e n s r) where
   pub seat-free : {h : Place} → r ≡ Free h → ⊥
   seat-free q =
       not-missing e p m s (b .found) (subst (λ (k : Name). childNamed e k (at e (childOf e s)) ≡ missing) l (subst (SeatRight e n s) q a .0))

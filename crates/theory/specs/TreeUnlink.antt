@@ -2,17 +2,14 @@
 use Prim.Native.Nat.{ℕ, _<_}
 use mathlib.Core.Path.{_≡_}
 use mathlib.Core.Logic.{_≢_, _⊎_}
-use mathlib.Core.Bool.{Bool, false}
+use mathlib.Core.Bool.{false}
 use Rattle.format.specs.Basics.Lists.{count}
-use Rattle.format.specs.Layout.Name.{Name}
 use Rattle.format.specs.Layout.Directory.{Directory}
 use Rattle.format.specs.Layout.Tree.{Forest, empty, node, siblings}
 use Rattle.format.specs.Rules.Trees.{isObject, red}
-use Rattle.format.specs.Calls.Find.{childNamed}
 use Rattle.theory.specs.TreeViews.{rows, leftOf, rightOf, whole}
 use Rattle.theory.specs.TreeDraw.{link}
 use Rattle.theory.specs.TreeWays.{Way, here, intoLeft, intoChild, intoRight, plug, onward, Level, slotField, slotEntry, Aside, SameName, SameColour}
-use Rattle.theory.specs.TreeEdits.{wayTo}
 use Rattle.format.specs.Layout.Entry.{Field, childField, rightField}
 use Rattle.format.specs.Layout.Siblings.{top, sidesJoined}
 
@@ -59,22 +56,3 @@ pub record Blanked (d d₂ : Directory) (t : Forest) (x : ℕ) : Type 0 where
   pub names : (y : ℕ) → y ≢ x → 0 < y → SameName d d₂ y
   pub colours : (y : ℕ) → count y (siblings t) ≡ 0 → SameColour d d₂ y
   pub kind-same : (y : ℕ) → y ≢ x → isObject d₂ y ≡ isObject d y
-
--- ---- walks down a tree of siblings, as a loop makes them: it has come the way v in the tree t, and u is left to follow
-
--- to the place of a new leaf
-pub record Placing (p : ℕ → Bool) (t : Forest) (v : Way) (u : Forest) : Type 0 where
-  pub tree : t ≡ plug v u
-  pub level : Level v
-  pub onto : wayTo p t ≡ onward v (wayTo p u)
-
--- to the node of a name
-pub record Tracing (d : Directory) (n : Name) (t : Forest) (v : Way) (u : Forest) : Type 0 where
-  pub tree : t ≡ plug v u
-  pub level : Level v
-  pub same : childNamed d n u ≡ childNamed d n t
-
--- to the last on the way right
-pub record Inheriting (t : Forest) (v : Way) (u : Forest) : Type 0 where
-  pub tree : t ≡ plug v u
-  pub right : Rightward v

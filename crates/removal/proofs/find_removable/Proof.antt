@@ -1,6 +1,6 @@
 use borrow.Author.Needs.{needs}
 use mathlib.Core.Path.{sym, _∙_}
-use Rattle.removal.proofs.Refusals.{filled-answer, root-answer, may-remove, found-entry, found-none}
+use Rattle.removal.proofs.Refusals.{filled-answer, root-answer, removable-at, found-entry, found-none}
 use Rattle.removal.proofs.find_removable.Statement.{statement}
 use Rattle.removal.proofs.find_removable.Tie as tie
 
@@ -30,4 +30,4 @@ find-removable-spec =
     let p = c .before .before .before .before .before .before .before .before .before .before .before .pre .1 in
     let q = c .before .before .before .before .before .before .before .find-entry .ensures in
     let k = found-entry _ _ _ (q .0) (q .1) (c .before .before .before .before .before .f .given .1) in
-    may-remove _ (p .0) (p .1) _ _ (k .0) (k .1) (sym (c .before .before .before .filled .ensures) ∙ c .before .before .if1 .left) (c .if2 .left)))  -- returns-4
+    removable-at _ (p .0) (p .1) _ _ (k .0) (k .1) (sym (c .before .before .before .filled .ensures) ∙ c .before .before .if1 .left) (c .if2 .left)))  -- returns-4

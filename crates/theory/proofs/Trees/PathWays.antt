@@ -16,9 +16,8 @@ use Rattle.theory.specs.TreeDraw.{link, Draws}
 use Rattle.theory.specs.TreeWays.{Way, here, intoLeft, intoChild, intoRight, plug, onward, slotField, slotEntry}
 use Rattle.theory.specs.TreeObjects.{wayNames, PathWay}
 use Rattle.theory.proofs.Tests.{and-true-of}
-use Rattle.theory.proofs.Trees.Draw.{draws-at}
 use Rattle.theory.proofs.Trees.Ways.{plug-onward, slot-onward}
-use Rattle.theory.proofs.Trees.Parts.{old-drawn, old-root, draws-part}
+use Rattle.theory.proofs.Trees.Parts.{old-drawn, old-root}
 use Rattle.theory.proofs.Trees.Objects.{names-onward}
 use Rattle.theory.proofs.Trees.Paths.{descend-refused}
 use Rattle.format.specs.Layout.Siblings.{top}
@@ -123,8 +122,3 @@ module _ (d : Directory) (r : Rules d) (ns : List Name) (s : ℕ) (b : Forest) (
       let w = root-way in
       subst₂ (λ (k : Field) (x : ℕ). link d k x ≡ top b) (w .ends) (w .owner)
       (slot-holds d (w .way) childField 0 b (old-drawn d (w .way) b (w .tree) r) (old-root d (w .way) b (w .tree) r))
-
-  pub found-tree : at d (childOf d s) ≡ b
-  found-tree =
-      let w = root-way in
-      ap (at d) found-slot ∙ draws-at d b (draws-part d (w .way) b (old-drawn d (w .way) b (w .tree) r))

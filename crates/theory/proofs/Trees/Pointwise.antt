@@ -3,11 +3,8 @@ use mathlib.Core.Path.{_≡_, ap}
 use mathlib.Core.Logic.{_≢_}
 use Prim.Native.Nat.{ℕ}
 use native.Mathlib.Decide.{ℕ-discrete}
-use Rattle.format.specs.Basics.Bytes.{Bytes}
-use Rattle.format.specs.Layout.Entry.{left, right, child, isStorage, isStream, Field, leftField, childField, rightField}
+use Rattle.format.specs.Layout.Entry.{left, right, child, Field, leftField, childField, rightField}
 use Rattle.format.specs.Layout.Directory.{Directory}
-use Rattle.format.specs.Rules.Trees.{isObject}
-use mathlib.Core.Bool.{_||_}
 use Rattle.theory.specs.TreeDraw.{link}
 use Rattle.theory.specs.TreeWays.{Way, slotField, slotEntry, Aside}
 
@@ -16,9 +13,6 @@ module _ (d d₂ : Directory) (y : ℕ) (e : d₂ .entry y ≡ d .entry y) where
   link-same leftField = ap left e
   link-same childField = ap child e
   link-same rightField = ap right e
-
-  pub object-same : isObject d₂ y ≡ isObject d y
-  object-same = ap (λ (b : Bytes). isStorage b || isStream b) e
 
 -- the field at the end of a way is the only one that changes, but for those of entry x
 pub kept-but-one : (d d₂ : Directory) (w : Way) (x : ℕ)

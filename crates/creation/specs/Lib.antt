@@ -1,2 +1,0 @@
--- What creation is stated with, beside `format`.
-pub mod Parents
