@@ -8,10 +8,10 @@
  * elements as its length says (where the length is 0, to anything but NULL; where it has no length, to one), and what a call
  * writes to must overlap nothing else that it is given.
  *
- * Every call looks at the whole image first and answers as cfb_validate does where it breaks a rule. Only cfb_overwrite and
- * cfb_set_len change the image. After answers 1 and 2 the work buffer is as it was; after any other its first
- * CFB_WORK_NEED(image_len) numbers are zero and the rest is as it was. After any answer but 0 the image and an out buffer are
- * as they were, and every count, entry, type and size is 0.
+ * Every call looks at the whole image first and answers as cfb_validate does where it breaks a rule. Only cfb_overwrite,
+ * cfb_set_len, cfb_create_stream, cfb_create_storage and cfb_remove change the image. After answers 1 and 2 the work buffer is
+ * as it was; after any other its first CFB_WORK_NEED(image_len) numbers are zero and the rest is as it was. After any answer
+ * but 0 the image and an out buffer are as they were, and every count, entry, type and size is 0.
  *
  * A path is given in 16-bit units (UTF-16, in the machine's byte order) with their number, and no zero behind them. Its names
  * are parted by '/', with none at either end; the empty path is the root. Small and capital letters are the same: a to z,
@@ -49,6 +49,10 @@ extern "C" {
 #define CFB_BEYOND 24u             /* a read would start, or a write end, behind the stream's end */
 #define CFB_TOO_FEW_FREE 26u       /* there are too few free sectors, or mini sectors */
 #define CFB_OUT_TOO_SHORT 27u      /* the listing is longer than the out buffer */
+#define CFB_NOT_EMPTY 28u          /* the storage to be removed has something in it */
+#define CFB_ALREADY_THERE 29u      /* the path of a new object leads to something already; the empty one to the root */
+#define CFB_NO_BLANK_ENTRY 30u     /* no entry of the directory is blank */
+#define CFB_ROOT_REMOVED 31u       /* the root cannot be removed */
 
 /* Types of an entry. */
 #define CFB_STORAGE 1u
@@ -91,6 +95,21 @@ uint32_t cfb_overwrite(uint8_t *image, size_t image_len, uint32_t *work, size_t 
  * itself never grows. Answers 20 to 23, and 26. */
 uint32_t cfb_set_len(uint8_t *image, size_t image_len, uint32_t *work, size_t work_len, const uint16_t *path, size_t path_len,
                      uint64_t new_len);
+
+/* Creates a stream of no bytes, or a storage with nothing in it. The names before the last lead to the storage that it is put
+ * in, or to the root where there is only one name; of 21 and 22 the first of them that fails decides. The last name is kept as
+ * it is spelled here. The object gets the directory's lowest blank entry, and takes no sector: the directory itself never
+ * grows. All other objects keep their entries. Answers 20 to 22; 29 where the path leads to something already, also in other
+ * letters; then 30. */
+uint32_t cfb_create_stream(uint8_t *image, size_t image_len, uint32_t *work, size_t work_len, const uint16_t *path,
+                           size_t path_len);
+uint32_t cfb_create_storage(uint8_t *image, size_t image_len, uint32_t *work, size_t work_len, const uint16_t *path,
+                            size_t path_len);
+
+/* Removes a stream, or a storage with nothing in it. The sectors or mini sectors of a stream become free, and its bytes stay
+ * there until another stream takes them. The entry becomes blank; all other objects keep theirs, and of those in the same
+ * storage only links and colours change. Answers 20 to 22; 28 for a storage with something in it; 31 for the root. */
+uint32_t cfb_remove(uint8_t *image, size_t image_len, uint32_t *work, size_t work_len, const uint16_t *path, size_t path_len);
 
 /* Writes a listing of all streams and storages to the out buffer, and its length to count; the out buffer's bytes behind it
  * stay. No zero is put behind it. The first line has the number of objects, and each other line one object, a storage before

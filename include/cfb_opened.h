@@ -52,6 +52,16 @@ uint32_t cfb_opened_overwrite(uint8_t *image, size_t image_len, uint32_t *work, 
 uint32_t cfb_opened_set_len(uint8_t *image, size_t image_len, uint32_t *work, size_t work_len, const cfb_volume *volume,
                             const uint16_t *path, size_t path_len, uint64_t new_len);
 
+/* cfb_create_stream and cfb_create_storage. Only the image is written. Answers 20 to 22, 29 and 30. */
+uint32_t cfb_opened_create_stream(uint8_t *image, size_t image_len, const uint32_t *work, size_t work_len,
+                                  const cfb_volume *volume, const uint16_t *path, size_t path_len);
+uint32_t cfb_opened_create_storage(uint8_t *image, size_t image_len, const uint32_t *work, size_t work_len,
+                                   const cfb_volume *volume, const uint16_t *path, size_t path_len);
+
+/* cfb_remove. Answers 20 to 22, 28 and 31. */
+uint32_t cfb_opened_remove(uint8_t *image, size_t image_len, uint32_t *work, size_t work_len, const cfb_volume *volume,
+                           const uint16_t *path, size_t path_len);
+
 /* cfb_list. Answers 27. */
 uint32_t cfb_opened_list(const uint8_t *image, size_t image_len, uint32_t *work, size_t work_len, const cfb_volume *volume,
                          uint8_t *out, size_t out_len, uint64_t *count);

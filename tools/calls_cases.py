@@ -9,10 +9,11 @@ import struct
 import cutoff_cases
 import edit_cases
 import letter_cases
+import object_cases
 import size_cases
 import version4_cases
 import version4_images
-from groups import FIND, LIST, OVERWRITE, READ, SET_LENGTH, VALIDATE, Group
+from groups import CREATE_STORAGE, CREATE_STREAM, FIND, LIST, OVERWRITE, READ, REMOVE, SET_LENGTH, VALIDATE, Group
 from images import END, byte, entry, image, put, root
 from plans import Plan, text
 
@@ -111,7 +112,7 @@ broken += [(image(3, [0], [], [1], [root(1), entry("!", 2)]), 14), (image(3, [0]
 # a storage and a blank entry that have a byte in the upper half of their size (W-205), where the root and a stream may have it
 above = image(3, [0], [], [1], [root(1, size=1 << 32), entry("s", 2, right=2, size=1 << 63), entry("Site", 1)])
 broken += [(byte(above, 1024 + 128 * i + at, value), 14) for i in (2, 3) for at, value in [(124, 1), (127, 0x80)]]
-groups = [g, s] + edit_cases.groups() + letter_cases.groups() + size_cases.groups() + version4_cases.groups() + cutoff_cases.groups()
+groups = [g, s] + edit_cases.groups() + letter_cases.groups() + size_cases.groups() + version4_cases.groups() + cutoff_cases.groups() + object_cases.groups()
 for img, number in broken + version4_images.REFUSED:
     b = Group(img=img)
     b.call(VALIDATE, number)
@@ -120,27 +121,34 @@ for img, number in broken + version4_images.REFUSED:
         b.read(path, most, number)
         b.overwrite(path, 0, b"x", number)
         b.resize(path, 4096, number)
+    for path in ["", "s", "new", "s/x", "a//b"]:
+        b.create(CREATE_STREAM, path, number)
+        b.create(CREATE_STORAGE, path, number)
+        b.remove(path, number)
     b.list(100, number)
     for path in ["", "s"]:
         b.find(path, 1 if number == 1 else 2, work=0)
         b.overwrite(path, 0, b"", 1 if number == 1 else 2, work=0)
         b.resize(path, 0, 1 if number == 1 else 2, work=0)
+        b.create(CREATE_STREAM, path, 1 if number == 1 else 2, work=0)
+        b.remove(path, 1 if number == 1 else 2, work=0)
     groups.append(b)
 
 # ---- every answer that a call can give is given
 every = {0, 1, 2} | set(range(10, 19))
 paths = every | {20, 21, 22}
-counts = {kind: {} for kind in range(6)}
+counts = {kind: {} for kind in range(9)}
 for x in groups:
     for c, line in zip(x.calls, x.lines):
         number, of_kind = int(line.split()[0]), counts[c[0]]
         of_kind[number] = of_kind.get(number, 0) + 1
-for kind, numbers in [(VALIDATE, every), (FIND, paths), (READ, paths | {23, 24}), (LIST, every | {27}), (OVERWRITE, paths | {23, 24}), (SET_LENGTH, paths | {23, 26})]:
+for kind, numbers in [(VALIDATE, every), (FIND, paths), (READ, paths | {23, 24}), (LIST, every | {27}), (OVERWRITE, paths | {23, 24}), (SET_LENGTH, paths | {23, 26}),
+                      (CREATE_STREAM, paths | {29, 30}), (CREATE_STORAGE, paths | {29, 30}), (REMOVE, paths | {28, 31})]:
     assert set(counts[kind]) == numbers, (kind, counts[kind])
 
 # ---- a kind that there is not: the program says so, and makes no other call
 last = Group(least)
-last.call(6, 0)
+last.call(9, 0)
 last.call(VALIDATE, 0)
 last.lines = ["unknown\n"]
 groups.append(last)
@@ -153,5 +161,5 @@ with open(os.path.join(out, "stdout"), "w") as f:
     for x in groups:
         f.write("".join(x.lines))
 print(len(groups), "images,", sum(len(x.calls) for x in groups), "calls,", os.path.getsize(os.path.join(out, "stdin")), "bytes")
-for kind, name in enumerate(["validate", "find", "read", "list", "overwrite", "set length"]):
+for kind, name in enumerate(["validate", "find", "read", "list", "overwrite", "set length", "create stream", "create storage", "remove"]):
     print(name + ":", ", ".join("%d x %d" % (number, n) for number, n in sorted(counts[kind].items())))

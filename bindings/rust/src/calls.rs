@@ -55,6 +55,30 @@ extern "C" {
         path_len: usize,
         new_len: u64,
     ) -> u32;
+    fn cfb_create_stream(
+        image: *mut u8,
+        image_len: usize,
+        work: *mut u32,
+        work_len: usize,
+        path: *const u16,
+        path_len: usize,
+    ) -> u32;
+    fn cfb_create_storage(
+        image: *mut u8,
+        image_len: usize,
+        work: *mut u32,
+        work_len: usize,
+        path: *const u16,
+        path_len: usize,
+    ) -> u32;
+    fn cfb_remove(
+        image: *mut u8,
+        image_len: usize,
+        work: *mut u32,
+        work_len: usize,
+        path: *const u16,
+        path_len: usize,
+    ) -> u32;
     fn cfb_list(
         image: *const u8,
         image_len: usize,
@@ -114,6 +138,30 @@ pub fn set_len(image: &mut [u8], work: &mut [u32], path: &[u16], new_len: u64) -
     let (path, path_len) = (path.as_ptr(), path.len());
     // SAFETY: slices; image and work buffer are written, and lent to this call alone. Any length may be given.
     unsafe { cfb_set_len(image, image_len, work, work_len, path, path_len, new_len) }
+}
+
+/// The answer.
+pub fn create_stream(image: &mut [u8], work: &mut [u32], path: &[u16]) -> u32 {
+    let (image, image_len) = (image.as_mut_ptr(), image.len());
+    let (work, work_len) = (work.as_mut_ptr(), work.len());
+    // SAFETY: slices; image and work buffer are written, and lent to this call alone.
+    unsafe { cfb_create_stream(image, image_len, work, work_len, path.as_ptr(), path.len()) }
+}
+
+/// The answer.
+pub fn create_storage(image: &mut [u8], work: &mut [u32], path: &[u16]) -> u32 {
+    let (image, image_len) = (image.as_mut_ptr(), image.len());
+    let (work, work_len) = (work.as_mut_ptr(), work.len());
+    // SAFETY: slices; image and work buffer are written, and lent to this call alone.
+    unsafe { cfb_create_storage(image, image_len, work, work_len, path.as_ptr(), path.len()) }
+}
+
+/// The answer.
+pub fn remove(image: &mut [u8], work: &mut [u32], path: &[u16]) -> u32 {
+    let (image, image_len) = (image.as_mut_ptr(), image.len());
+    let (work, work_len) = (work.as_mut_ptr(), work.len());
+    // SAFETY: slices; image and work buffer are written, and lent to this call alone.
+    unsafe { cfb_remove(image, image_len, work, work_len, path.as_ptr(), path.len()) }
 }
 
 /// The answer, and how many bytes were written.

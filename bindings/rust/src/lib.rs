@@ -9,10 +9,10 @@
 //! [`path()`] makes one. Small and capital letters are the same: a to z, U+00E0 to U+00FF but U+00F7, U+03B1 to U+03C9 but
 //! U+03C2, U+0430 to U+045F, and their capitals. No other units are.
 //!
-//! Every call validates the whole image first, and refuses it as [`validate`] does. Only [`overwrite`] and [`set_len`]
-//! change it. After a refusal the image and an out buffer are as they were. The work buffer is as it was after
-//! [`Refusal::BadLength`] and [`Refusal::ShortWork`]; else its first [`work_need`] numbers are zero, and the rest is as it
-//! was.
+//! Every call validates the whole image first, and refuses it as [`validate`] does. Only [`overwrite`], [`set_len`],
+//! [`create_stream`], [`create_storage`] and [`remove`] change it. After a refusal the image and an out buffer are as they
+//! were. The work buffer is as it was after [`Refusal::BadLength`] and [`Refusal::ShortWork`]; else its first [`work_need`]
+//! numbers are zero, and the rest is as it was.
 //!
 //! ```
 //! use gyomrelas::{find, path, work_need, Kind, Refusal};
@@ -101,6 +101,45 @@ pub fn overwrite(image: &mut [u8], work: &mut [u32], path: &[u16], offset: u64, 
 /// Refusals: 20 to 23, and 26.
 pub fn set_len(image: &mut [u8], work: &mut [u32], path: &[u16], new_len: u64) -> Result<(), Refusal> {
     answered(calls::set_len(image, work, path, new_len))
+}
+
+/// Creates a stream of no bytes. The names before the last lead to the storage that it is put in, or to the root where there
+/// is only one name. The last name is kept as it is spelled. The stream gets the directory's lowest blank entry, and takes no
+/// sector: the directory itself never grows. All other objects keep their entries.
+///
+/// Refusals: 20, 21 and 22, of which 21 and 22 are about the names before the last; 29, where the path leads to something
+/// already, also in other letters; and 30.
+///
+/// ```
+/// use gyomrelas::{create_storage, create_stream, path, remove, work_need, Refusal};
+///
+/// let mut image = std::fs::read("../../samples/site4.cfb").expect("the sample is there");
+/// let mut work = vec![0; work_need(image.len())];
+/// create_storage(&mut image, &mut work, &path("Site/old"))?;
+/// create_stream(&mut image, &mut work, &path("Site/old/log"))?;
+/// assert_eq!(create_stream(&mut image, &mut work, &path("site/OLD/LOG")), Err(Refusal::AlreadyThere));
+/// assert_eq!(remove(&mut image, &mut work, &path("Site/old")), Err(Refusal::NotEmpty));
+/// remove(&mut image, &mut work, &path("Site/old/log"))?;
+/// remove(&mut image, &mut work, &path("Site/old"))?;
+/// # Ok::<(), Refusal>(())
+/// ```
+pub fn create_stream(image: &mut [u8], work: &mut [u32], path: &[u16]) -> Result<(), Refusal> {
+    answered(calls::create_stream(image, work, path))
+}
+
+/// Creates a storage with nothing in it, as [`create_stream`] creates a stream.
+///
+/// Refusals: 20, 21, 22, 29 and 30.
+pub fn create_storage(image: &mut [u8], work: &mut [u32], path: &[u16]) -> Result<(), Refusal> {
+    answered(calls::create_storage(image, work, path))
+}
+
+/// Removes a stream, or a storage with nothing in it. The sectors or mini sectors of a stream become free, and its bytes stay
+/// there until another stream takes them. All other objects keep their entries. A name that is created again starts afresh.
+///
+/// Refusals: 20, 21 and 22; 28 for a storage with something in it; and 31 for the root.
+pub fn remove(image: &mut [u8], work: &mut [u32], path: &[u16]) -> Result<(), Refusal> {
+    answered(calls::remove(image, work, path))
 }
 
 /// Writes a listing of all streams and storages to the out buffer, and gives its length. The out buffer's bytes behind it

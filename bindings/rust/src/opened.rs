@@ -77,6 +77,33 @@ extern "C" {
         path_len: usize,
         new_len: u64,
     ) -> u32;
+    fn cfb_opened_create_stream(
+        image: *mut u8,
+        image_len: usize,
+        work: *const u32,
+        work_len: usize,
+        volume: *const Found,
+        path: *const u16,
+        path_len: usize,
+    ) -> u32;
+    fn cfb_opened_create_storage(
+        image: *mut u8,
+        image_len: usize,
+        work: *const u32,
+        work_len: usize,
+        volume: *const Found,
+        path: *const u16,
+        path_len: usize,
+    ) -> u32;
+    fn cfb_opened_remove(
+        image: *mut u8,
+        image_len: usize,
+        work: *mut u32,
+        work_len: usize,
+        volume: *const Found,
+        path: *const u16,
+        path_len: usize,
+    ) -> u32;
     fn cfb_opened_list(
         image: *const u8,
         image_len: usize,
@@ -167,6 +194,36 @@ impl<'a> OpenVolume<'a, &'a mut [u8]> {
         // SAFETY: the volume is open, as its type keeps it, and stays open; its image is borrowed exclusively. The path
         // is a slice. Any length may be given.
         answered(unsafe { cfb_opened_set_len(image, image_len, work, work_len, volume, path, path_len, new_len) })
+    }
+
+    pub fn create_stream(&mut self, path: &[u16]) -> Result<(), Refusal> {
+        let (image, image_len) = (self.image.as_mut_ptr(), self.image.len());
+        let (work, work_len) = (self.work.as_ptr(), self.work.len());
+        let (path, path_len) = (path.as_ptr(), path.len());
+        let volume = &self.found;
+        // SAFETY: the volume is open, as its type keeps it, and stays open; its image is borrowed exclusively. The path
+        // is a slice.
+        answered(unsafe { cfb_opened_create_stream(image, image_len, work, work_len, volume, path, path_len) })
+    }
+
+    pub fn create_storage(&mut self, path: &[u16]) -> Result<(), Refusal> {
+        let (image, image_len) = (self.image.as_mut_ptr(), self.image.len());
+        let (work, work_len) = (self.work.as_ptr(), self.work.len());
+        let (path, path_len) = (path.as_ptr(), path.len());
+        let volume = &self.found;
+        // SAFETY: the volume is open, as its type keeps it, and stays open; its image is borrowed exclusively. The path
+        // is a slice.
+        answered(unsafe { cfb_opened_create_storage(image, image_len, work, work_len, volume, path, path_len) })
+    }
+
+    pub fn remove(&mut self, path: &[u16]) -> Result<(), Refusal> {
+        let (image, image_len) = (self.image.as_mut_ptr(), self.image.len());
+        let (work, work_len) = (self.work.as_mut_ptr(), self.work.len());
+        let (path, path_len) = (path.as_ptr(), path.len());
+        let volume = &self.found;
+        // SAFETY: the volume is open, as its type keeps it, and stays open; its image is borrowed exclusively. The path
+        // is a slice.
+        answered(unsafe { cfb_opened_remove(image, image_len, work, work_len, volume, path, path_len) })
     }
 }
 

@@ -50,6 +50,10 @@ refusals! {
     24 Beyond "a read would start, or a write end, behind the stream's end"
     26 TooFewFree "there are too few free sectors or mini sectors"
     27 OutTooShort "the listing is longer than the out buffer"
+    28 NotEmpty "the storage to be removed has something in it"
+    29 AlreadyThere "something is at the path already"
+    30 NoBlankEntry "no entry of the directory is blank"
+    31 RootRemoved "the root cannot be removed"
 }
 
 impl Refusal {
@@ -73,14 +77,17 @@ impl fmt::Display for Refusal {
 impl Error for Refusal {}
 
 /// For programs that speak of `std::io`: an image that is refused is invalid data (1, 10 to 18), a name that is not there is
-/// not found (21), too few free sectors are a full storage (26), and all others are an invalid input. The refusal is the
-/// error's inner one.
+/// not found (21), too few free sectors and a directory without a blank entry are a full storage (26, 30), a storage that is
+/// not empty is a directory of that kind (28), what is there already exists (29), and all others are an invalid input. The
+/// refusal is the error's inner one.
 impl From<Refusal> for io::Error {
     fn from(refusal: Refusal) -> io::Error {
         let kind = match refusal.number() {
             1 | 10..=18 => io::ErrorKind::InvalidData,
             21 => io::ErrorKind::NotFound,
-            26 => io::ErrorKind::StorageFull,
+            26 | 30 => io::ErrorKind::StorageFull,
+            28 => io::ErrorKind::DirectoryNotEmpty,
+            29 => io::ErrorKind::AlreadyExists,
             _ => io::ErrorKind::InvalidInput,
         };
         io::Error::new(kind, refusal)

@@ -101,6 +101,27 @@ impl<'a> Volume<'a> {
         self.0.set_len(path, new_len)
     }
 
+    /// Creates a stream of no bytes, as [`create_stream`](crate::create_stream) does.
+    ///
+    /// Refusals: 20, 21, 22, 29 and 30.
+    pub fn create_stream(&mut self, path: &[u16]) -> Result<(), Refusal> {
+        self.0.create_stream(path)
+    }
+
+    /// Creates a storage with nothing in it, as [`create_storage`](crate::create_storage) does.
+    ///
+    /// Refusals: 20, 21, 22, 29 and 30.
+    pub fn create_storage(&mut self, path: &[u16]) -> Result<(), Refusal> {
+        self.0.create_storage(path)
+    }
+
+    /// Removes a stream, or a storage with nothing in it, as [`remove`](crate::remove) does.
+    ///
+    /// Refusals: 20, 21, 22, 28 and 31.
+    pub fn remove(&mut self, path: &[u16]) -> Result<(), Refusal> {
+        self.0.remove(path)
+    }
+
     /// Writes a listing to the out buffer, as [`list`](crate::list) does, and gives its length. The walk over the objects
     /// needs the work buffer, hence `&mut self`; the image stays as it is.
     ///

@@ -2,6 +2,7 @@
 
 mod calls;
 mod cutoff;
+mod groups;
 mod objects;
 mod plain_owners;
 mod plain_siblings;

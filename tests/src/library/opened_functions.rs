@@ -73,7 +73,7 @@ unsafe extern "C" {
     fn cfb_opened_create_stream(
         image: *mut u8,
         image_len: usize,
-        work: *mut u32,
+        work: *const u32,
         work_len: usize,
         volume: *const Volume,
         path: *const u16,
@@ -82,7 +82,7 @@ unsafe extern "C" {
     fn cfb_opened_create_storage(
         image: *mut u8,
         image_len: usize,
-        work: *mut u32,
+        work: *const u32,
         work_len: usize,
         volume: *const Volume,
         path: *const u16,

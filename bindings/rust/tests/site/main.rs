@@ -2,6 +2,7 @@
 //! mini sector free. What holds for any image is tried on samples/nested.cfb too, and on samples/site4.cfb, which has the
 //! same objects in version 4.
 
+mod created;
 mod edits;
 mod letters;
 mod objects;
