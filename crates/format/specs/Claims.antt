@@ -5,3 +5,4 @@ pub mod Search
 pub mod PathOrder
 pub mod ListingText
 pub mod Listing
+pub mod Fresh

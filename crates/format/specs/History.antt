@@ -1,8 +1,9 @@
--- Demand 3: what holds after any list of calls.
+-- Demand 3: what holds after any list of calls and fresh images.
 pub mod Rows
 pub mod Setting
 pub mod Storages
 pub mod State
 pub mod Accepts
 pub mod Step
+pub mod Event
 pub mod Claim

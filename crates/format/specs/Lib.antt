@@ -4,11 +4,13 @@
 --   Layout   where things stand in an image
 --   Rules    groups 10 to 18, and the verdict
 --   Calls    what each call answers, and what it leaves in every buffer
---   History  what holds after any list of calls (demand 3)
+--   Fresh    a fresh image, byte by byte
+--   History  what holds after any list of calls and fresh images (demand 3)
 --   Claims   what else is claimed of these definitions
 pub mod Basics
 pub mod Layout
 pub mod Rules
 pub mod Calls
+pub mod Fresh
 pub mod History
 pub mod Claims

@@ -16,5 +16,6 @@ pub mod Searches
 pub mod Creates
 pub mod Removes
 pub mod Listings
+pub mod Fresh
 pub mod Histories
 pub mod Objects

@@ -15,7 +15,7 @@ use Rattle.format.specs.Rules.Verdict.{check, volumeGroups, groups, verdict, Ac
 use Rattle.theory.proofs.Tests.{clash}
 use Rattle.frame.specs.Groups.{VolumeGroups, ImageGroups}
 
-check-zero : (b : Bool) (n later : ℕ) → n ≢ 0 → check b n later ≡ 0 → (b ≡ true) × (later ≡ 0)
+pub check-zero : (b : Bool) (n later : ℕ) → n ≢ 0 → check b n later ≡ 0 → (b ≡ true) × (later ≡ 0)
 unfolding check
 check-zero true n later z h = (refl, h)
 check-zero false n later z h = absurd (z h)

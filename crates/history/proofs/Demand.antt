@@ -28,14 +28,18 @@ use Rattle.format.specs.Calls.Buffers.{edited, imageAfterBy, imageAfter}
 use Rattle.format.specs.History.Rows.{rowsOf}
 use Rattle.format.specs.History.Setting.{settingOf}
 use Rattle.format.specs.History.State.{State, stateIn, stateOf}
+use Rattle.format.specs.Fresh.Plan.{Plan, planned}
+use Rattle.format.specs.Fresh.Image.{freshImage}
+use Rattle.format.specs.Fresh.Answer.{formatAnswer, formatted}
 use Rattle.format.specs.History.Accepts.{accepts}
-use Rattle.format.specs.History.Step.{changed, change, stateStep, stateAfter, putInto}
-use Rattle.format.specs.History.Claim.{after, isEdit, Holds, Demand3}
+use Rattle.format.specs.History.Step.{changed, change, stateStep, putInto}
+use Rattle.format.specs.History.Event.{Event, call, format, imageStep, after, eventStep, stateAfter}
+use Rattle.format.specs.History.Claim.{isEdit, Holds, Demand3}
 use Rattle.theory.proofs.Tests.{clash}
 use Rattle.theory.proofs.Refusals.{RefusedLow, resolve-stream-low, first-zero}
 use Rattle.frame.specs.Frame.{Frame}
 use Rattle.frame.proofs.Versions.{version-cases, accepted-version}
-use Rattle.history.specs.Step.{Step, Next, CallStep, After, lengthRows}
+use Rattle.history.specs.Step.{Step, Next, CallStep, EventStep, After, lengthRows}
 use Rattle.history.proofs.Room.{allocated-sectors, allocated-minis}
 use Rattle.history.proofs.AnswerNumbers.{cond-26-zero}
 use Rattle.history.proofs.Answers.{answers-0-iff, answers-26-iff, write-answer, length-answer}
@@ -43,6 +47,7 @@ use Rattle.history.proofs.EditStep.{preserved-itself, write-step}
 use Rattle.history.proofs.LengthStep.{length-step}
 use Rattle.history.proofs.MoveStep.{move-step}
 use Rattle.history.proofs.Filled.{frame-sized, Sized}
+use Rattle.fresh.proofs.Answer.{fresh-claim}
 use Rattle.history.proofs.StateSame.{step-next}
 use Rattle.history.proofs.CreateStep.{create-answered-0}
 use Rattle.history.proofs.RemoveStep.{remove-answered-0}
@@ -55,6 +60,25 @@ on-zero-same (suc n) x = refl
 cond-24-zero : (t : Bool) → cond {A = ℕ} t 24 0 ≡ 0 → t ≡ false
 cond-24-zero true h = absurd (omega arith)
 cond-24-zero false h = refl
+
+-- ---- a fresh image
+
+-- it is accepted, and the state is its own; the answer is read off the state, which has the buffer's length
+format-step : (img : Bytes) → Accepted (versionOf img) img → (plan : Plan) → EventStep img (format plan)
+unfolding imageStep eventStep formatted stateOf stateIn settingOf onZero
+format-step img acc plan = go (formatAnswer (length img) plan) refl
+  where
+    fresh : Bytes
+    fresh = freshImage (planned plan) plan
+
+    go : (n : ℕ) → formatAnswer (length img) plan ≡ n → EventStep img (format plan)
+    go zero e =
+        let f = fresh-claim (length img) plan e in
+        record {
+          accepted = rw e (subst (λ (x : Geometry). Accepted x fresh) (sym (f .version)) (f .accepted));
+          state = rw e;
+        }
+    go (suc n) e = record { accepted = rw e acc; state = rw e }
 
 module _ (g : Geometry) (pos : 0 < g .sectorBytes) (fr : Frame g) (img : Bytes) (acc : Accepted g img) where
   abbrev v : Volume
@@ -157,20 +181,30 @@ module _ (g : Geometry) (pos : 0 < g .sectorBytes) (fr : Frame g) (img : Bytes) 
   call-step (remove p work) = edit-call (remove p work) refl
   call-step (list out work) = other-call (list out work) refl refl
 
--- ---- every list of calls: each call reads the image's version, and that stays
+-- ---- every list of events: a call reads the image's version, and that stays; a fresh image brings its own
 
 module _ (pos : (img : Bytes) → 0 < versionOf img .sectorBytes) (fr : (img : Bytes) → Frame (versionOf img)) where
-  list-after : (img : Bytes) (calls : List Call) → Accepted (versionOf img) img → After img calls
-  unfolding after stateAfter stateOf
-  list-after img [] acc = holds-now (versionOf img) (pos img) (fr img) img acc refl
-  list-after img (c ∷ calls) acc =
+  event-step : (img : Bytes) → Accepted (versionOf img) img → (e : Event) → EventStep img e
+  unfolding imageStep eventStep stateOf
+  event-step img acc (call c) =
       let g = versionOf img in
       let next = imageAfter img c in
       let s = call-step g (pos img) (fr img) img acc c in
-      let e = accepted-version g next (version-cases img) (s .accepted) in
-      let h = list-after next calls (subst (λ (x : Geometry). Accepted x next) (sym e) (s .accepted)) in
-      subst (λ (st : State). Holds (after next calls) (stateAfter st calls))
-      (ap (λ (x : Geometry). stateIn x next) e ∙ s .state) h
+      let v = accepted-version g next (version-cases img) (s .accepted) in
+      record {
+        accepted = subst (λ (x : Geometry). Accepted x next) (sym v) (s .accepted);
+        state = ap (λ (x : Geometry). stateIn x next) v ∙ s .state;
+      }
+  event-step img acc (format plan) = format-step img acc plan
+
+  list-after : (img : Bytes) (events : List Event) → Accepted (versionOf img) img → After img events
+  unfolding after stateAfter stateOf
+  list-after img [] acc = holds-now (versionOf img) (pos img) (fr img) img acc refl
+  list-after img (e ∷ events) acc =
+      let next = imageStep img e in
+      let s = event-step img acc e in
+      subst (λ (st : State). Holds (after next events) (stateAfter st events)) (s .state)
+      (list-after next events (s .accepted))
 
   pub demand3 : Demand3
   demand3 = list-after

@@ -98,8 +98,9 @@ preserved-trans x y =
       };
     }
 
+-- of an image of so many bytes
 unfoldable pub setting : Geometry → ℕ → ℕ → ℕ → ℕ → Setting
-setting g a b c d = record { geometry = g; sectors = a; minis = b; fixed = c; work = d }
+setting g n a b c = record { geometry = g; bytes = n; sectors = a; minis = b; fixed = c; work = workNeed n }
 
 module _ (g : Geometry) (pos : 0 < g .sectorBytes) (fr : Frame g) (img : Bytes) (acc : Accepted g img) where
   abbrev v : Volume
@@ -135,8 +136,8 @@ module _ (g : Geometry) (pos : 0 < g .sectorBytes) (fr : Frame g) (img : Bytes) 
     edit-setting : settingOf g img′ ≡ settingOf g img
     unfolding settingOf fixedNumber setting
     edit-setting =
-        ap₂ (λ a b. setting g a b (length (systemSectors (volume g img′))) (workNeed (length img′))) (kept .parts .sectorLimit) (kept .parts .miniLimit)
-        ∙ ap₂ (λ a b. setting g (v .sectors .limit) (v .minis .limit) a b) (ap length (system-same good x)) (ap workNeed (kept .length))
+        ap₂ (λ a b. setting g (length img′) a b (length (systemSectors (volume g img′)))) (kept .parts .sectorLimit) (kept .parts .miniLimit)
+        ∙ ap₂ (λ a b. setting g a (v .sectors .limit) (v .minis .limit) b) (kept .length) (ap length (system-same good x))
 
     edit-rows : rowsOf g img′ ≡ map (change p f) (rowsOf g img)
     unfolding rowsOf

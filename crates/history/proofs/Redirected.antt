@@ -15,7 +15,6 @@ use Rattle.format.specs.Layout.Space.{block}
 use Rattle.format.specs.Layout.Entry.{isStream, start}
 use Rattle.format.specs.Layout.Volume.{Volume, volume, root, rootSize, systemSectors, fixedNumber}
 use Rattle.format.specs.Layout.Stream.{streamSize, streamUnits, contents}
-use Rattle.format.specs.Rules.Length.{workNeed}
 use Rattle.format.specs.Rules.Entries.{entryRules}
 use Rattle.format.specs.Rules.Trees.{treeRules}
 use Rattle.format.specs.Rules.Verdict.{Accepted}
@@ -71,8 +70,8 @@ module _ (g : Geometry) (pos : 0 < g .sectorBytes) (img img′ : Bytes) (acc : A
   unfolding settingOf fixedNumber setting
   setting-stays =
       let k = r .kept in
-      ap₂ (λ a b. setting g a b (length (systemSectors (volume g img′))) (workNeed (length img′))) (k .parts .sectorLimit) (k .parts .miniLimit)
-      ∙ ap₂ (λ a b. setting g (v .sectors .limit) (v .minis .limit) a b) (ap length (system-same good (k .parts) (r .sectorCells) (r .miniCells) streams)) (ap workNeed (k .length))
+      ap₂ (λ a b. setting g (length img′) a b (length (systemSectors (volume g img′)))) (k .parts .sectorLimit) (k .parts .miniLimit)
+      ∙ ap₂ (λ a b. setting g a (v .sectors .limit) (v .minis .limit) b) (k .length) (ap length (system-same good (k .parts) (r .sectorCells) (r .miniCells) streams))
 
   module _ (entries : entryRules (w .directory) ≡ true) (trees : treeRules (w .directory) ≡ true)
       (rootStart : start (root w) ≡ start (root v)) (rootBytes : rootSize w ≡ rootSize v) where

@@ -1,4 +1,4 @@
--- What one call of a list leaves, and the claim about the whole list.
+-- What one event of a list leaves, and the claim about the whole list.
 use Prim.Native.Nat.{ℕ, _+_, _≤_}
 use mathlib.Core.Path.{_≡_}
 use mathlib.Core.List.{List, map}
@@ -9,6 +9,7 @@ use Rattle.format.specs.Layout.Geometry.{Geometry}
 use Rattle.format.specs.Layout.Need.{roundUp}
 use Rattle.format.specs.Layout.Space.{Space, freeUnits}
 use Rattle.format.specs.Layout.Volume.{volume}
+use Rattle.format.specs.Rules.Version.{versionOf}
 use Rattle.format.specs.Rules.Verdict.{Accepted}
 use Rattle.format.specs.Calls.Paths.{Path}
 use Rattle.format.specs.Calls.Find.{resolveStream}
@@ -17,8 +18,9 @@ use Rattle.format.specs.Calls.Buffers.{imageAfterBy}
 use Rattle.format.specs.History.Rows.{Row, rowsOf}
 use Rattle.format.specs.History.Setting.{settingOf}
 use Rattle.format.specs.History.State.{State, stateIn, stateOf}
-use Rattle.format.specs.History.Step.{change, stateStep, stateAfter}
-use Rattle.format.specs.History.Claim.{after, Holds}
+use Rattle.format.specs.History.Step.{change, stateStep}
+use Rattle.format.specs.History.Event.{Event, imageStep, after, eventStep, stateAfter}
+use Rattle.format.specs.History.Claim.{Holds}
 use Rattle.frame.specs.Edits.{Preserved}
 use Rattle.history.specs.Alike.{Alike}
 
@@ -48,6 +50,11 @@ pub record Next (g : Geometry) (img img′ : Bytes) (s : State) : Type 0 where
 abbrev pub CallStep : Geometry → Bytes → Call → Type 0
 CallStep g img c = Next g img (imageAfterBy g img c) (stateStep (stateIn g img) c)
 
+-- an event leaves an accepted image of the state that the definitions say
+pub record EventStep (img : Bytes) (e : Event) : Type 0 where
+  pub accepted : Accepted (versionOf (imageStep img e)) (imageStep img e)
+  pub state : stateOf (imageStep img e) ≡ eventStep (stateOf img) e
+
 -- what an accepted change of length makes of a stream's bytes, and the rows after it
 abbrev pub resizedBytes : ℕ → Bytes → Bytes
 resizedBytes new old = fit new old
@@ -60,5 +67,5 @@ abbrev pub Enough : Space → List ℕ → ℕ → Type 0
 Enough sp us new = roundUp new (sp .unit) ≤ length us + length (freeUnits sp)
 
 -- what holds after the whole list: demand 3 of one image
-abbrev pub After : Bytes → List Call → Type 0
-After img calls = Holds (after img calls) (stateAfter (stateOf img) calls)
+abbrev pub After : Bytes → List Event → Type 0
+After img events = Holds (after img events) (stateAfter (stateOf img) events)

@@ -1,1 +1,1 @@
-// Demand 3: one theorem about every list of calls. There is no code here.
+// Demand 3: one theorem about every list of calls and fresh images. There is no code here.

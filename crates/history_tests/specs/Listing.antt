@@ -1,4 +1,4 @@
--- The claim about listings on one image, also after any list of calls; and what it says there, computed.
+-- The claim about listings on one image, also after any list of calls and fresh images; and what it says there, computed.
 use Prim.Native.Nat.{ℕ}
 use mathlib.Core.Path.{_≡_, refl, sym, ap, _∙_}
 use mathlib.Core.Logic.{_⊎_}
@@ -12,9 +12,9 @@ use Rattle.format.specs.Layout.Objects.{Object, objectsOf, pathOf}
 use Rattle.format.specs.Rules.Length.{workNeed}
 use Rattle.format.specs.Calls.Paths.{names}
 use Rattle.format.specs.Calls.Listing.{listing}
-use Rattle.format.specs.Calls.Call.{Call, find, list}
+use Rattle.format.specs.Calls.Call.{find, list}
 use Rattle.format.specs.Calls.Reply.{reply}
-use Rattle.format.specs.History.Claim.{after}
+use Rattle.format.specs.History.Event.{Event, after}
 use Rattle.format.specs.Claims.ListingText.{readListing}
 use Rattle.format.specs.Claims.PathOrder.{rising}
 use Rattle.format.specs.Claims.Listing.{directoryIn, EnoughWork, EnoughOut, listed, entryFound, isKnown, agrees, Trusted, ListsTrusted}
@@ -40,8 +40,8 @@ enough-out = leb-true (length (listing (directoryIn smallAndLarge))) (length out
 applies : (reply smallAndLarge (list out work) .number ≡ 0) × Trusted smallAndLarge (listed smallAndLarge out work)
 applies = listing-trusted smallAndLarge accepted out work enough-work enough-out
 
-applies-after : (calls : List Call) → ListsTrusted (after smallAndLarge calls)
-applies-after calls = listing-trusted-after smallAndLarge calls accepted
+applies-after : (events : List Event) → ListsTrusted (after smallAndLarge events)
+applies-after events = listing-trusted-after smallAndLarge events accepted
 
 -- ---- what it says
 

@@ -27,8 +27,7 @@ use Rattle.format.specs.Calls.Answer.{firstOf, answerIn, answer}
 use Rattle.format.specs.Calls.Reply.{counted, done, onZero, replyBy, reply}
 use Rattle.format.specs.Calls.Buffers.{handedOut, outAfterBy, outAfter}
 use Rattle.format.specs.History.State.{stateOf}
-use Rattle.format.specs.History.Step.{stateAfter}
-use Rattle.format.specs.History.Claim.{after}
+use Rattle.format.specs.History.Event.{after, stateAfter}
 use Rattle.format.specs.Claims.PathOrder.{rising}
 use Rattle.format.specs.Claims.ListingText.{announced, readListing}
 use Rattle.format.specs.Claims.Listing.{listed, entryFound, FoundBy, Trusted, ListingTrusted, ListingTrustedAfter}
@@ -150,6 +149,7 @@ module _ (img : Bytes) (acc : Accepted (versionOf img) img) where
 pub listing-trusted : ListingTrusted
 listing-trusted img acc out work enough room = (answers-zero img acc out work enough room, trusted img acc out work enough room)
 
--- the calls of a list leave an accepted image
+-- the events of a list leave an accepted image
 pub listing-trusted-after : ListingTrustedAfter
-listing-trusted-after img calls acc = listing-trusted (after img calls) (own-accepted (after img calls) (stateAfter (stateOf img) calls) (demand3 img calls acc))
+listing-trusted-after img events acc =
+    listing-trusted (after img events) (own-accepted (after img events) (stateAfter (stateOf img) events) (demand3 img events acc))

@@ -19,10 +19,10 @@ use Rattle.format.specs.Rules.Trees.{isObject}
 use Rattle.format.specs.Rules.Verdict.{Accepted}
 use Rattle.format.specs.Calls.Paths.{Path, names, joined, wellFormed}
 use Rattle.format.specs.Calls.Listing.{listing}
-use Rattle.format.specs.Calls.Call.{Call, find, list}
+use Rattle.format.specs.Calls.Call.{find, list}
 use Rattle.format.specs.Calls.Reply.{Reply, reply}
 use Rattle.format.specs.Calls.Buffers.{outAfter}
-use Rattle.format.specs.History.Claim.{after}
+use Rattle.format.specs.History.Event.{Event, after}
 use Rattle.format.specs.Claims.PathOrder.{rising, noneTwice}
 use Rattle.format.specs.Claims.ListingText.{announced, readListing}
 
@@ -96,6 +96,6 @@ ListsTrusted img =
 abbrev pub ListingTrusted : Type 0
 ListingTrusted = (img : Bytes) → Accepted (versionOf img) img → ListsTrusted img
 
--- and the same after any list of calls
+-- and the same after any list of calls and fresh images
 abbrev pub ListingTrustedAfter : Type 0
-ListingTrustedAfter = (img : Bytes) (calls : List Call) → Accepted (versionOf img) img → ListsTrusted (after img calls)
+ListingTrustedAfter = (img : Bytes) (events : List Event) → Accepted (versionOf img) img → ListsTrusted (after img events)

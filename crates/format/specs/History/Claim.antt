@@ -1,9 +1,9 @@
--- Demand 3: one claim about a whole list of calls.
+-- Demand 3: one claim about a whole list of calls and fresh images.
 use Prim.Native.Nat.{_+_}
 use mathlib.Core.Path.{_≡_}
 use mathlib.Core.Logic.{_↔_}
 use mathlib.Core.Bool.{Bool, true, false}
-use mathlib.Core.List.{List, [], _∷_}
+use mathlib.Core.List.{List}
 use Rattle.format.specs.Basics.Bytes.{Bytes}
 use Rattle.format.specs.Layout.Need.{miniNeed, sectorNeed}
 use Rattle.format.specs.Layout.Space.{allocated}
@@ -12,16 +12,10 @@ use Rattle.format.specs.Rules.Version.{versionOf}
 use Rattle.format.specs.Rules.Verdict.{Accepted}
 use Rattle.format.specs.Calls.Call.{Call, validate, find, read, overwrite, setLength, create, remove, list}
 use Rattle.format.specs.Calls.Answer.{answer}
-use Rattle.format.specs.Calls.Buffers.{imageAfter}
 use Rattle.format.specs.History.Rows.{total}
 use Rattle.format.specs.History.State.{State, stateOf}
 use Rattle.format.specs.History.Accepts.{accepts, answers26}
-use Rattle.format.specs.History.Step.{stateAfter}
-
--- the image goes from call to call, and nobody else writes it; each call reads its version anew
-unfoldable pub after : Bytes → List Call → Bytes
-after img [] = img
-after img (c ∷ cs) = after (imageAfter img c) cs
+use Rattle.format.specs.History.Event.{Event, after, stateAfter}
 
 unfoldable pub isEdit : Call → Bool
 isEdit (validate work) = false
@@ -45,9 +39,9 @@ pub record Holds (now : Bytes) (s : State) : Type 0 where
   pub answersZero : (c : Call) → isEdit c ≡ true → (answer (s .setting .geometry) now c ≡ 0) ↔ (accepts s c ≡ true)
   pub answersFull : (c : Call) → (answer (s .setting .geometry) now c ≡ 26) ↔ (answers26 s c ≡ true)
 
--- DEMAND 3. It speaks of every list, and so of every beginning of a list: it holds after each call.
--- The state comes from the first image and the calls alone.
+-- DEMAND 3. It speaks of every list, and so of every beginning of a list: it holds after each event.
+-- The state comes from the first image and the list alone.
 abbrev pub Demand3 : Type 0
 Demand3 =
-    (img : Bytes) (calls : List Call) → Accepted (versionOf img) img
-    → Holds (after img calls) (stateAfter (stateOf img) calls)
+    (img : Bytes) (events : List Event) → Accepted (versionOf img) img
+    → Holds (after img events) (stateAfter (stateOf img) events)

@@ -1,4 +1,4 @@
--- What the first image fixes for all calls of a list, and how many units are free by the rows alone.
+-- What the first image, or a fresh one, fixes for the calls that follow, and how many units are free by the rows alone.
 use Prim.Native.Nat.{ℕ, _+_, _-_}
 use mathlib.Core.List.{List}
 use lib.ListN.{length}
@@ -11,6 +11,8 @@ use Rattle.format.specs.History.Rows.{Row, total}
 
 pub record Setting : Type 0 where
   pub geometry : Geometry
+  -- the length of the image
+  pub bytes : ℕ
   -- N and K
   pub sectors : ℕ
   pub minis : ℕ
@@ -22,6 +24,7 @@ unfoldable pub settingOf : Geometry → Bytes → Setting
 settingOf g img =
     record {
       geometry = g;
+      bytes = length img;
       sectors = volume g img .sectors .limit;
       minis = volume g img .minis .limit;
       fixed = fixedNumber (volume g img);

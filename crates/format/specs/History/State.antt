@@ -1,4 +1,4 @@
--- All that demand 3 works out from the first image and the list of calls.
+-- All that demand 3 works out from the first image and the list.
 use Prim.Native.Nat.{ℕ}
 use mathlib.Core.List.{List}
 use Rattle.format.specs.Basics.Bytes.{Bytes}

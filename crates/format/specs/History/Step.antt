@@ -63,7 +63,7 @@ withoutObject s path =
       blankCount = suc (s .blankCount);
     }
 
--- ---- one call, and a list of calls
+-- ---- one call
 
 -- an overwrite puts its bytes into the row; a change of length cuts the row, or adds zeros
 unfoldable pub changed : State → Call → State
@@ -78,7 +78,3 @@ changed s (list out work) = s
 
 unfoldable pub stateStep : State → Call → State
 stateStep s call = cond (accepts s call) (changed s call) s
-
-unfoldable pub stateAfter : State → List Call → State
-stateAfter s [] = s
-stateAfter s (c ∷ cs) = stateAfter (stateStep s c) cs

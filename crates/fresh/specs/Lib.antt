@@ -1,0 +1,3 @@
+-- What the laws of fresh images speak of.
+pub mod Run
+pub mod Facts

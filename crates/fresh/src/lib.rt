@@ -1,0 +1,1 @@
+// What a fresh image holds, and that it is accepted: laws, and no code.
