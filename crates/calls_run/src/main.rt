@@ -5,6 +5,7 @@ ghost use Prim.Native.Nat.{_≤_};
 use cfb::create_storage;
 use cfb::create_stream;
 use cfb::find;
+use cfb::format_image;
 use cfb::list;
 use cfb::overwrite;
 use cfb::read;
@@ -81,14 +82,28 @@ fn listed(r: List) -> Values {
     }
 }
 
-// What came of a call. A kind that there is not is no call.
+// What came of a call. A kind that there is not, and a fresh image with too little of a plan, is no call.
 enum Outcome {
     Made(Values),
     Unknown,
 }
 
+// A fresh image, by the plan that stands in the bytes: version, N, the sectors of directory and mini FAT, and K.
+fn fresh(image: &mut [u8], bytes: &[u8]) -> Outcome {
+    if bytes.len() < 36 {
+        return Outcome::Unknown;
+    }
+    let version = u32_at(bytes, 0);
+    let sectors = u64_at(bytes, 4);
+    let directory = u64_at(bytes, 12);
+    let minifat = u64_at(bytes, 20);
+    let minis = u64_at(bytes, 28);
+    let a = format_image(image, version, sectors, directory, minifat, minis);
+    Outcome::Made(plain(number(a)))
+}
+
 // The call of a kind: 0 validates, 1 finds, 2 reads, 3 lists, 4 overwrites, 5 sets a length, 6 creates a
-// stream, 7 a storage, 8 removes.
+// stream, 7 a storage, 8 removes, 9 writes a fresh image.
 fn make(
     kind: u32,
     image: &mut [u8],
@@ -107,6 +122,7 @@ fn make(
         6 => Outcome::Made(plain(number(create_stream(image, work, path)))),
         7 => Outcome::Made(plain(number(create_storage(image, work, path)))),
         8 => Outcome::Made(plain(number(remove(image, work, path)))),
+        9 => fresh(image, bytes),
         _ => Outcome::Unknown,
     }
 }

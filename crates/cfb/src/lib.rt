@@ -1,13 +1,16 @@
 // The public calls. Nobody has to check first: no call requires anything, and every call ends and answers.
 ghost use mathlib.Core.Path.{_≡_};
+ghost use lib.ListN.{length};
 ghost use Rattle.format.specs.Calls.Call.{validate as validateCall, find as findCall, read as readCall, overwrite as overwriteCall, setLength as lengthCall};
 ghost use Rattle.format.specs.Calls.Call.{create as createCall, remove as removeCall, list as listCall};
 ghost use Rattle.format.specs.Calls.Create.{stream, storage};
 ghost use Rattle.format.specs.Calls.Reply.{plain, reply};
 ghost use Rattle.format.specs.Calls.Buffers.{imageAfter, outAfter, workAfter};
+ghost use Rattle.format.specs.Fresh.Answer.{formatAnswer, formatted};
 ghost use Rattle.kinds.specs.Numbers.{numberOf};
 ghost use Rattle.kinds.specs.Links.{newKindOf};
 ghost use Rattle.queries.specs.Replies.{findReply, readReply, listReply};
+ghost use Rattle.formatting.specs.Plans.{planFor};
 use kinds::Answer;
 use kinds::NewKind;
 use opened::close;
@@ -172,4 +175,20 @@ pub fn list(image: &[u8], work: &mut [u32], out: &mut [u8]) -> List
             r
         }
     }
+}
+
+// A new image with no object in it, over the whole buffer: so many sectors, of which the directory and the mini FAT have as many as are said, with room
+// for so many mini sectors. What the buffer held is not looked at.
+pub fn format_image(
+    image: &mut [u8],
+    version: u32,
+    sectors: u64,
+    directory: u64,
+    minifat: u64,
+    minis: u64,
+) -> Answer
+    ensures { λ r. ⌜ numberOf r ≡ formatAnswer (length (now (image .entry))) (planFor version sectors directory minifat minis) ⌝ }
+    ensures { λ _. ⌜ now (image .exit) ≡ formatted (now (image .entry)) (planFor version sectors directory minifat minis) ⌝ }
+{
+    formatting::format_image(image, version, sectors, directory, minifat, minis)
 }

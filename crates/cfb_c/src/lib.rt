@@ -1,14 +1,18 @@
 // The public calls for C. A slice passes as a pointer and a length; an answer is 01's number, and values go out through pointers.
 ghost use mathlib.Core.Path.{_≡_};
+ghost use lib.ListN.{length};
 ghost use Rattle.format.specs.Calls.Call.{validate as validateCall, find as findCall, read as readCall, overwrite as overwriteCall, setLength as lengthCall};
 ghost use Rattle.format.specs.Calls.Call.{create as createCall, remove as removeCall, list as listCall};
 ghost use Rattle.format.specs.Calls.Create.{stream, storage};
 ghost use Rattle.format.specs.Calls.Reply.{plain, reply};
 ghost use Rattle.format.specs.Calls.Buffers.{imageAfter, outAfter, workAfter};
+ghost use Rattle.format.specs.Fresh.Answer.{formatAnswer, formatted};
 ghost use Rattle.kinds.specs.Numbers.{refusalNumber};
+ghost use Rattle.formatting.specs.Plans.{planFor};
 use cfb::create_storage;
 use cfb::create_stream;
 use cfb::find;
+use cfb::format_image;
 use cfb::list;
 use cfb::overwrite;
 use cfb::read;
@@ -161,4 +165,28 @@ pub extern "C" fn cfb_list(image: &[u8], work: &mut [u32], out: &mut [u8], count
         }
         List::Refused(a) => refused(count, a),
     }
+}
+
+#[no_mangle]
+pub extern "C" fn cfb_format(
+    image: &mut [u8],
+    version: u32,
+    sectors: u64,
+    directory_sectors: u64,
+    mini_fat_sectors: u64,
+    mini_sectors: u64,
+) -> u32
+    ensures { λ r. ⌜ r
+        ≡ formatAnswer (length (now (image .entry))) (planFor version sectors «directory_sectors» «mini_fat_sectors» «mini_sectors») ⌝ }
+    ensures { λ _. ⌜ now (image .exit)
+        ≡ formatted (now (image .entry)) (planFor version sectors «directory_sectors» «mini_fat_sectors» «mini_sectors») ⌝ }
+{
+    number(format_image(
+        image,
+        version,
+        sectors,
+        directory_sectors,
+        mini_fat_sectors,
+        mini_sectors,
+    ))
 }

@@ -63,6 +63,7 @@ fn create_at(
                 name,
                 kind.entry_type(),
                 kind.start(),
+                0,
             );
             put_link(img, place(work, d, h.entry), field, x);
             Answer::Done

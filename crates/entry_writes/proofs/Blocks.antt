@@ -7,7 +7,7 @@ use native.Mathlib.Numerals.{add-one}
 use lib.ListN.{length, take, drop, getD, replicate, length-replicate, length-drop, drop-of-length-le}
 use lib.Seq.{sets, sets-eq, length-sets, length-take-le, take-all, drop-cons}
 use Rattle.format.specs.Basics.Lists.{fit}
-use Rattle.format.specs.Basics.Bytes.{Bytes, le16, le32, le64, putBytes, put16, put32}
+use Rattle.format.specs.Basics.Bytes.{Bytes, le16, le32, le64, putBytes, put16, put32, put64}
 use Rattle.format.specs.Layout.Name.{Name}
 use Rattle.format.specs.Layout.Entry.{Field, leftField, childField, rightField, fieldByte}
 use Rattle.format.specs.Layout.NewEntry.{noLinks, blankEntry, utf16Bytes, entryRest, newEntry}
@@ -104,9 +104,9 @@ name-built n h =
 blankRest : Bytes
 blankRest = replicate 4 0 ++ (noLinks ++ replicate 48 0)
 
-rest-built : (m k s : ℕ) → sets (sets (sets (sets blankRest 0 (le16 m)) 2 (k ∷ [])) 3 (1 ∷ [])) 52 (le32 s) ≡ entryRest m k s 0
+rest-built : (m k s z : ℕ) → sets (sets (sets (sets (sets blankRest 0 (le16 m)) 2 (k ∷ [])) 3 (1 ∷ [])) 52 (le32 s)) 56 (le64 z) ≡ entryRest m k s z
 unfolding blankRest entryRest noLinks le16 le32 le64
-rest-built m k s = refl
+rest-built m k s z = refl
 
 blank-parts : blankEntry ≡ replicate 64 0 ++ blankRest
 unfolding blankRest blankEntry noLinks le16 le32
@@ -116,53 +116,62 @@ behind : (a t ys : Bytes) (j : ℕ) → length a ≡ 64 → sets (a ++ t) (64 + 
 behind a t ys j q = ap (λ (i : ℕ). sets (a ++ t) (i + j) ys) (sym q) ∙ sets-append-right a t j ys
 
 -- an entry of which the name stands: what comes behind is put there
-rest-put : (a m k s : Bytes) → length a ≡ 64
-    → sets (sets (sets (sets (a ++ blankRest) 64 m) 66 k) 67 (1 ∷ [])) 116 s ≡ a ++ sets (sets (sets (sets blankRest 0 m) 2 k) 3 (1 ∷ [])) 52 s
-rest-put a m k s q =
+rest-put : (a m k s z : Bytes) → length a ≡ 64
+    → sets (sets (sets (sets (sets (a ++ blankRest) 64 m) 66 k) 67 (1 ∷ [])) 116 s) 120 z
+    ≡ a ++ sets (sets (sets (sets (sets blankRest 0 m) 2 k) 3 (1 ∷ [])) 52 s) 56 z
+rest-put a m k s z q =
     let t1 = sets blankRest 0 m in
     let t2 = sets t1 2 k in
     let t3 = sets t2 3 (1 ∷ []) in
-    ap (λ (c : Bytes). sets (sets (sets c 66 k) 67 (1 ∷ [])) 116 s) (behind a blankRest m 0 q)
-    ∙ ap (λ (c : Bytes). sets (sets c 67 (1 ∷ [])) 116 s) (behind a t1 k 2 q)
-    ∙ ap (λ (c : Bytes). sets c 116 s) (behind a t2 (1 ∷ []) 3 q)
-    ∙ behind a t3 s 52 q
+    let t4 = sets t3 52 s in
+    ap (λ (c : Bytes). sets (sets (sets (sets c 66 k) 67 (1 ∷ [])) 116 s) 120 z) (behind a blankRest m 0 q)
+    ∙ ap (λ (c : Bytes). sets (sets (sets c 67 (1 ∷ [])) 116 s) 120 z) (behind a t1 k 2 q)
+    ∙ ap (λ (c : Bytes). sets (sets c 116 s) 120 z) (behind a t2 (1 ∷ []) 3 q)
+    ∙ ap (λ (c : Bytes). sets c 120 z) (behind a t3 s 52 q)
+    ∙ behind a t4 z 56 q
 
 -- the blank entry with all of it
-entry-built : (n : Name) (k s : ℕ) → length n ≤ 31
-    → sets (sets (sets (sets (sets blankEntry 0 (utf16Bytes n)) 64 (le16 (2 * length n + 2))) 66 (k ∷ [])) 67 (1 ∷ [])) 116 (le32 s) ≡ newEntry n k s 0
+entry-built : (n : Name) (k s z : ℕ) → length n ≤ 31
+    → sets (sets (sets (sets (sets (sets blankEntry 0 (utf16Bytes n)) 64 (le16 (2 * length n + 2))) 66 (k ∷ [])) 67 (1 ∷ [])) 116 (le32 s)) 120 (le64 z)
+    ≡ newEntry n k s z
 unfolding newEntry
-entry-built n k s h =
+entry-built n k s z h =
     let u = utf16Bytes n in
     let m = 2 * length n + 2 in
-    let f : Bytes → Bytes = λ c. sets (sets (sets (sets c 64 (le16 m)) 66 (k ∷ [])) 67 (1 ∷ [])) 116 (le32 s) in
+    let f : Bytes → Bytes = λ c. sets (sets (sets (sets (sets c 64 (le16 m)) 66 (k ∷ [])) 67 (1 ∷ [])) 116 (le32 s)) 120 (le64 z) in
     ap (λ (c : Bytes). f (sets c 0 u)) blank-parts
     ∙ ap f (sets-append-left (replicate 64 0) blankRest 0 u (omega (arith, units-long n, length-replicate {A = ℕ} 64 0)))
     ∙ ap (λ (c : Bytes). f (c ++ blankRest)) (name-built n h)
-    ∙ rest-put (fit 64 u) (le16 m) (k ∷ []) (le32 s) (length-fit 64 u)
-    ∙ ap (λ (c : Bytes). fit 64 u ++ c) (rest-built m k s)
+    ∙ rest-put (fit 64 u) (le16 m) (k ∷ []) (le32 s) (le64 z) (length-fit 64 u)
+    ∙ ap (λ (c : Bytes). fit 64 u ++ c) (rest-built m k s z)
 
 -- so it is built up where it stands
-pub new-built : (b : Bytes) (p : ℕ) (n : Name) (k s : ℕ) → p + 128 ≤ length b → length n ≤ 31
-    → put32 (putBytes (putBytes (put16 (putBytes (putBytes b p blankEntry) p (utf16Bytes n)) (p + 64) (2 * length n + 2)) (p + 66) (k ∷ [])) (p + 67) (1 ∷ [])) (p + 116) s
-    ≡ putBytes b p (newEntry n k s 0)
-unfolding putBytes put16 put32 le16 le32
-new-built b p n k s h l =
+pub new-built : (b : Bytes) (p : ℕ) (n : Name) (k s z : ℕ) → p + 128 ≤ length b → length n ≤ 31
+    → put64
+    (put32 (putBytes (putBytes (put16 (putBytes (putBytes b p blankEntry) p (utf16Bytes n)) (p + 64) (2 * length n + 2)) (p + 66) (k ∷ [])) (p + 67) (1 ∷ [])) (p + 116) s)
+    (p + 120) z
+    ≡ putBytes b p (newEntry n k s z)
+unfolding putBytes put16 put32 put64 le16 le32 le64
+new-built b p n k s z h l =
     let u = utf16Bytes n in
     let m = 2 * length n + 2 in
     let e1 = sets blankEntry 0 u in
     let e2 = sets e1 64 (le16 m) in
     let e3 = sets e2 66 (k ∷ []) in
     let e4 = sets e3 67 (1 ∷ []) in
+    let e5 = sets e4 116 (le32 s) in
     let l1 = length-sets blankEntry 0 u ∙ blank-long in
     let l2 = length-sets e1 64 (le16 m) ∙ l1 in
     let l3 = length-sets e2 66 (k ∷ []) ∙ l2 in
     let l4 = length-sets e3 67 (1 ∷ []) ∙ l3 in
+    let l5 = length-sets e4 116 (le32 s) ∙ l4 in
     let at : Bytes → ℕ → Bytes → Bytes = λ c i ys. sets c (p + i) ys in
-    let z : p ≡ p + 0 = omega arith in
-    ap (λ (c : Bytes). at (at (at (at c 64 (le16 m)) 66 (k ∷ [])) 67 (1 ∷ [])) 116 (le32 s))
-    (ap (λ (i : ℕ). sets (sets b p blankEntry) i u) z ∙ put-within b blankEntry u p 0 (omega (arith, blank-long)) (omega (arith, blank-long, units-long n)))
-    ∙ ap (λ (c : Bytes). at (at (at c 66 (k ∷ [])) 67 (1 ∷ [])) 116 (le32 s)) (put-within b e1 (le16 m) p 64 (omega (arith, l1)) (omega (arith, l1)))
-    ∙ ap (λ (c : Bytes). at (at c 67 (1 ∷ [])) 116 (le32 s)) (put-within b e2 (k ∷ []) p 66 (omega (arith, l2)) (omega (arith, l2)))
-    ∙ ap (λ (c : Bytes). at c 116 (le32 s)) (put-within b e3 (1 ∷ []) p 67 (omega (arith, l3)) (omega (arith, l3)))
-    ∙ put-within b e4 (le32 s) p 116 (omega (arith, l4)) (omega (arith, l4))
-    ∙ ap (sets b p) (entry-built n k s l)
+    let o : p ≡ p + 0 = omega arith in
+    ap (λ (c : Bytes). at (at (at (at (at c 64 (le16 m)) 66 (k ∷ [])) 67 (1 ∷ [])) 116 (le32 s)) 120 (le64 z))
+    (ap (λ (i : ℕ). sets (sets b p blankEntry) i u) o ∙ put-within b blankEntry u p 0 (omega (arith, blank-long)) (omega (arith, blank-long, units-long n)))
+    ∙ ap (λ (c : Bytes). at (at (at (at c 66 (k ∷ [])) 67 (1 ∷ [])) 116 (le32 s)) 120 (le64 z)) (put-within b e1 (le16 m) p 64 (omega (arith, l1)) (omega (arith, l1)))
+    ∙ ap (λ (c : Bytes). at (at (at c 67 (1 ∷ [])) 116 (le32 s)) 120 (le64 z)) (put-within b e2 (k ∷ []) p 66 (omega (arith, l2)) (omega (arith, l2)))
+    ∙ ap (λ (c : Bytes). at (at c 116 (le32 s)) 120 (le64 z)) (put-within b e3 (1 ∷ []) p 67 (omega (arith, l3)) (omega (arith, l3)))
+    ∙ ap (λ (c : Bytes). at c 120 (le64 z)) (put-within b e4 (le32 s) p 116 (omega (arith, l4)) (omega (arith, l4)))
+    ∙ put-within b e5 (le64 z) p 120 (omega (arith, l5)) (omega (arith, l5))
+    ∙ ap (sets b p) (entry-built n k s z l)

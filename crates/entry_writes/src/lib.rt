@@ -13,6 +13,7 @@ use kinds::Link;
 use le::fill_zero;
 use le::put_u16;
 use le::put_u32;
+use le::put_u64;
 
 // ---- fields
 
@@ -73,11 +74,11 @@ pub fn put_blank_entry(img: &mut [u8], p: usize)
     put_no_links(img, p);
 }
 
-// A new object's entry: a blank one with name, type, colour and start.
-pub fn put_new_entry(img: &mut [u8], p: usize, name: &[u16], t: EntryType, start: u32)
+// A new object's entry: a blank one with name, type, colour, start and size.
+pub fn put_new_entry(img: &mut [u8], p: usize, name: &[u16], t: EntryType, start: u32, size: u64)
     requires { ⌜ p + 128 ≤ length (now img) ⌝ }
     requires { ⌜ length (now name) ≤ 31 ⌝ }
-    ensures { λ _. ⌜ now (img .exit) ≡ putBytes (now (img .entry)) p (newEntry (now (name .entry)) (t .0) start 0) ⌝ }
+    ensures { λ _. ⌜ now (img .exit) ≡ putBytes (now (img .entry)) p (newEntry (now (name .entry)) (t .0) start size) ⌝ }
 {
     put_blank_entry(img, p);
     put_units(img, p, name);
@@ -85,4 +86,5 @@ pub fn put_new_entry(img: &mut [u8], p: usize, name: &[u16], t: EntryType, start
     img[p + 66] = t.0;
     put_black(img, p);
     put_u32(img, p + 116, start);
+    put_u64(img, p + 120, size);
 }

@@ -422,6 +422,7 @@ pub enum Refusal {
     AlreadyThere,
     NoBlankEntry,
     RootRemoved,
+    PlanDoesNotFit,
 }
 
 // What a call answers that gives no values.
@@ -457,6 +458,7 @@ pub fn refusal_number(a: Refusal) -> u32
         Refusal::AlreadyThere => 29,
         Refusal::NoBlankEntry => 30,
         Refusal::RootRemoved => 31,
+        Refusal::PlanDoesNotFit => 32,
     }
 }
 

@@ -37,7 +37,7 @@ pub fn table_counts(img: &[u8], g: Geometry) -> bool
 }
 
 // The DIFAT sectors that f FAT sectors need.
-fn difat_need(g: Geometry, f: usize) -> usize
+pub fn difat_need(g: Geometry, f: usize) -> usize
     requires { ⌜ (512 ≤ g .bytes) × (g .bytes ≤ 4096) × (f < 0x1_0000_0000) ⌝ }
     ensures { λ r. ⌜ r ≡ difatNeed (geometryOf g) f ⌝ }
 {

@@ -26,16 +26,21 @@ put-new-entry-spec =
     (λ c κs.
     let a = c .before .before .before .before .before .before .before .before .before .before .before .before .before .before .before .before .before .before .before .args in
     omega (arith, length-set (c .before .before .before .before .before .before .before .put-u16 .last .0) (a .p + 66) (a .t .0)))  -- put-u32-requires
+    (λ c. search needs)  -- add-put-u64
+    (λ c κs.
+    let a = c .before .before .before .before .before .before .before .before .before .before .before .before .before .before .before .before .before .before .before .before .before .before .before .args in
+    omega (arith, length-set (c .before .before .before .before .before .before .before .before .before .before .before .put-u16 .last .0) (a .p + 66) (a .t .0)))  -- put-u64-requires
     (λ c.
-    let a = c .before .before .before .before .before .before .before .before .before .before .before .before .before .before .before .before .before .before .before .before .before .before .args in
-    omega (arith, length-set (c .before .before .before .before .before .before .before .before .before .before .put-u16 .last .0) (a .p + 66) (a .t .0)))  -- same-length
+    let a = c .before .before .before .before .before .before .before .before .before .before .before .before .before .before .before .before .before .before .before .before .before .before .before .before .before .before .args in
+    omega (arith, length-set (c .before .before .before .before .before .before .before .before .before .before .before .before .before .before .put-u16 .last .0) (a .p + 66) (a .t .0)))  -- same-length
     (λ c.
-    let p = c .before .before .before .before .before .before .before .before .before .before .before .before .before .before .before .before .before .before .before .before .before .before in
+    let p = c .before .before .before .before .before .before .before .before .before .before .before .before .before .before .before .before .before .before .before .before .before .before .before .before .before .before in
     rw (
-      c .before .before .put-u32 .ensures,
-      c .before .before .before .before .before .before .put-black .ensures,
-      c .before .before .before .before .before .before .before .before .before .before .put-u16 .ensures,
-      c .before .before .before .before .before .before .before .before .before .before .before .before .before .before .put-units .ensures,
-      c .before .before .before .before .before .before .before .before .before .before .before .before .before .before .before .before .before .before .put-blank-entry .ensures,
+      c .before .before .put-u64 .ensures,
+      c .before .before .before .before .before .before .put-u32 .ensures,
+      c .before .before .before .before .before .before .before .before .before .before .put-black .ensures,
+      c .before .before .before .before .before .before .before .before .before .before .before .before .before .before .put-u16 .ensures,
+      c .before .before .before .before .before .before .before .before .before .before .before .before .before .before .before .before .before .before .put-units .ensures,
+      c .before .before .before .before .before .before .before .before .before .before .before .before .before .before .before .before .before .before .before .before .before .before .put-blank-entry .ensures,
     )
-    (new-built (p .args .img .now) (p .args .p) (p .args .name .now) (p .args .t .0) (p .args .start) (p .pre .0) (p .pre .1))))  -- returns
+    (new-built (p .args .img .now) (p .args .p) (p .args .name .now) (p .args .t .0) (p .args .start) (p .args .size) (p .pre .0) (p .pre .1))))  -- returns

@@ -1,0 +1,3 @@
+-- What the functions that write a fresh image are called with, and the order in which they write.
+pub mod Plans
+pub mod Numbers
