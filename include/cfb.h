@@ -8,10 +8,10 @@
  * elements as its length says (where the length is 0, to anything but NULL; where it has no length, to one), and what a call
  * writes to must overlap nothing else that it is given.
  *
- * Every call looks at the whole image first and answers as cfb_validate does where it breaks a rule. Only cfb_overwrite,
- * cfb_set_len, cfb_create_stream, cfb_create_storage and cfb_remove change the image. After answers 1 and 2 the work buffer is
- * as it was; after any other its first CFB_WORK_NEED(image_len) numbers are zero and the rest is as it was. After any answer
- * but 0 the image and an out buffer are as they were, and every count, entry, type and size is 0.
+ * Every call but cfb_format looks at the whole image first and answers as cfb_validate does where it breaks a rule. Only
+ * cfb_overwrite, cfb_set_len, cfb_create_stream, cfb_create_storage, cfb_remove and cfb_format change the image. After answers
+ * 1 and 2 the work buffer is as it was; after any other its first CFB_WORK_NEED(image_len) numbers are zero and the rest is as
+ * it was. After any answer but 0 the image and an out buffer are as they were, and every count, entry, type and size is 0.
  *
  * A path is given in 16-bit units (UTF-16, in the machine's byte order) with their number, and no zero behind them. Its names
  * are parted by '/', with none at either end; the empty path is the root. Small and capital letters are the same: a to z,
@@ -31,7 +31,8 @@ extern "C" {
 
 /* Answers. */
 #define CFB_DONE 0u
-#define CFB_BAD_LENGTH 1u  /* the length is no multiple of 512 from 1,536 to 67,108,864; in version 4 of 4,096 from 12,288 */
+#define CFB_BAD_LENGTH 1u  /* the length is no multiple of 512 from 1,536 to 67,108,864; in version 4 of 4,096 from 12,288;
+                            * or it is another one than a fresh image's number of sectors says */
 #define CFB_SHORT_WORK 2u  /* the work buffer has fewer numbers than CFB_WORK_NEED says */
 #define CFB_HEADER 10u     /* 10 to 18: the first group of rules that the image breaks */
 #define CFB_TABLES 11u
@@ -53,6 +54,7 @@ extern "C" {
 #define CFB_ALREADY_THERE 29u      /* the path of a new object leads to something already; the empty one to the root */
 #define CFB_NO_BLANK_ENTRY 30u     /* no entry of the directory is blank */
 #define CFB_ROOT_REMOVED 31u       /* the root cannot be removed */
+#define CFB_PLAN_DOES_NOT_FIT 32u  /* a fresh image cannot have the version or the parts that are asked for */
 
 /* Types of an entry. */
 #define CFB_STORAGE 1u
@@ -126,6 +128,26 @@ uint32_t cfb_remove(uint8_t *image, size_t image_len, uint32_t *work, size_t wor
  * other paths, those that equal none of them, it finds the empty one alone. A listing that does not fit answers 27. */
 uint32_t cfb_list(const uint8_t *image, size_t image_len, uint32_t *work, size_t work_len, uint8_t *out, size_t out_len,
                   uint64_t *count);
+
+/* Writes a fresh image over the whole buffer, with a root and nothing else: cfb_list gives "objects 0". What the buffer held is
+ * not looked at, and no work buffer is lent. None of what is asked for changes as long as the image lives:
+ *
+ *     version            3, with sectors of 512 bytes, or 4, with sectors of 4,096
+ *     sectors            N; the image's length is N + 1 sectors, as the header takes the place of one
+ *     directory_sectors  each has 4 entries, in version 4 32: one for the root, and one for each stream and storage to come
+ *     mini_fat_sectors   each has cells for 128 mini sectors, in version 4 for 1,024; may be 0
+ *     mini_sectors       K, of 64 bytes each, for the streams of fewer than 4,096 bytes; may be 0
+ *
+ * The library chooses F, the number of FAT sectors: N / 128 rounded up, in version 4 N / 1,024. The DIFAT has D sectors: none
+ * up to F = 109, as always in version 4, else (F - 109) / 127 rounded up. The mini sectors take S sectors: K / 8 rounded up, in
+ * version 4 K / 64. FAT, DIFAT, directory, mini FAT and mini sectors stand in this order. The other sectors are free, for
+ * streams of 4,096 bytes and more: N - F - D - directory_sectors - mini_fat_sectors - S of them.
+ *
+ * Any numbers may be given. Answers 1 where the version has no such length (an unknown version has those of version 3), or the
+ * length is not N + 1 sectors; then 32 where the version is unknown, directory_sectors is 0, the mini FAT has fewer than K
+ * cells, or the parts take more than N sectors. A refusal writes nothing. */
+uint32_t cfb_format(uint8_t *image, size_t image_len, uint32_t version, uint64_t sectors, uint64_t directory_sectors,
+                    uint64_t mini_fat_sectors, uint64_t mini_sectors);
 
 #ifdef __cplusplus
 }

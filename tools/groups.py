@@ -3,21 +3,23 @@
 What the program reads, all numbers little-endian: groups of an image's length and its number of calls (4 bytes each), the image, the calls. A
 call is its kind, the units of its path, the numbers of its work buffer, the bytes of its buffer, how many of those are given (4 bytes each), and
 an offset or a length (8 bytes); then the path's units and the given bytes. Kinds: 0 validate, 1 find, 2 read, 3 list, 4 overwrite, 5 set length, 6 create
-stream, 7 create storage, 8 remove; 4 writes all bytes of its buffer, all given, and those behind it have no buffer. The other bytes of a buffer are 90, and
-a work buffer is all 7.
+stream, 7 create storage, 8 remove, 9 format. 4 writes all bytes of its buffer, all given, and 5 to 8 have none. The buffer of 9 has the plan, all given: the
+version (4 bytes), N, the sectors of directory and mini FAT, and K (8 bytes each); with fewer bytes it is no call. It leaves buffer and work buffer as they
+are. The other bytes of a buffer are 90, and a work buffer is all 7.
 
 What it prints for each call: number, entry, type, size, count, how many numbers of the work buffer are 0, and digests of the buffer and of the image.
-Of a kind that there is not it prints `unknown`, and ends."""
+Of what is no call it prints `unknown`, and ends."""
 import functools
 import itertools
 import operator
 import struct
+import fresh
 from edits import Edited
 from letters import order
 from plain import Reader
 from plans import printed
 
-VALIDATE, FIND, READ, LIST, OVERWRITE, SET_LENGTH, CREATE_STREAM, CREATE_STORAGE, REMOVE = range(9)
+VALIDATE, FIND, READ, LIST, OVERWRITE, SET_LENGTH, CREATE_STREAM, CREATE_STORAGE, REMOVE, FORMAT = range(10)
 STORAGE, STREAM, ROOT = 1, 2, 5
 
 
@@ -51,6 +53,7 @@ class Group:
         self.entries = dict(plan.entries) if plan else {}
         self.storages = set(plan.storages) if plan else set()
         self.edited = Edited(plan.image) if plan else None
+        self.root_size = plan.g.size(plan.root) if plan else 0
         self.calls, self.lines = [], []
 
     def call(self, kind, number, path="", place=0, room=0, given=b"", work=None, entry=0, type=0, size=0, count=0, left=b""):
@@ -62,7 +65,7 @@ class Group:
         self.calls.append(struct.pack("<IIIIIQ", kind, len(text) // 2, work, room, len(given), place) + text + given)
         before = given + bytes([90]) * (room - len(given))
         after = left + before[len(left):]
-        zeros = 0 if number in (1, 2) else need
+        zeros = 0 if number in (1, 2) or kind == FORMAT else need
         self.lines.append("%d %d %d %d %d %d %d %d\n" % (number, entry, type, size, count, zeros, digest(after), digest(self.image)))
 
     # ---- a path that leads to an object of the plan, as the plan spells it
@@ -70,7 +73,7 @@ class Group:
     def finds(self, path, spelled=None):
         spelled = path if spelled is None else spelled
         kind = ROOT if spelled == "" else STORAGE if spelled in self.storages else STREAM
-        size = self.plan.g.size(self.plan.root) if kind == ROOT else len(self.rows.get(spelled, b""))
+        size = self.root_size if kind == ROOT else len(self.rows.get(spelled, b""))
         self.call(FIND, 0, path, entry=self.entries[spelled], type=kind, size=size)
 
     def reads(self, path, place, room, spelled=None):
@@ -148,6 +151,22 @@ class Group:
             self.rearranged()
         self.call(REMOVE, number, path, **more)
 
+    def format(self, number, version, sectors, directory=1, mini_fat=0, minis=0):
+        """A fresh image in the place of what is there, of which the length alone counts."""
+        plan = version, sectors, directory, mini_fat, minis
+        assert number == fresh.answer(len(self.image), *plan), plan
+        if number == 0:
+            self.begins(fresh.image(*plan), 64 * minis)
+        given = struct.pack("<IQQQQ", *plan)
+        self.call(FORMAT, number, room=len(given), given=given)
+
+    def begins(self, image, root_size):
+        """A new first image, with nothing but a root."""
+        assert len(image) == len(self.image)
+        self.edited, self.root_size = Edited(image), root_size
+        self.rows, self.entries, self.storages = {}, {"": 0}, set()
+        self.rearranged()
+
     def spelled(self, path):
         """The path as the objects on it are spelled."""
         return next(p for p in self.entries if folded(p) == folded(path))
@@ -166,7 +185,7 @@ class Group:
         """After a creation or a removal too. The image lists what is there, and all other entries are blank."""
         self.edit_done()
         assert self.listed() == Reader(self.image).listing()
-        assert sorted(self.edited.blanks() + list(self.entries.values())) == list(range(self.plan.g.entries * len(self.edited.directory)))
+        assert sorted(self.edited.blanks() + list(self.entries.values())) == list(range(self.edited.g.entries * len(self.edited.directory)))
 
     def shows(self, path):
         """The size and bytes of a stream as find and read give them."""

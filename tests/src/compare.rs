@@ -1,13 +1,13 @@
 //! Runs cases and counts what passes.
 
-use crate::calls::{ANSWERS, Answers, CROSSINGS, OPENED_ANSWERS, Outcome, of_image, perform};
+use crate::calls::format::Fresh;
+use crate::calls::{ANSWERS, Answers, CROSSINGS, Call, OPENED_ANSWERS, Outcome, of_image, perform};
 use crate::cases::Case;
 use crate::effects;
 use crate::geometry::VERSIONS;
 #[cfg(feature = "library")]
 use crate::library;
 use crate::model::Model;
-use crate::volume::version;
 use std::collections::BTreeMap;
 use std::rc::Rc;
 
@@ -32,7 +32,9 @@ impl Tally {
         self.announce(name, case);
         let after = self.judged(name, case, check(case))?;
         self.count(case.call.name(), case, after.outcome.answer);
-        self.count("open", case, of_image(after.outcome.answer));
+        if case.call.validates() {
+            self.count("open", case, of_image(after.outcome.answer));
+        }
         self.count_crossing(case, after.outcome.answer);
         Some(after)
     }
@@ -59,7 +61,7 @@ impl Tally {
     }
 
     fn count(&mut self, call: &'static str, case: &Case, answer: u32) {
-        *self.answers.entry((call, version(&case.image).major, answer)).or_default() += 1;
+        *self.answers.entry((call, case.call.version(&case.image), answer)).or_default() += 1;
     }
 
     /// Counts a change of length over the cutoff, where the rows tell that it is one.
@@ -96,9 +98,11 @@ impl Tally {
         if cfg!(not(feature = "library")) {
             println!("not compared with the library: every call");
         } else if cfg!(not(feature = "edits")) {
-            println!("not compared with the library: overwrite, set_len, create_*, remove, opened calls");
+            println!("not compared with the library: overwrite, set_len, create_*, remove, format, opened calls");
         } else if cfg!(not(feature = "objects")) {
-            println!("not compared with the library: create_stream, create_storage, remove");
+            println!("not compared with the library: create_stream, create_storage, remove, format");
+        } else if cfg!(not(feature = "fresh")) {
+            println!("not compared with the library: format");
         }
         let opened = if cfg!(feature = "edits") { OPENED_ANSWERS } else { &[] };
         let rows = || ANSWERS.iter().chain(&CROSSINGS).chain(opened);
@@ -132,7 +136,9 @@ pub struct After {
 fn check(case: &Case) -> Result<After, String> {
     let after = check_plain(case)?;
     #[cfg(feature = "edits")]
-    library::check_once(case, &after)?;
+    if case.call.validates() {
+        library::check_once(case, &after)?;
+    }
     Ok(after)
 }
 
@@ -156,7 +162,11 @@ fn due(case: &Case) -> Result<After, String> {
     {
         return Err(format!("independent lists otherwise than expected, which is {text:?}"));
     }
-    let model = case.model.as_ref().map(|rows| by_rows(rows, case, &outcome, &image)).transpose()?;
+    let model = match (&case.model, &case.call) {
+        (Some(rows), _) => Some(by_rows(rows, case, &outcome, &image)?),
+        (None, Call::Format(asked)) => in_any_buffer(asked, case, &outcome, &image)?,
+        (None, _) => None,
+    };
     Ok(After { outcome, image, model })
 }
 
@@ -171,4 +181,18 @@ fn by_rows(rows: &Model, case: &Case, outcome: &Outcome, image: &[u8]) -> Result
     model.holds_of(image)?;
     effects::check(&case.call, outcome.answer, &case.image, image)?;
     Ok(Rc::new(model))
+}
+
+/// The rows of a fresh image in a buffer that held anything, or none after a refusal.
+fn in_any_buffer(asked: &Fresh, case: &Case, outcome: &Outcome, image: &[u8]) -> Result<Option<Rc<Model>>, String> {
+    let model = Model::fresh(asked, case.image.len());
+    let due = model.as_ref().err().copied().unwrap_or(0);
+    if due != outcome.answer {
+        return Err(format!("independent {}, by the numbers asked for {due}", outcome.answer));
+    }
+    effects::check(&case.call, outcome.answer, &case.image, image)?;
+    if let Ok(model) = &model {
+        model.holds_of(image)?;
+    }
+    Ok(model.ok().map(Rc::new))
 }

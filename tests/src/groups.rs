@@ -1,6 +1,7 @@
 //! Calls as the gate's program `calls_run` reads them, made by the independent calls. `../tools/groups.py` says how they are laid out,
 //! and what is printed of each.
 
+use crate::calls::format::Fresh;
 use crate::calls::{Call, Outcome, perform};
 use crate::number::{u32_at, u64_at};
 use crate::volume::work_needed;
@@ -13,7 +14,7 @@ pub fn lines(input: &[u8]) -> String {
         let mut image = rest.bytes(length).to_vec();
         for _ in 0..calls {
             match rest.call() {
-                Some((call, work_len)) => text += &line(&call, &mut image, work_len),
+                Some((call, buffer, work_len)) => text += &line(&call, &buffer, &mut image, work_len),
                 None => return text + "unknown\n",
             }
         }
@@ -35,8 +36,8 @@ impl<'a> Rest<'a> {
         u32_at(self.bytes(4), 0) as usize
     }
 
-    /// A call, with the length of its work buffer; None for a kind that there is not.
-    fn call(&mut self) -> Option<(Call, usize)> {
+    /// A call, with its buffer and the length of its work buffer; None for what is no call.
+    fn call(&mut self) -> Option<(Call, Vec<u8>, usize)> {
         let [kind, units, work_len, room, given] = [(); 5].map(|()| self.number());
         let place = u64_at(self.bytes(8), 0);
         let path = self.bytes(2 * units).chunks(2).map(|unit| u16::from_le_bytes([unit[0], unit[1]])).collect();
@@ -45,24 +46,37 @@ impl<'a> Rest<'a> {
         let call = match kind {
             0 => Call::Validate,
             1 => Call::Find { path },
-            2 => Call::Read { path, offset: place, out: buffer },
-            3 => Call::List { out: buffer },
-            4 => Call::Overwrite { path, offset: place, bytes: buffer },
+            2 => Call::Read { path, offset: place, out: buffer.clone() },
+            3 => Call::List { out: buffer.clone() },
+            4 => Call::Overwrite { path, offset: place, bytes: buffer.clone() },
             5 => Call::SetLength { path, length: place },
             6 => Call::CreateStream { path },
             7 => Call::CreateStorage { path },
             8 => Call::Remove { path },
+            9 => Call::Format(plan(&buffer)?),
             _ => return None,
         };
-        Some((call, work_len))
+        Some((call, buffer, work_len))
     }
 }
 
-fn line(call: &Call, image: &mut [u8], work_len: usize) -> String {
+/// What a fresh image is asked for, if the buffer is long enough.
+fn plan(buffer: &[u8]) -> Option<Fresh> {
+    (buffer.len() >= 36).then(|| Fresh {
+        version: u32_at(buffer, 0),
+        sectors: u64_at(buffer, 4),
+        directory: u64_at(buffer, 12),
+        mini_fat: u64_at(buffer, 20),
+        minis: u64_at(buffer, 28),
+    })
+}
+
+fn line(call: &Call, buffer: &[u8], image: &mut [u8], work_len: usize) -> String {
     let Outcome { answer, values, out } = perform(call, image, work_len);
     let (found, count) = if matches!(call, Call::Find { .. }) { (values, 0) } else { ([0; 3], values[0]) };
-    let buffer = if let Call::Overwrite { bytes, .. } = call { bytes } else { &out };
-    let zeros = if answer == 1 || answer == 2 { 0 } else { work_needed(image.len()) };
+    let buffer = if matches!(call, Call::Read { .. } | Call::List { .. }) { &out } else { buffer };
+    let untouched = !call.validates() || answer == 1 || answer == 2;
+    let zeros = if untouched { 0 } else { work_needed(image.len()) };
     let [entry, kind, size] = found;
     format!("{answer} {entry} {kind} {size} {count} {zeros} {} {}\n", digest(buffer), digest(image))
 }

@@ -10,6 +10,8 @@
 
 #![allow(unsafe_code)]
 
+use crate::Plan;
+
 extern "C" {
     fn cfb_validate(image: *const u8, image_len: usize, work: *mut u32, work_len: usize) -> u32;
     fn cfb_find(
@@ -87,6 +89,15 @@ extern "C" {
         out: *mut u8,
         out_len: usize,
         count: *mut u64,
+    ) -> u32;
+    fn cfb_format(
+        image: *mut u8,
+        image_len: usize,
+        version: u32,
+        sectors: u64,
+        directory_sectors: u64,
+        mini_fat_sectors: u64,
+        mini_sectors: u64,
     ) -> u32;
 }
 
@@ -173,4 +184,12 @@ pub fn list(image: &[u8], work: &mut [u32], out: &mut [u8]) -> (u32, u64) {
     // SAFETY: slices, and a variable of this function for the count. The image is only read.
     let answer = unsafe { cfb_list(image, image_len, work, work_len, out, out_len, &mut count) };
     (answer, count)
+}
+
+/// The answer.
+pub fn format(image: &mut [u8], plan: Plan) -> u32 {
+    let (image, image_len) = (image.as_mut_ptr(), image.len());
+    let Plan { version, sectors, directory_sectors, mini_fat_sectors, mini_sectors } = plan;
+    // SAFETY: a slice, which is written and lent to this call alone. Any numbers may be given.
+    unsafe { cfb_format(image, image_len, version, sectors, directory_sectors, mini_fat_sectors, mini_sectors) }
 }

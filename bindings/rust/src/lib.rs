@@ -9,10 +9,10 @@
 //! [`path()`] makes one. Small and capital letters are the same: a to z, U+00E0 to U+00FF but U+00F7, U+03B1 to U+03C9 but
 //! U+03C2, U+0430 to U+045F, and their capitals. No other units are.
 //!
-//! Every call validates the whole image first, and refuses it as [`validate`] does. Only [`overwrite`], [`set_len`],
-//! [`create_stream`], [`create_storage`] and [`remove`] change it. After a refusal the image and an out buffer are as they
-//! were. The work buffer is as it was after [`Refusal::BadLength`] and [`Refusal::ShortWork`]; else its first [`work_need`]
-//! numbers are zero, and the rest is as it was.
+//! Every call but [`format()`] validates the whole image first, and refuses it as [`validate`] does. Only [`overwrite`],
+//! [`set_len`], [`create_stream`], [`create_storage`], [`remove`] and [`format()`] change it. After a refusal the image and
+//! an out buffer are as they were. The work buffer is as it was after [`Refusal::BadLength`] and [`Refusal::ShortWork`];
+//! else its first [`work_need`] numbers are zero, and the rest is as it was.
 //!
 //! ```
 //! use gyomrelas::{find, path, work_need, Kind, Refusal};
@@ -35,6 +35,7 @@ mod calls;
 mod entry;
 mod objects;
 mod opened;
+mod plan;
 mod read_only;
 mod refusal;
 mod stream;
@@ -42,6 +43,7 @@ mod volume;
 
 pub use entry::{Entry, Kind};
 pub use objects::{Object, Objects};
+pub use plan::Plan;
 pub use read_only::ReadOnlyVolume;
 pub use refusal::Refusal;
 pub use stream::Stream;
@@ -160,4 +162,27 @@ pub fn remove(image: &mut [u8], work: &mut [u32], path: &[u16]) -> Result<(), Re
 /// Refusals: 27, where the listing is longer than the out buffer. How long it is the call does not say: try a longer one.
 pub fn list(image: &[u8], work: &mut [u32], out: &mut [u8]) -> Result<usize, Refusal> {
     counted(calls::list(image, work, out))
+}
+
+/// Writes a fresh image over the whole buffer: one with a root and nothing else, in the parts that the plan has. What the
+/// buffer held is not looked at, and no work buffer is needed. [`Plan::for_size`] picks a plan.
+///
+/// Refusals: 1, where the plan's version has no image of the buffer's length (an unknown version has those of version 3), or
+/// the length is not that of the plan's sectors; then 32, where the version is unknown, the directory has no sector, the mini
+/// FAT has fewer cells than there are mini sectors, or the parts need more sectors than there are.
+///
+/// ```
+/// use gyomrelas::{create_stream, format, path, set_len, work_need, Plan, Refusal};
+///
+/// let mut image = vec![0; 1 << 20];
+/// let plan = Plan::for_size(4, image.len(), 50, 10_000)?;
+/// format(&mut image, plan)?;
+///
+/// let mut work = vec![0; work_need(image.len())];
+/// create_stream(&mut image, &mut work, &path("log"))?;
+/// set_len(&mut image, &mut work, &path("log"), 4096 * plan.free_sectors().expect("it was carried out"))?;
+/// # Ok::<(), Refusal>(())
+/// ```
+pub fn format(image: &mut [u8], plan: Plan) -> Result<(), Refusal> {
+    answered(calls::format(image, plan))
 }

@@ -32,7 +32,7 @@ macro_rules! refusals {
 }
 
 refusals! {
-    1 BadLength "the image's length is no multiple of 512 from 1,536 to 67,108,864; in version 4 of 4,096 from 12,288"
+    1 BadLength "the image's length is no multiple of 512 from 1,536 to 67,108,864; in version 4 of 4,096 from 12,288; or not the plan's"
     2 ShortWork "the work buffer is too short"
     10 Header "the image breaks a rule on the header"
     11 Tables "the image breaks a rule on the sectors of the tables"
@@ -54,6 +54,7 @@ refusals! {
     29 AlreadyThere "something is at the path already"
     30 NoBlankEntry "no entry of the directory is blank"
     31 RootRemoved "the root cannot be removed"
+    32 PlanDoesNotFit "the plan has an unknown version, no directory, too small a mini FAT, or more than its sectors hold"
 }
 
 impl Refusal {

@@ -1,14 +1,15 @@
 //! harness SEED [IMAGES [CALLS [LISTS]]]   all cases: random images to validate, random calls, random lists of calls, as
-//!                                         many lists on opened volumes, and listings read back, one for ten lists
+//!                                         many lists on opened volumes and on fresh images, and listings read back, one for
+//!                                         ten lists
 //! harness SEED only KIND NUMBER           one case again: KIND is fixed, samples, small, large, tables, calls, deep, filled,
-//!                                         crowded, lists, opened, listed
+//!                                         crowded, lists, opened, formatted, listed
 
 use cfb_tests::breaks::uses::Uses;
 use cfb_tests::calls::{ANSWERS, CROSSINGS, OPENED_ANSWERS};
 #[cfg(feature = "edits")]
 use cfb_tests::cases::opened;
 use cfb_tests::cases::{
-    Case, calls::Calls, crowded, deep, filled, fixed, large, listed, lists, samples, small::Cases, tables,
+    Case, calls::Calls, crowded, deep, filled, fixed, formatted, large, listed, lists, samples, small::Cases, tables,
 };
 use cfb_tests::compare::Tally;
 
@@ -72,6 +73,9 @@ fn all(seed: u64, images: u64, calls: u64, list_count: u64) -> Tally {
     for number in 0..list_count {
         opened::run(seed, number, false, &mut tally);
     }
+    for number in 0..list_count {
+        formatted::run(seed, number, false, &mut tally);
+    }
     for number in 0..list_count / LISTS_FOR_A_LISTING {
         listed::run(seed, number, false, &mut tally);
     }
@@ -107,6 +111,10 @@ fn one(seed: u64, kind: &str, number: u64) -> Tally {
     let mut tally = Tally::new();
     if kind == "lists" {
         lists::run(seed, number, true, &mut tally);
+        return tally;
+    }
+    if kind == "formatted" {
+        formatted::run(seed, number, true, &mut tally);
         return tally;
     }
     if kind == "listed" {

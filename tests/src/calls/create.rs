@@ -41,7 +41,7 @@ fn order(name: &[u16], entry: &Entry) -> Ordering {
 }
 
 /// Black, empty, with no links; all else is zero.
-fn new_entry(name: &[u16], kind: u8) -> [u8; ENTRY] {
+pub fn new_entry(name: &[u16], kind: u8) -> [u8; ENTRY] {
     let mut bytes = [0; ENTRY];
     for (i, &unit) in name.iter().enumerate() {
         put_u16(&mut bytes, 2 * i, unit);

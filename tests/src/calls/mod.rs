@@ -2,6 +2,7 @@
 
 pub mod create;
 pub mod find;
+pub mod format;
 pub mod list;
 pub mod overwrite;
 pub mod patch;
@@ -13,7 +14,8 @@ pub mod siblings;
 pub mod stream;
 
 use crate::volume::entry::{STORAGE, STREAM};
-use crate::volume::{Volume, admit};
+use crate::volume::{Volume, admit, version};
+use format::Fresh;
 use patch::Patch;
 
 /// A call with its path, numbers and bytes to be written, and the first content of its out buffer.
@@ -28,6 +30,7 @@ pub enum Call {
     CreateStream { path: Vec<u16> },
     CreateStorage { path: Vec<u16> },
     Remove { path: Vec<u16> },
+    Format(Fresh),
 }
 
 /// What a call hands back.
@@ -59,10 +62,11 @@ impl Call {
             Call::CreateStream { .. } => "create_stream",
             Call::CreateStorage { .. } => "create_storage",
             Call::Remove { .. } => "remove",
+            Call::Format(_) => "format",
         }
     }
 
-    /// The name of the call on an opened volume; to open is to validate.
+    /// The name of the call on an opened volume; to open is to validate, and a fresh image is written when it is closed.
     pub fn opened_name(&self) -> &'static str {
         match self {
             Call::Validate => "open",
@@ -74,7 +78,18 @@ impl Call {
             Call::CreateStream { .. } => "opened create_stream",
             Call::CreateStorage { .. } => "opened create_storage",
             Call::Remove { .. } => "opened remove",
+            Call::Format(_) => "format",
         }
+    }
+
+    /// Whether the call looks at the image, and is lent a work buffer.
+    pub fn validates(&self) -> bool {
+        !matches!(self, Call::Format(_))
+    }
+
+    /// The major version that the call goes by: the image's, or the one of the fresh image that is asked for.
+    pub fn version(&self, image: &[u8]) -> u16 {
+        if let Call::Format(asked) = self { asked.geometry().major } else { version(image).major }
     }
 
     /// The first content of the out buffer; empty where there is none.
@@ -101,6 +116,7 @@ pub const ANSWERS: &Answers = &[
     ("create_stream", &[0, 1, 2, 10, 11, 12, 13, 14, 15, 16, 17, 18, 20, 21, 22, 29, 30]),
     ("create_storage", &[0, 1, 2, 10, 11, 12, 13, 14, 15, 16, 17, 18, 20, 21, 22, 29, 30]),
     ("remove", &[0, 1, 2, 10, 11, 12, 13, 14, 15, 16, 17, 18, 20, 21, 22, 28, 31]),
+    ("format", &[0, 1, 32]),
 ];
 
 /// Changes of length over the cutoff, which are counted by themselves too (W-201).
@@ -127,6 +143,9 @@ pub fn of_image(answer: u32) -> u32 {
 
 /// Does the call on an image lent with so long a work buffer.
 pub fn perform(call: &Call, image: &mut [u8], work_len: usize) -> Outcome {
+    if let Call::Format(asked) = call {
+        return Outcome::of(format::format(asked, image), Vec::new());
+    }
     let mut out = call.out().to_vec();
     let result = admit(image, work_len).and_then(|volume| done(call, &volume, &mut out));
     let result = result.map(|(values, patches)| {
@@ -153,6 +172,7 @@ fn done(call: &Call, volume: &Volume, out: &mut [u8]) -> Result<([u64; 3], Vec<P
         Call::CreateStream { path } => patches = create::create(volume, path, STREAM)?,
         Call::CreateStorage { path } => patches = create::create(volume, path, STORAGE)?,
         Call::Remove { path } => patches = remove::remove(volume, path)?,
+        Call::Format(_) => panic!("no call on what the image holds"),
     }
     Ok((values, patches))
 }
@@ -173,6 +193,7 @@ impl std::fmt::Display for Call {
             Call::CreateStream { path } | Call::CreateStorage { path } | Call::Remove { path } => {
                 write!(f, "{} {:?}", self.name(), text(path))
             }
+            Call::Format(asked) => write!(f, "{asked:?}"),
         }
     }
 }

@@ -81,7 +81,7 @@ fn named_by(directory: &Directory, holder: usize, number: usize) -> (usize, usiz
 }
 
 /// All zero but the links, which name nothing.
-fn blank_entry() -> [u8; ENTRY] {
+pub fn blank_entry() -> [u8; ENTRY] {
     let mut bytes = [0; ENTRY];
     for link in [LEFT, RIGHT, CHILD] {
         put_u32(&mut bytes, link, NOSTREAM);

@@ -31,8 +31,8 @@ impl Calls {
         let role = if number % SHARING < VALID { 0 } else { r.between(1, 15) as u64 };
         let call = draw::call(&model, &mut r);
         let case = self.changes.changed(sample, role, &mut r);
-        // Only a refusal of the image says what the call answers.
-        let expected = case.expected.filter(|&answer| answer != 0);
+        // Only a refusal of the image says what the call answers, if it looks at the image.
+        let expected = case.expected.filter(|&answer| answer != 0 && call.validates());
         Case { call, expected, model: (role == 0).then_some(model), ..case }
     }
 

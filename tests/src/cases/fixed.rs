@@ -1,9 +1,9 @@
 //! Cases on each side of the lines that the papers draw for lengths, the papers' own, and those of names, sizes, sectors, the
-//! cutoff, objects and versions.
+//! cutoff, objects, fresh images and versions.
 
 use super::large::{MIB_8, MIB_64};
 use super::{
-    Case, cutoff, folding, names, new_names, object_lists, objects, papers, sectors, siblings, sizes, versions,
+    Case, cutoff, folding, fresh, names, new_names, object_lists, objects, papers, sectors, siblings, sizes, versions,
 };
 use crate::geometry::{GREATEST_IMAGE, Geometry, V3, VERSIONS};
 use crate::images::Sample;
@@ -31,6 +31,7 @@ pub fn run(then: &mut dyn FnMut(u64, Case)) {
         new_names::cases(g).into_iter().for_each(&mut next);
         object_lists::cases(g).into_iter().for_each(&mut next);
         siblings::cases(g).into_iter().for_each(&mut next);
+        fresh::run(g, &mut next);
     }
     folding::cases().into_iter().for_each(&mut next);
     versions::cases().into_iter().for_each(&mut next);

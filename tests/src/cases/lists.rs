@@ -46,7 +46,12 @@ impl List {
 
     pub fn on(sample: Sample, name: String, r: Random, shown: bool) -> List {
         let model = Rc::new(Model::of(&sample));
-        List { name, r, shown, made: 0, image: sample.image, model }
+        List::begun(sample.image, model, name, r, shown)
+    }
+
+    /// On an image that has these rows.
+    pub fn begun(image: Vec<u8>, model: Rc<Model>, name: String, r: Random, shown: bool) -> List {
+        List { name, r, shown, made: 0, image, model }
     }
 
     /// A length for the work buffer.

@@ -7,6 +7,9 @@ pub mod deep;
 pub mod filled;
 pub mod fixed;
 pub mod folding;
+pub mod formatted;
+pub mod fresh;
+pub mod fresh_lists;
 pub mod large;
 pub mod listed;
 pub mod lists;
@@ -60,8 +63,12 @@ impl Case {
 
 /// Each call on the image and the rows that the ones before it leave, with its answer.
 pub fn in_a_row(kind: &str, sample: &Sample, calls: Vec<(Call, u32)>) -> Vec<Case> {
-    let (mut image, mut rows) = (sample.image.clone(), Rc::new(Model::of(sample)));
-    let work_len = work_needed(image.len());
+    in_a_row_on(kind, sample.image.clone(), Model::of(sample), calls)
+}
+
+/// The same on an image that has these rows.
+pub fn in_a_row_on(kind: &str, mut image: Vec<u8>, rows: Model, calls: Vec<(Call, u32)>) -> Vec<Case> {
+    let (mut rows, work_len) = (Rc::new(rows), work_needed(image.len()));
     let mut cases = Vec::new();
     for (call, expected) in calls {
         let model = Some(rows.clone());

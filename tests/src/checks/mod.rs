@@ -2,6 +2,7 @@
 
 mod calls;
 mod cutoff;
+mod fresh;
 mod groups;
 mod objects;
 mod plain_owners;

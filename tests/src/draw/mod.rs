@@ -1,5 +1,6 @@
 //! Random calls, most of them close to a line that the papers draw.
 
+pub mod fresh;
 mod numbers;
 mod paths;
 
@@ -13,6 +14,7 @@ pub fn call(model: &Model, r: &mut Random) -> Call {
         0..6 => Call::CreateStream { path: paths::new(model, r) },
         6..9 => Call::CreateStorage { path: paths::new(model, r) },
         9..16 => Call::Remove { path: paths::old(model, r) },
+        16 => Call::Format(fresh::asked(model.bytes(), r)),
         _ => on_streams(model, r),
     }
 }

@@ -1,5 +1,6 @@
-//! What a call does to a valid image, stated as properties of the image before and after, not as a way to get there.
+//! What a call does to a valid image, and a fresh one to any, stated as properties of the image before and after, not as a way to get there.
 
+mod fresh;
 mod lengths;
 mod objects;
 
@@ -18,6 +19,7 @@ pub fn check(call: &Call, answer: u32, before: &[u8], after: &[u8]) -> Result<()
         Call::CreateStream { path } => objects::created(before, after, path, STREAM)?,
         Call::CreateStorage { path } => objects::created(before, after, path, STORAGE)?,
         Call::Remove { path } => objects::removed(before, after, path)?,
+        Call::Format(asked) => fresh::written(after, asked)?,
         _ => Vec::new(),
     };
     let mut put_back = after.to_vec();

@@ -2,6 +2,8 @@
 
 use super::values::Values;
 use crate::calls::Call;
+#[cfg(feature = "fresh")]
+use crate::calls::format::Fresh;
 
 #[link(name = "cfb_c", kind = "static")]
 unsafe extern "C" {
@@ -92,6 +94,19 @@ unsafe extern "C" {
     ) -> u32;
 }
 
+#[cfg(feature = "fresh")]
+unsafe extern "C" {
+    fn cfb_format(
+        image: *mut u8,
+        image_len: usize,
+        version: u32,
+        sectors: u64,
+        directory_sectors: u64,
+        mini_fat_sectors: u64,
+        mini_sectors: u64,
+    ) -> u32;
+}
+
 /// The library's answer for an image that it may not change.
 pub fn validate(image: &[u8], work: &mut [u32]) -> u32 {
     // A slice's pointer is not null, aligned, and good for its length.
@@ -138,7 +153,11 @@ pub fn call(call: &Call, image: &mut [u8], work: &mut [u32], out: &mut [u8]) -> 
         },
         #[cfg(feature = "objects")]
         Call::Remove { path } => unsafe { cfb_remove(image, image_len, work, work_len, path.as_ptr(), path.len()) },
-        #[cfg(not(feature = "objects"))]
+        #[cfg(feature = "fresh")]
+        Call::Format(Fresh { version, sectors, directory, mini_fat, minis }) => unsafe {
+            cfb_format(image, image_len, *version, *sectors, *directory, *mini_fat, *minis)
+        },
+        #[cfg(not(feature = "fresh"))]
         _ => return None,
     };
     Some((answer, values.of(call)))

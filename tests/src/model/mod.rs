@@ -2,6 +2,7 @@
 //! a stream's with its bytes. Nothing here looks at an image after the first.
 
 mod edits;
+mod fresh;
 mod holds;
 mod lines;
 mod objects;
@@ -63,8 +64,8 @@ impl Model {
     /// What the call hands back, on an image that is valid.
     pub fn perform(&mut self, call: &Call, work_len: usize) -> Outcome {
         let mut out = call.out().to_vec();
-        let needed = 13 * (self.sectors + 1) * self.geometry.sector as u64 / 512;
-        let result = if (work_len as u64) < needed { Err(2) } else { self.done(call, &mut out) };
+        let too_short = call.validates() && work_len < 13 * self.bytes() / 512;
+        let result = if too_short { Err(2) } else { self.done(call, &mut out) };
         Outcome::of(result, out)
     }
 
@@ -86,6 +87,7 @@ impl Model {
             Call::CreateStream { path } => self.create(path, Some(Vec::new())),
             Call::CreateStorage { path } => self.create(path, None),
             Call::Remove { path } => self.remove(path),
+            Call::Format(asked) => self.format(asked),
         }
     }
 

@@ -2,19 +2,10 @@
 
 use std::io;
 
-use super::{content, jets, log, sample, site};
+use super::{content, jets, listed, log, sample, site};
 use gyomrelas::{
-    create_storage, create_stream, find, list, overwrite, path, remove, set_len, validate, work_need, Kind, Refusal,
-    Volume,
+    create_storage, create_stream, find, overwrite, path, remove, set_len, validate, work_need, Kind, Refusal, Volume,
 };
-
-/// The listing.
-fn listed(image: &[u8]) -> String {
-    let mut work = vec![0; work_need(image.len())];
-    let mut out = vec![0; 1000];
-    let count = list(image, &mut work, &mut out).expect("a listing");
-    String::from_utf8_lossy(&out[..count]).into_owned()
-}
 
 #[test]
 fn a_new_stream_is_empty_and_grows() {
