@@ -20,5 +20,8 @@ pub mod volume;
 #[cfg(feature = "library")]
 pub mod library;
 
+#[cfg(feature = "fresh")]
+pub mod peers;
+
 #[cfg(test)]
 mod checks;
