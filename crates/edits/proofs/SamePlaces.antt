@@ -9,17 +9,14 @@ use lib.Dec.{ltb}
 use lib.ListN.{length, getD, drop, replicate, length-replicate}
 use Rattle.format.specs.Basics.Lists.{count}
 use Rattle.format.specs.Basics.Bytes.{Bytes}
-use Rattle.format.specs.Layout.Chain.{FREE, startOf}
 use Rattle.format.specs.Layout.Space.{Space}
 use Rattle.format.specs.Calls.Overwrite.{bytePlace, putChain}
-use Rattle.format.specs.Calls.SetLength.{putCell, release, link, relinked, zeroed}
-use Rattle.theory.proofs.Counts.{bit-self, count-at, count-split}
+use Rattle.format.specs.Calls.SetLength.{release, relinked, zeroed}
+use Rattle.theory.proofs.Counts.{count-at, count-split}
+use Rattle.spaces.proofs.SameCells.{SameCells, release-same, link-same}
 use Rattle.edits.specs.Rewritten.{tailFilled, rewritten}
 
 -- the same places for the units of a list
-abbrev pub SameCells : Space → Space → List ℕ → Type 0
-SameCells sp sq us = (u : ℕ) → 0 < count u us → sp .cellPlace u ≡ sq .cellPlace u
-
 abbrev pub SameUnits : Space → Space → List ℕ → Type 0
 SameUnits sp sq us = (u : ℕ) → 0 < count u us → sp .unitPlace u ≡ sq .unitPlace u
 
@@ -28,28 +25,12 @@ pub count-drop : (k u : ℕ) (us : List ℕ) → 0 < count u (drop k us) → 0 <
 count-drop k u us h = omega (arith, count-split u k us)
 
 module _ (sp sq : Space) where
-  put-cell-same : (img : Bytes) (u c : ℕ) → sp .cellPlace u ≡ sq .cellPlace u → putCell sp img u c ≡ putCell sq img u c
-  unfolding putCell
-  put-cell-same img u c h = rw h
-
-  pub release-same : (us : List ℕ) (img : Bytes) → SameCells sp sq us → release sp us img ≡ release sq us img
-  unfolding release
-  release-same [] img h = refl
-  release-same (u ∷ us) img h =
-      rw (put-cell-same img u FREE (h u (omega (arith, bit-self u)))) (release-same us (putCell sq img u FREE) (λ w q. h w (omega (arith, q))))
-
-  pub link-same : (us : List ℕ) (img : Bytes) → SameCells sp sq us → link sp us img ≡ link sq us img
-  unfolding link
-  link-same [] img h = refl
-  link-same (u ∷ us) img h =
-      rw (put-cell-same img u (startOf us) (h u (omega (arith, bit-self u)))) (link-same us (putCell sq img u (startOf us)) (λ w q. h w (omega (arith, q))))
-
   pub relinked-same : (us ws : List ℕ) (img : Bytes) → SameCells sp sq us → SameCells sp sq ws → relinked sp us ws img ≡ relinked sq us ws img
   unfolding relinked
   relinked-same us ws img h k =
       let n = min (length us) (length ws) in
-      rw (release-same (drop n us) img (λ u q. h u (count-drop n u us q)))
-      (link-same (drop (n - 1) ws) (release sq (drop n us) img) (λ u q. k u (count-drop (n - 1) u ws q)))
+      rw (release-same sp sq (drop n us) img (λ u q. h u (count-drop n u us q)))
+      (link-same sp sq (drop (n - 1) ws) (release sq (drop n us) img) (λ u q. k u (count-drop (n - 1) u ws q)))
 
   module _ (e : sp .unit ≡ sq .unit) (z : 0 < sq .unit) (us : List ℕ) (h : SameUnits sp sq us) where
     byte-same : (i : ℕ) → i < length us * sq .unit → bytePlace sp us i ≡ bytePlace sq us i

@@ -14,4 +14,6 @@ pub mod Call
 pub mod Answer
 pub mod Reply
 pub mod Buffers
+pub mod RepairSteps
+pub mod Repair
 pub mod Program

@@ -6,3 +6,4 @@ pub mod PathOrder
 pub mod ListingText
 pub mod Listing
 pub mod Fresh
+pub mod Repair

@@ -1,4 +1,4 @@
--- Demand 3: what holds after any list of calls and fresh images.
+-- Demand 3: what holds after any list of calls, fresh images and repairs.
 pub mod Rows
 pub mod Setting
 pub mod Storages

@@ -5,7 +5,7 @@
 --   Rules    groups 10 to 18, and the verdict
 --   Calls    what each call answers, and what it leaves in every buffer
 --   Fresh    a fresh image, byte by byte
---   History  what holds after any list of calls and fresh images (demand 3)
+--   History  what holds after any list of calls, fresh images and repairs (demand 3)
 --   Claims   what else is claimed of these definitions
 pub mod Basics
 pub mod Layout

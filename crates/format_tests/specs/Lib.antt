@@ -19,3 +19,4 @@ pub mod Listings
 pub mod Fresh
 pub mod Histories
 pub mod Objects
+pub mod Repairs

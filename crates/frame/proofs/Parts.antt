@@ -1,7 +1,6 @@
 -- All that the views of two images share, where only the sectors T were written.
 use mathlib.Core.Path.{_≡_, refl, sym, ap, _∙_}
 use mathlib.Core.List.{List}
-use mathlib.Core.Bool.{Bool, true, _&&_}
 use Prim.Native.Nat.{ℕ, _+_, _*_, _/_, _%_, _≤_, _<_}
 use native.Mathlib.Nat.{add-zero, mul-comm}
 use native.Mathlib.Omega.{arith}
@@ -15,12 +14,10 @@ use Rattle.format.specs.Layout.Header.{fatCount, miniFatCount, directoryStart, 
 use Rattle.format.specs.Layout.Chain.{FATSECT, DIFSECT}
 use Rattle.format.specs.Layout.Space.{unitsFor, block}
 use Rattle.format.specs.Layout.Tables.{cellIn, fatSectors, difatSectors, fatCells, fatCell, sectorSpace}
-use Rattle.format.specs.Rules.Tables.{tableCounts, difatEnds, difatRest, tableSectors, tableMarks, tableRules, markRight}
 use Rattle.format.specs.Layout.Entry.{size, start}
 use Rattle.format.specs.Layout.Directory.{directorySectors, directoryOf, entryIn, entryCount, sizeOf}
 use Rattle.format.specs.Layout.Volume.{volume, systemSectors, miniSpace, miniCells, directorySectorsOf, miniFatSectors, miniStreamSectors, directory, root}
 use Rattle.theory.proofs.Counts.{count-at}
-use Rattle.theory.proofs.Tests.{below-ext}
 use Rattle.theory.proofs.Chains.{length-units, follow-agree, units-agree}
 use Rattle.frame.specs.Kept.{Sized, Kept, Off, Table}
 use Rattle.frame.specs.Edits.{SameParts, Preserved}
@@ -29,7 +26,7 @@ use Rattle.frame.proofs.Places.{thing-fits, thing-index}
 use Rattle.frame.proofs.Things.{thing-far, thing-room}
 use Rattle.frame.proofs.Blocks.{Units}
 use Rattle.frame.proofs.Sound.{Sound, sys-count}
-use Rattle.frame.proofs.Views.{kept-cell, kept-sectorCount, kept-directoryCount, kept-directoryStart, kept-miniFatStart, kept-miniFatCount, kept-fatCells, kept-fat, kept-difat, kept-header, kept-counts, kept-ends, kept-rest, kept-tableSectors}
+use Rattle.frame.proofs.Views.{kept-cell, kept-sectorCount, kept-directoryCount, kept-directoryStart, kept-miniFatStart, kept-miniFatCount, kept-fatCells, kept-fat, kept-difat, kept-header, kept-tables}
 use Rattle.theory.proofs.Below.{length-below}
 use Rattle.frame.specs.Groups.{ImageGroups}
 use Rattle.theory.proofs.RoundUp.{round-enough}
@@ -161,7 +158,7 @@ module _ (g : Geometry) (z : Sized g) (T : List ℕ) (a b : Bytes) (x : Kept g (
     (off : (s : ℕ) → 0 < count s (difatSectors g a) → count s T ≡ 0) where
   pub kept-fatCell : ((s : ℕ) → 0 < count s (fatSectors g a) → count s T ≡ 0) → (s : ℕ) → fatCell g b s ≡ fatCell g a s
   kept-fatCell offFat s =
-      fat-cell-is g b s ∙ ap (λ (l : List ℕ). cellIn g b l (cellsIn g * length l) s) (kept-fat g z T a b x A off)
+      fat-cell-is g b s ∙ ap (λ (l : List ℕ). cellIn g b l (cellsIn g * length l) s) (kept-fat g z T a b x (A .needs) off)
       ∙ kept-cell g z T a b x (fatSectors g a) offFat s ∙ sym (fat-cell-is g a s)
 
   pub sector-block : (u : ℕ) → count u T ≡ 0 → block (volume g b .sectors) b u ≡ block (volume g a .sectors) a u
@@ -207,8 +204,8 @@ module _ (g : Geometry) (z : Sized g) (T : List ℕ) (a b : Bytes) (x : Kept g (
     unfolding volume sectorSpace miniSpace miniCells directory directoryOf
     kept-parts =
         record {
-          fat = kept-fat g z T a b x A off;
-          difat = kept-difat g z T a b x A off;
+          fat = kept-fat g z T a b x (A .needs) off;
+          difat = kept-difat g z T a b x (A .needs) off;
           directorySectors = kept-dirs;
           miniFat = kept-miniFat;
           miniStream = kept-miniStream;
@@ -246,33 +243,12 @@ module _ (g : Geometry) (z : Sized g) (T : List ℕ) (a b : Bytes) (x : Kept g (
         same-place : block (volume g a .minis) b u ≡ block (volume g a .minis) a u
         same-place = mini-place g z a A T a b x o u h
 
-    kept-tables : ImageGroups g a → ((s : ℕ) → s < sectorCount g a → (eqb (fatCell g b s) FATSECT ≡ eqb (fatCell g a s) FATSECT) × (eqb (fatCell g b s) DIFSECT ≡ eqb (fatCell g a s) DIFSECT))
-        → tableRules g b ≡ true
-    unfolding tableRules tableMarks markRight
-    kept-tables G marks =
-        rw (
-          kept-counts g z T a b x A off,
-          kept-ends g z T a b x A off,
-          kept-rest g z T a b x A off,
-          kept-tableSectors g z T a b x A off,
-          kept-sectorCount g z T a b x,
-        )
-        (ap (λ (t : Bool). tableCounts g a && difatEnds g a && difatRest g a && tableSectors g a && t)
-        (below-ext (sectorCount g a)
-        (markRight g a)
-        (markRight g b)
-        (λ s l. rw (kept-fat g z T a b x A off, kept-difat g z T a b x A off, marks s l .0, marks s l .1)))
-        ∙ G .tables)
-
     pub preserved : ImageGroups g a → ((s : ℕ) → s < sectorCount g a → (eqb (fatCell g b s) FATSECT ≡ eqb (fatCell g a s) FATSECT) × (eqb (fatCell g b s) DIFSECT ≡ eqb (fatCell g a s) DIFSECT))
         → Preserved g a b
     preserved G marks =
         record {
           length = x .size;
           header = kept-header g z T a b x ∙ G .header;
-          tables = all-tables;
+          tables = kept-tables g z T a b x (A .needs) off marks ∙ G .tables;
           parts = kept-parts;
         }
-      where
-        all-tables : tableRules g b ≡ true
-        all-tables = kept-tables G marks

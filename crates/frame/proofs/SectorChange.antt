@@ -178,7 +178,7 @@ module _ (g : Geometry) (z : Sized g) (img : Bytes) (e new : ℕ) (m : MayResize
 
   cell : (s : ℕ) → fatCell g w s ≡ rechain us ws (fatCell g img) s
   cell s =
-      fat-cell-is g w s ∙ ap (λ (l : List ℕ). cellIn g w l (cellsIn g * length l) s) (kept-fat g z T img w K sound offDifat)
+      fat-cell-is g w s ∙ ap (λ (l : List ℕ). cellIn g w l (cellsIn g * length l) s) (kept-fat g z T img w K (sound .needs) offDifat)
       ∙ edit-cells g z img (v .sectors) (fatSectors g img) ws dirs us ws n new e (λ u. count u (systemSectors v) ≡ 0) setup s
       ∙ rechain-ext us ws (cellIn g img (fatSectors g img) (cellsIn g * length (fatSectors g img))) (fatCell g img) s (sym (fat-cell-is g img s))
 

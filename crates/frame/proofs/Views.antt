@@ -1,7 +1,7 @@
 -- What is read off an image where only sectors T were written, none of them a DIFAT sector: header, DIFAT, and any table's cells elsewhere.
 use mathlib.Core.Path.{_≡_, _∙_, fun-ext, refl, ap}
 use mathlib.Core.List.{List}
-use mathlib.Core.Bool.{Bool, true, false, cond}
+use mathlib.Core.Bool.{Bool, true, false, cond, _&&_}
 use Prim.Native.Nat.{ℕ, zero, suc, _+_, _-_, _*_, _/_, _%_, _≤_, _<_}
 use native.Mathlib.Nat.{mod-lt, div-lt-iff-lt-mul, mul-comm}
 use native.Mathlib.Omega.{arith}
@@ -13,15 +13,14 @@ use Rattle.format.specs.Basics.Bytes.{Bytes, part, number, u16at, u32at}
 use Rattle.format.specs.Layout.Geometry.{Geometry, sectorPlace, placeIn, cellsIn, difatIn, headerDifat, sectorCount, headerBytes}
 use Rattle.format.specs.Rules.Header.{headerRules}
 use Rattle.format.specs.Layout.Header.{fatCount, difatCount, difatStart, miniFatCount, directoryStart, miniFatStart, difatPlace, majorVersion, directoryCount}
-use Rattle.format.specs.Layout.Chain.{FREE}
-use Rattle.format.specs.Layout.Tables.{difatSector, difatEntry, cellPlaceIn, cellIn, fatSectors, difatSectors, fatCells}
-use Rattle.format.specs.Rules.Tables.{difatNeed, tableCounts, difatEnds, difatRest, tableSectors, spareEntryFree, isSector}
+use Rattle.format.specs.Layout.Chain.{FREE, FATSECT, DIFSECT}
+use Rattle.format.specs.Layout.Tables.{difatSector, difatEntry, cellPlaceIn, cellIn, fatSectors, difatSectors, fatCells, fatCell}
+use Rattle.format.specs.Rules.Tables.{difatNeed, tableCounts, difatEnds, difatRest, tableSectors, spareEntryFree, isSector, markRight, tableMarks, tableRules}
 use Rattle.theory.proofs.Counts.{count-at}
 use Rattle.theory.proofs.Tests.{below-ext}
 use Rattle.frame.specs.Kept.{Sized, Kept, Off}
 use Rattle.frame.proofs.Kept.{number-head, part-head, number-body}
 use Rattle.frame.proofs.Places.{thing-fits, thing-index}
-use Rattle.frame.proofs.Sound.{Sound}
 use Rattle.theory.proofs.Picks.{count-below}
 use Rattle.theory.proofs.RoundUp.{round-enough}
 use Rattle.theory.proofs.Below.{listBelow-ext}
@@ -117,7 +116,7 @@ module _ (g : Geometry) (z : Sized g) (T : List ℕ) (a b : Bytes) (x : Kept g (
 
   -- ---- the DIFAT
 
-  module _ (A : Sound g a) (off : (s : ℕ) → 0 < count s (difatSectors g a) → count s T ≡ 0) where
+  module _ (needs : difatCount a ≡ difatNeed g (fatCount a)) (off : (s : ℕ) → 0 < count s (difatSectors g a) → count s T ≡ 0) where
     offAt : (j : ℕ) → j < difatCount a → count (difatSector g a j) T ≡ 0
     unfolding difatSectors
     offAt j h = off (difatSector g a j) (count-below (difatCount a) (difatSector g a) j h)
@@ -150,7 +149,7 @@ module _ (g : Geometry) (z : Sized g) (T : List ℕ) (a b : Bytes) (x : Kept g (
 
     fits : fatCount a ≤ 109 + difatIn g * difatCount a
     unfolding difatNeed headerDifat
-    fits = let r = round-enough (fatCount a - 109) (difatIn g) (difat-some g z) in omega (arith, r, ap (λ (n : ℕ). n * difatIn g) (A .needs), mul-comm (difatIn g) (difatCount a))
+    fits = let r = round-enough (fatCount a - 109) (difatIn g) (difat-some g z) in omega (arith, r, ap (λ (n : ℕ). n * difatIn g) needs, mul-comm (difatIn g) (difatCount a))
 
     pub kept-fat : fatSectors g b ≡ fatSectors g a
     unfolding fatSectors
@@ -162,15 +161,15 @@ module _ (g : Geometry) (z : Sized g) (T : List ℕ) (a b : Bytes) (x : Kept g (
     kept-difat =
         rw kept-difatCount (listBelow-ext (difatCount a) (difatSector g a) (difatSector g b) (λ i l. kept-difatSector i (omega arith)))
 
-    pub kept-counts : tableCounts g b ≡ tableCounts g a
+    kept-counts : tableCounts g b ≡ tableCounts g a
     unfolding tableCounts
     kept-counts = rw (kept-fatCount, kept-sectorCount, kept-fatCells, kept-difatCount)
 
-    pub kept-ends : difatEnds g b ≡ difatEnds g a
+    kept-ends : difatEnds g b ≡ difatEnds g a
     unfolding difatEnds
     kept-ends = rw (kept-difatCount, kept-difatSector (difatCount a) (omega arith))
 
-    pub kept-rest : difatRest g b ≡ difatRest g a
+    kept-rest : difatRest g b ≡ difatRest g a
     unfolding difatRest headerDifat spareEntryFree
     kept-rest =
         rw (kept-difatCount, kept-fatCount)
@@ -181,6 +180,15 @@ module _ (g : Geometry) (z : Sized g) (T : List ℕ) (a b : Bytes) (x : Kept g (
     unfolding isSector
     kept-isSector = fun-ext (λ s. ap (λ (n : ℕ). ltb s n) kept-sectorCount)
 
-    pub kept-tableSectors : tableSectors g b ≡ tableSectors g a
+    kept-tableSectors : tableSectors g b ≡ tableSectors g a
     unfolding tableSectors
     kept-tableSectors = rw (kept-isSector, kept-fat, kept-difat)
+
+    -- group 11, where the cells of sectors keep the marks of tables
+    pub kept-tables : ((s : ℕ) → s < sectorCount g a → (eqb (fatCell g b s) FATSECT ≡ eqb (fatCell g a s) FATSECT) × (eqb (fatCell g b s) DIFSECT ≡ eqb (fatCell g a s) DIFSECT))
+        → tableRules g b ≡ tableRules g a
+    unfolding tableRules tableMarks markRight
+    kept-tables marks =
+        rw (kept-counts, kept-ends, kept-rest, kept-tableSectors, kept-sectorCount)
+        (ap (λ (t : Bool). tableCounts g a && difatEnds g a && difatRest g a && tableSectors g a && t)
+        (below-ext (sectorCount g a) (markRight g a) (markRight g b) (λ s l. rw (kept-fat, kept-difat, marks s l .0, marks s l .1))))

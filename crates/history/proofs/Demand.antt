@@ -18,6 +18,7 @@ use Rattle.format.specs.Rules.Version.{versionOf}
 use Rattle.format.specs.Rules.Verdict.{Accepted}
 use Rattle.format.specs.Calls.Answer.{target, answer}
 use Rattle.format.specs.Calls.Reply.{onZero}
+use Rattle.format.specs.Calls.Repair.{repairAnswer}
 use Rattle.format.specs.Calls.Paths.{Path}
 use Rattle.format.specs.Calls.Find.{Found, at, refused, resolveStream, answerOf, entryOf}
 use Rattle.format.specs.Calls.SetLength.{crosses, tooFew, resized}
@@ -31,9 +32,9 @@ use Rattle.format.specs.History.State.{State, stateIn, stateOf}
 use Rattle.format.specs.Fresh.Plan.{Plan, planned}
 use Rattle.format.specs.Fresh.Image.{freshImage}
 use Rattle.format.specs.Fresh.Answer.{formatAnswer, formatted}
-use Rattle.format.specs.History.Accepts.{accepts}
+use Rattle.format.specs.History.Accepts.{accepts, acceptsRepair}
 use Rattle.format.specs.History.Step.{changed, change, stateStep, putInto}
-use Rattle.format.specs.History.Event.{Event, call, format, imageStep, after, eventStep, stateAfter}
+use Rattle.format.specs.History.Event.{Event, call, format, repair, imageStep, after, eventStep, stateAfter}
 use Rattle.format.specs.History.Claim.{isEdit, Holds, Demand3}
 use Rattle.theory.proofs.Tests.{clash}
 use Rattle.theory.proofs.Refusals.{RefusedLow, resolve-stream-low, first-zero}
@@ -48,6 +49,7 @@ use Rattle.history.proofs.LengthStep.{length-step}
 use Rattle.history.proofs.MoveStep.{move-step}
 use Rattle.history.proofs.Filled.{frame-sized, Sized}
 use Rattle.fresh.proofs.Answer.{fresh-claim}
+use Rattle.repair_laws.proofs.InHistory.{repair-step, repair-answered}
 use Rattle.history.proofs.StateSame.{step-next}
 use Rattle.history.proofs.CreateStep.{create-answered-0}
 use Rattle.history.proofs.RemoveStep.{remove-answered-0}
@@ -98,6 +100,9 @@ module _ (g : Geometry) (pos : 0 < g .sectorBytes) (fr : Frame g) (img : Bytes) 
         minis = allocated-minis g pos img acc sized;
         answersZero = answers-0-iff g pos img acc sized;
         answersFull = answers-26-iff g pos img acc sized;
+        answersRepair =
+            subst (λ (x : Geometry). (spare : Bytes) (work : List ℕ) → (repairAnswer x img spare work ≡ 0) ↔ (acceptsRepair (stateIn x img) spare work ≡ true)) e
+            (repair-answered img (subst (λ (x : Geometry). Accepted x img) (sym e) acc));
       }
 
   unchanged-step : Next g img img (stateIn g img)
@@ -181,7 +186,7 @@ module _ (g : Geometry) (pos : 0 < g .sectorBytes) (fr : Frame g) (img : Bytes) 
   call-step (remove p work) = edit-call (remove p work) refl
   call-step (list out work) = other-call (list out work) refl refl
 
--- ---- every list of events: a call reads the image's version, and that stays; a fresh image brings its own
+-- ---- every list of events: a call reads the image's version, and that stays, as it does in a repair; a fresh image brings its own
 
 module _ (pos : (img : Bytes) → 0 < versionOf img .sectorBytes) (fr : (img : Bytes) → Frame (versionOf img)) where
   event-step : (img : Bytes) → Accepted (versionOf img) img → (e : Event) → EventStep img e
@@ -196,6 +201,7 @@ module _ (pos : (img : Bytes) → 0 < versionOf img .sectorBytes) (fr : (img : B
         state = ap (λ (x : Geometry). stateIn x next) v ∙ s .state;
       }
   event-step img acc (format plan) = format-step img acc plan
+  event-step img acc (repair spare work) = let u = repair-step img spare work acc in record { accepted = u .accepted; state = u .state }
 
   list-after : (img : Bytes) (events : List Event) → Accepted (versionOf img) img → After img events
   unfolding after stateAfter stateOf

@@ -1,4 +1,4 @@
--- DEMAND 3: for every accepted image of either version and every list of calls and fresh images.
+-- DEMAND 3: for every accepted image of either version and every list of calls, fresh images and repairs.
 use mathlib.Core.Path.{_≡_, sym, subst}
 use native.Mathlib.Omega.{arith}
 use lib.ListN.{length}

@@ -1,19 +1,16 @@
 -- The mini FAT's sectors stand listed in the work buffer, so that every cell can be looked up at once.
 use Prim.Native.Nat.{ℕ, _+_, _*_, _/_, _≤_, _<_}
 use mathlib.Core.Path.{_≡_}
-use mathlib.Core.Bool.{Bool, true, _&&_}
+use mathlib.Core.Bool.{true}
 use mathlib.Core.List.{List}
 use lib.ListN.{length, getD}
 use Rattle.format.specs.Basics.Bytes.{Bytes}
-use Rattle.format.specs.Basics.Lists.{allBelow}
 use Rattle.format.specs.Layout.Geometry.{Geometry, sectorCount, cellsIn}
 use Rattle.format.specs.Layout.Chain.{chain}
 use Rattle.format.specs.Layout.Space.{Space}
 use Rattle.format.specs.Layout.Header.{miniFatCount, miniFatStart}
 use Rattle.format.specs.Layout.Tables.{fatCell}
 use Rattle.format.specs.Layout.Volume.{miniFatSectors, miniSpace}
-use Rattle.format.specs.Rules.Cells.{restFree}
-use Rattle.format.specs.Rules.Mini.{miniCellRight}
 use Rattle.theory.specs.Marks.{marks, Closed}
 use Rattle.kinds.specs.Sizes.{geometryOf}
 use Rattle.header.specs.Sized.{ImageSized}
@@ -61,9 +58,3 @@ pub record MiniMarks (t : Minis) (img : Bytes) (work : List ℕ) : Type 0 where
 
 abbrev pub MinisWalked : Minis → Bytes → ℕ → ℕ → List ℕ → List ℕ → Marked → Type 0
 MinisWalked t img n s before after a = ChainWalked (minisOf t img .cell) (minisOf t img .limit) n s before after a
-
--- ---- rules
-
--- the rules of group 16 on the values of cells
-abbrev pub cellsRight : Space → Bool
-cellsRight sp = allBelow (sp .limit) (miniCellRight sp) && restFree sp

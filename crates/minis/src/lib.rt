@@ -10,7 +10,7 @@ ghost use Rattle.format.specs.Rules.Mini.{miniCellRight};
 ghost use Rattle.kinds.specs.Sizes.{geometryOf};
 ghost use Rattle.tables.specs.Work.{Wrote};
 ghost use Rattle.tables.specs.Listed.{FatListed};
-ghost use Rattle.minis.specs.Listed.{MiniListed, MiniCounts, MiniMarks, MinisWalked, minisAt, minisOf, cellsRight};
+ghost use Rattle.minis.specs.Listed.{MiniListed, MiniCounts, MiniMarks, MinisWalked, minisAt, minisOf};
 use chains::Marked;
 use chains::list_chain;
 use chains::units_for;
@@ -65,7 +65,7 @@ pub fn list_minis(img: &[u8], work: &mut [u32], t: Tables, units: usize, at: usi
 // ---- the rules on cells
 
 // The cells below the number of mini sectors.
-fn cells_below(img: &[u8], work: &[u32], t: Minis) -> bool
+pub fn cells_below(img: &[u8], work: &[u32], t: Minis) -> bool
     requires { ⌜ MiniListed t (now img) (now work) ⌝ }
     ensures { λ r. ⌜ r ≡ allBelow (minisOf t (now (img .entry)) .limit) (miniCellRight (minisOf t (now (img .entry)))) ⌝ }
 {
@@ -83,7 +83,7 @@ fn cells_below(img: &[u8], work: &[u32], t: Minis) -> bool
 }
 
 // The cells from the number of mini sectors on.
-fn cells_rest(img: &[u8], work: &[u32], t: Minis) -> bool
+pub fn cells_rest(img: &[u8], work: &[u32], t: Minis) -> bool
     requires { ⌜ MiniListed t (now img) (now work) ⌝ }
     ensures { λ r. ⌜ r ≡ restFree (minisOf t (now (img .entry))) ⌝ }
 {
@@ -99,14 +99,6 @@ fn cells_rest(img: &[u8], work: &[u32], t: Minis) -> bool
         m = m.next();
     }
     true
-}
-
-// The rules of group 16 on the cells of the mini FAT.
-pub fn cell_rules(img: &[u8], work: &[u32], t: Minis) -> bool
-    requires { ⌜ MiniListed t (now img) (now work) ⌝ }
-    ensures { λ r. ⌜ r ≡ cellsRight (minisOf t (now (img .entry))) ⌝ }
-{
-    cells_below(img, work, t) & cells_rest(img, work, t)
 }
 
 // ---- marking a chain

@@ -58,7 +58,7 @@ module _ (g : Geometry) (img : Bytes) where
   abbrev chained : List ℕ
   chained = systemChains g img ++ joinBelow (volume g img .directory .count) (ownSectors (volume g img))
 
-  owned-are : ownedSectors (volume g img) ≡ tables ++ chained
+  pub owned-are : ownedSectors (volume g img) ≡ tables ++ chained
   unfolding ownedSectors systemSectors volume
   owned-are = simp append-assoc
 

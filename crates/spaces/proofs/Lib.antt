@@ -5,3 +5,4 @@ pub mod Lengths
 pub mod Places
 pub mod Stands
 pub mod Listed
+pub mod SameCells

@@ -157,7 +157,7 @@ pub fn unit_count(v: Volume, kind: Kind) -> usize
 // ---- places, by the lists in the work buffer alone: they hold while the image changes
 
 // The byte of the image that is byte i of what the listed sectors hold.
-fn listed_place(work: &[u32], g: Geometry, list: usize, i: usize) -> usize
+pub fn listed_place(work: &[u32], g: Geometry, list: usize, i: usize) -> usize
     requires { ⌜ 512 ≤ g .bytes ⌝ }
     requires { ⌜ g .bytes ≤ 4096 ⌝ }
     requires { ⌜ list + i / g .bytes < length (now work) ⌝ }

@@ -31,7 +31,7 @@ all-not p (x ∷ xs) h = go (p x) refl (all-not p xs)
     go false e later = (x, omega (arith, bit-self x), e)
     go true e later = let r = later (rw e at h) in (r .0, omega (arith, r .1), r .2)
 
-member-of : (u : ℕ) (xs : List ℕ) → 0 < count u xs → member u xs ≡ true
+pub member-of : (u : ℕ) (xs : List ℕ) → 0 < count u xs → member u xs ≡ true
 unfolding member
 member-of u xs h = lt-ltb 0 (count u xs) h
 

@@ -30,6 +30,14 @@ freed-in (u ∷ us) f s q =
       | inr e ↦ rw (e .1) (freed-in us f s (omega (arith, ap bit (e .1))))
     ]
 
+-- where their cells are free already
+pub freed-free : (us : List ℕ) (f : ℕ → ℕ) → ((u : ℕ) → 0 < count u us → f u ≡ FREE) → (s : ℕ) → freed us f s ≡ f s
+freed-free us f h s =
+    elim (decLt 0 (count s us)) [
+      | yes k ↦ freed-in us f s k ∙ sym (h s k)
+      | no k ↦ freed-out us f s (omega arith)
+    ]
+
 pub chained-out : (ws : List ℕ) (f : ℕ → ℕ) (s : ℕ) → count s ws ≡ 0 → chained ws f s ≡ f s
 unfolding chained
 chained-out [] f s q = refl
@@ -58,7 +66,7 @@ chained-ext (w ∷ ws) f g s e = rw (chained-ext ws f g s e)
 
 -- ---- freeing and chaining at once
 
-freed-ext : (us : List ℕ) (f h : ℕ → ℕ) (s : ℕ) → f s ≡ h s → freed us f s ≡ freed us h s
+pub freed-ext : (us : List ℕ) (f h : ℕ → ℕ) (s : ℕ) → f s ≡ h s → freed us f s ≡ freed us h s
 unfolding freed
 freed-ext [] f h s e = e
 freed-ext (u ∷ us) f h s e = rw (freed-ext us f h s e)

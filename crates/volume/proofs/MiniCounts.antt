@@ -7,6 +7,7 @@ use native.Mathlib.Omega.{arith}
 use lib.Dec.{eqb}
 use lib.ListN.{length}
 use borrow.Author.Tests.{le-leb, lt-leb}
+use Rattle.format.specs.Basics.Lists.{allBelow}
 use Rattle.format.specs.Basics.Bytes.{Bytes}
 use Rattle.format.specs.Layout.Geometry.{Geometry, sectorCount, miniBytes, cellsIn}
 use Rattle.format.specs.Layout.Need.{roundUp}
@@ -17,13 +18,13 @@ use Rattle.format.specs.Layout.Entry.{start}
 use Rattle.format.specs.Layout.Directory.{sizeOf}
 use Rattle.format.specs.Layout.Tables.{fatCell, sectorSpace}
 use Rattle.format.specs.Layout.Volume.{volume, root, rootSize, directory, miniSpace, miniCells}
-use Rattle.format.specs.Rules.Mini.{miniFatChain, miniStreamChain}
+use Rattle.format.specs.Rules.Mini.{miniFatChain, miniStreamChain, miniCellRight}
 use Rattle.theory.proofs.Tests.{both}
 use Rattle.theory.proofs.Chains.{chain-short}
 use Rattle.theory.proofs.RoundUp.{round-enough}
 use Rattle.header.specs.Sized.{ImageSized}
 use Rattle.tables.proofs.Places.{cells-short}
-use Rattle.minis.specs.Listed.{MiniCounts, cellsRight}
+use Rattle.minis.specs.Listed.{MiniCounts}
 use Rattle.volume.specs.Passed.{miniCellRules}
 
 module _ (g : Geometry) (img : Bytes) where
@@ -71,6 +72,6 @@ module _ (g : Geometry) (img : Bytes) where
   unfolding miniCellRules volume miniSpace miniCells
   cells-too-few h = rw (lt-leb (miniSpace g img .limit) (cellsIn g * miniFatCount img) h)
 
-  pub cells-by-rules : miniSpace g img .limit ≤ cellsIn g * miniFatCount img → {r : Bool} → r ≡ cellsRight (miniSpace g img) → miniCellRules (volume g img) ≡ r
+  pub cells-by-rules : miniSpace g img .limit ≤ cellsIn g * miniFatCount img → {r : Bool} → r ≡ allBelow (miniSpace g img .limit) (miniCellRight (miniSpace g img)) → miniCellRules (volume g img) ≡ r
   unfolding miniCellRules volume miniSpace miniCells
   cells-by-rules h e = rw (le-leb (miniSpace g img .limit) (cellsIn g * miniFatCount img) h) (sym e)

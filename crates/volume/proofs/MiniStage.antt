@@ -1,7 +1,7 @@
--- What group 16 hands on: the lists stand, and the system's chains are marked.
+-- What group 16 hands on but for the cells from K on: the lists stand, and the system's chains are marked.
 use Prim.Native.Nat.{ℕ, _-_}
-use mathlib.Core.Path.{_≡_, ap, subst}
-use mathlib.Core.Bool.{true, false, _&&_}
+use mathlib.Core.Path.{_≡_, ap, subst, _∙_}
+use mathlib.Core.Bool.{Bool, true, false, _&&_}
 use mathlib.Core.List.{List, []}
 use native.Mathlib.Omega.{arith}
 use lib.ListN.{length}
@@ -11,8 +11,9 @@ use Rattle.format.specs.Layout.Header.{miniFatCount}
 use Rattle.format.specs.Layout.Tables.{sectorSpace}
 use Rattle.format.specs.Layout.Volume.{volume, miniSpace}
 use Rattle.format.specs.Rules.Length.{workNeed}
-use Rattle.format.specs.Rules.Mini.{miniFatChain, miniStreamChain}
+use Rattle.format.specs.Rules.Mini.{miniFatChain, miniStreamChain, miniTables}
 use Rattle.theory.proofs.Tests.{both}
+use Rattle.kinds.specs.declared.Geometry.{Geometry as Sizes}
 use Rattle.kinds.specs.Sizes.{geometryOf}
 use Rattle.tables.specs.Work.{Wrote}
 use Rattle.tables.specs.Listed.{tablesOf}
@@ -20,20 +21,23 @@ use Rattle.tables.specs.declared.Tables.{Tables}
 use Rattle.tables.proofs.WorkLaws.{wrote-two, wrote-wider, listed-kept}
 use Rattle.chains.specs.Answers.{isBroken, isShared}
 use Rattle.chains.specs.declared.Marked.{Marked}
-use Rattle.chains.proofs.Owners.{is-right}
+use Rattle.chains.proofs.Owners.{is-right, is-wrong}
 use Rattle.directory.specs.Listed.{directoryAt}
 use Rattle.directory.specs.declared.Directory.{Directory}
-use Rattle.minis.specs.Listed.{minisAt, MiniListed}
+use Rattle.minis.specs.Listed.{minisAt, minisOf, MiniListed}
 use Rattle.minis.specs.declared.Minis.{Minis}
 use Rattle.system_chains.specs.System.{SystemWalked, SystemOwned}
 use Rattle.directory.proofs.Places.{directory-kept}
-use Rattle.volume.specs.Passed.{TablesHold, Cleared, MiniRoom, SystemMarked, TableRight, miniCellRules}
+use Rattle.volume.specs.Passed.{TablesHold, Cleared, MiniRoom, SystemMarked, SystemRight, SystemLeft, TableRight, miniCellRules}
 use Rattle.volume.specs.declared.mini_stage.MiniTable.{MiniTable}
 use Rattle.volume.specs.declared.mini_stage.MiniTable.the-variants.{Wrong, Right}
+use Rattle.volume.specs.declared.mini_stage.System.{System}
+use Rattle.volume.specs.declared.mini_stage.SystemTables.{SystemTables}
+use Rattle.volume.specs.declared.mini_stage.SystemTables.the-variants.{Wrong as NoSystem, Right as TheSystem}
 use Rattle.volume.proofs.ListsKept.{room-kept}
 use Rattle.volume.proofs.Clearing.{owning-kept, list-is, list-room}
 use Rattle.volume.proofs.MiniCounts.{table-short}
-use Rattle.volume.proofs.Outcomes.{wrote-ours}
+use Rattle.volume.proofs.Outcomes.{wrote-ours, chains-break, cells-break, cells-hold}
 
 module _ {t : Tables} {d : Directory} {img : Bytes} {w w₁ w₂ : List ℕ} {n : ℕ} {a : Marked} (h : TablesHold (geometryOf (t .geometry)) img w n) (e : t ≡ tablesOf (t .geometry) img)
     (f : d ≡ directoryAt t n (t .list - n)) (c : Cleared t d img w w₁)
@@ -45,11 +49,14 @@ module _ {t : Tables} {d : Directory} {img : Bytes} {w w₁ w₂ : List ℕ} {n 
   unfolding sectorSpace
   marks-wrote = m .wrote
 
-  pub chains-wrote : Wrote w w₂ 0 (workNeed (length img))
+  chains-wrote : Wrote w w₂ 0 (workNeed (length img))
   chains-wrote = wrote-two (c .wrote) (wrote-ours img marks-wrote (omega (arith, h .listed .sized .many)))
 
+  pub chains-wrong : isBroken a ≡ true → SystemLeft (t .geometry) img (miniTables (volume g img)) w w₂ NoSystem
+  chains-wrong u = record { answer = chains-break (volume g img) (is-wrong m u); wrote = chains-wrote }
+
   module _ (u : isBroken a ≡ false) where
-    pub chains-right : (miniFatChain (volume g img) && miniStreamChain (volume g img)) ≡ true
+    chains-right : (miniFatChain (volume g img) && miniStreamChain (volume g img)) ≡ true
     chains-right = is-right m u
 
     pub mini-room : MiniRoom t d img w₂
@@ -73,32 +80,60 @@ module _ {t : Tables} {d : Directory} {img : Bytes} {w w₁ w₂ : List ℕ} {n 
 
     -- the mini FAT's list comes before the directory's
     module _ {w₃ : List ℕ} (x : Wrote w₂ w₃ (d .list - miniFatCount img) (miniFatCount img)) where
-      pub table-wrote : Wrote w w₃ 0 (workNeed (length img))
+      table-wrote : Wrote w w₃ 0 (workNeed (length img))
       table-wrote =
           let s = table-short g img (h .listed .sized) (mini-room .table) in
           wrote-two chains-wrote (wrote-ours img (wrote-wider 0 (d .list) x (omega arith) (omega (arith, s, c .room))) (omega (arith, mini-room .before, mini-room .within)))
 
-      pub table-wrong : (r : MiniTable) → TableRight t d img w₃ r → r ≡ Wrong → miniCellRules (volume g img) ≡ false
-      table-wrong r p k = subst (λ y. TableRight t d img w₃ y) k p
+      pub table-wrong : (r : MiniTable) → TableRight t d img w₃ r → r ≡ Wrong → SystemLeft (t .geometry) img (miniTables (volume g img)) w w₃ NoSystem
+      table-wrong r p k = record { answer = cells-break (volume g img) chains-right (subst (λ y. TableRight t d img w₃ y) k p); wrote = table-wrote }
 
       module _ (r : MiniTable) (p : TableRight t d img w₃ r) {i : Minis} (k : r ≡ Right i) where
-        found : (miniCellRules (volume g img) ≡ true) × ((i ≡ minisAt t img (miniSpace g img .limit) (d .list - miniFatCount img)) × MiniListed i img w₃)
-        found = subst (λ y. TableRight t d img w₃ y) k p
+        listed : (miniCellRules (volume g img) ≡ true) × ((i ≡ minisAt t img (miniSpace g img .limit) (d .list - miniFatCount img)) × MiniListed i img w₃)
+        listed = subst (λ y. TableRight t d img w₃ y) k p
 
-        pub table-right : miniCellRules (volume g img) ≡ true
-        table-right = found .0
-
-        pub system-marked : SystemMarked t d i img w₃ (isShared a)
-        system-marked =
+        marked : SystemMarked t d i img w₃ (isShared a)
+        marked =
             let s = table-short g img (h .listed .sized) (mini-room .table) in
-            let y = found .1 .0 in
+            let y = listed .1 .0 in
             record {
               lists = record {
                 mini = room-kept x mini-room (omega (arith, s, c .room));
-                minis = found .1 .1;
+                minis = listed .1 .1;
                 same = ap (λ q. q .geometry) y;
                 before = rw y (omega (arith, s, c .room));
                 room = rw y (omega (arith, s, c .room));
               };
               owners = owning-kept x (omega (arith, s, c .room)) owned;
             }
+
+        pub table-right : SystemLeft (t .geometry) img (miniTables (volume g img)) w w₃ (TheSystem (record { tables = t; directory = d; minis = i; shared = isShared a }))
+        table-right = record { answer = (cells-hold (volume g img) chains-right (listed .0), (e, marked)); wrote = table-wrote }
+
+-- the same geometry by another name
+pub system-for : (img : Bytes) {s s′ : Sizes} {w w′ : List ℕ} {r : SystemTables} → s ≡ s′ → SystemLeft s img (miniTables (volume (geometryOf s) img)) w w′ r → SystemLeft s′ img (miniTables (volume (geometryOf s′) img)) w w′ r
+system-for img {w = w} {w′} {r} e l = subst (λ s. SystemLeft s img (miniTables (volume (geometryOf s) img)) w w′ r) e l
+
+-- ---- what the answer says
+
+module _ {g : Sizes} {img : Bytes} {b : Bool} {w w′ : List ℕ} {r : SystemTables} (l : SystemLeft g img b w w′ r) where
+  pub system-wrong : r ≡ NoSystem → b ≡ false
+  system-wrong e = subst (λ y. SystemRight g img b w′ y) e (l .answer)
+
+  module _ {s : System} (e : r ≡ TheSystem s) where
+    found : (b ≡ true) × ((s .tables ≡ tablesOf g img) × SystemMarked (s .tables) (s .directory) (s .minis) img w′ (s .shared))
+    found = subst (λ y. SystemRight g img b w′ y) e (l .answer)
+
+    pub system-right : b ≡ true
+    system-right = found .0
+
+    pub system-tables : s .tables ≡ tablesOf g img
+    system-tables = found .1 .0
+
+    pub system-marked : SystemMarked (s .tables) (s .directory) (s .minis) img w′ (s .shared)
+    system-marked = found .1 .1
+
+    -- the mini FAT is the image's own
+    pub system-minis : minisOf (s .minis) img ≡ volume (geometryOf g) img .minis
+    unfolding volume
+    system-minis = ap (λ q. miniSpace (geometryOf q) img) (system-marked .lists .same ∙ ap (λ t. t .geometry) system-tables)

@@ -11,7 +11,8 @@ use Rattle.format.specs.Layout.Geometry.{Geometry}
 use Rattle.format.specs.Layout.Tables.{sectorSpace}
 use Rattle.format.specs.Layout.Volume.{Volume, volume, miniSpace}
 use Rattle.format.specs.Rules.Length.{workNeed}
-use Rattle.format.specs.Rules.Mini.{miniFatChain, miniStreamChain, miniRules}
+use Rattle.format.specs.Rules.Cells.{restFree}
+use Rattle.format.specs.Rules.Mini.{miniFatChain, miniStreamChain, miniTables, miniRules}
 use Rattle.format.specs.Rules.Owners.{ownersIn, ownedSectors, ownedMinis, ownerRules}
 use Rattle.format.specs.Rules.Verdict.{check}
 use Rattle.kinds.specs.declared.Geometry.{Geometry as Sizes}
@@ -83,22 +84,32 @@ module _ (g : Geometry) (img : Bytes) {a b : Owners} (e : a ≡ ownersAnswer (al
 -- ---- group 16
 
 module _ (v : Volume) where
-  mini-rules : miniRules v ≡ ((miniFatChain v && miniStreamChain v) && miniCellRules v)
-  unfolding miniRules miniCellRules
-  mini-rules = simp and-assoc
+  mini-tables : miniTables v ≡ ((miniFatChain v && miniStreamChain v) && miniCellRules v)
+  unfolding miniCellRules
+  mini-tables = simp and-assoc
 
-  pub chains-break : (miniFatChain v && miniStreamChain v) ≡ false → miniGroups v ≡ 16
-  unfolding miniGroups check
-  chains-break h = rw (mini-rules, h)
+  pub chains-break : (miniFatChain v && miniStreamChain v) ≡ false → miniTables v ≡ false
+  chains-break h = mini-tables ∙ rw h
 
   module _ (h : (miniFatChain v && miniStreamChain v) ≡ true) where
-    pub cells-break : miniCellRules v ≡ false → miniGroups v ≡ 16
-    unfolding miniGroups check
-    cells-break k = rw (mini-rules, h, k)
+    pub cells-break : miniCellRules v ≡ false → miniTables v ≡ false
+    cells-break k = mini-tables ∙ rw (h, k)
 
-    pub minis-hold : miniCellRules v ≡ true → miniGroups v ≡ ownerGroups v
-    unfolding miniGroups check
-    minis-hold k = rw (mini-rules, h, k)
+    pub cells-hold : miniCellRules v ≡ true → miniTables v ≡ true
+    cells-hold k = mini-tables ∙ rw (h, k)
+
+  pub minis-break : miniTables v ≡ false → miniGroups v ≡ 16
+  unfolding miniGroups miniRules check
+  minis-break h = rw h
+
+  module _ (h : miniTables v ≡ true) where
+    pub rest-breaks : restFree (v .minis) ≡ false → miniGroups v ≡ 16
+    unfolding miniGroups miniRules check
+    rest-breaks k = rw (h, k)
+
+    pub minis-hold : restFree (v .minis) ≡ true → miniGroups v ≡ ownerGroups v
+    unfolding miniGroups miniRules check
+    minis-hold k = rw (h, k)
 
 -- what a later stage answers is what the earlier ones answer, where their rules hold
 pub stage-later : {s : Sizes} {img : Bytes} {want later : ℕ} {w w₁ w₂ : List ℕ} {r : Opened} → want ≡ later → Wrote w w₁ 0 (workNeed (length img)) → StageLeft s img later w₁ w₂ r → StageLeft s img want w w₂ r

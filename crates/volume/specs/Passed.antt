@@ -1,32 +1,40 @@
 -- What each stage builds on: the groups before it hold, and so stands the work buffer.
 use Prim.Native.Nat.{ℕ, _+_, _-_, _*_, _/_, _≤_}
 use mathlib.Core.Path.{_≡_}
-use mathlib.Core.Bool.{Bool, true, false, _&&_}
+use mathlib.Core.Bool.{Bool, true, false, cond, _&&_}
 use mathlib.Core.List.{List, []}
 use lib.Dec.{leb}
 use lib.ListN.{length}
+use Rattle.format.specs.Basics.Lists.{allBelow}
 use Rattle.format.specs.Basics.Bytes.{Bytes}
 use Rattle.format.specs.Layout.Geometry.{Geometry, sectorCount}
 use Rattle.format.specs.Layout.Header.{miniFatCount}
-use Rattle.format.specs.Layout.Volume.{Volume, volume, directorySectorsOf, miniSpace}
+use Rattle.format.specs.Layout.Volume.{Volume, volume, directory, directorySectorsOf, miniSpace}
 use Rattle.format.specs.Rules.Length.{workNeed}
 use Rattle.format.specs.Rules.Tables.{tableRules}
 use Rattle.format.specs.Rules.Directory.{directoryRules}
-use Rattle.format.specs.Rules.Mini.{miniFatChain, miniStreamChain}
+use Rattle.format.specs.Rules.Entries.{entryRules}
+use Rattle.format.specs.Rules.Trees.{treeRules}
+use Rattle.format.specs.Rules.Mini.{miniFatChain, miniStreamChain, miniCellRight}
 use Rattle.theory.specs.Marks.{marks, Owning}
+use Rattle.kinds.specs.declared.Geometry.{Geometry as Sizes}
 use Rattle.kinds.specs.Sizes.{geometryOf}
 use Rattle.header.specs.Sized.{W}
 use Rattle.tables.specs.Work.{Wrote}
 use Rattle.tables.specs.Views.{volumeOf, sectorCountOf, cellsOf}
-use Rattle.tables.specs.Listed.{FatListedAt, FatListed, listPlace}
+use Rattle.tables.specs.Listed.{FatListedAt, FatListed, listPlace, tablesOf}
 use Rattle.tables.specs.declared.Tables.{Tables}
 use Rattle.directory.specs.Listed.{DirectoryListed}
 use Rattle.directory.specs.declared.Directory.{Directory}
-use Rattle.minis.specs.Listed.{MiniListed, minisAt, cellsRight}
+use Rattle.minis.specs.Listed.{MiniListed, minisAt}
 use Rattle.minis.specs.declared.Minis.{Minis}
 use Rattle.system_chains.specs.System.{SystemOwned}
+use Rattle.volume.specs.declared.entry_stage.Entries.{Entries}
+use Rattle.volume.specs.declared.entry_stage.Entries.the-variants.{WrongFields, WrongTrees, Right as Whole}
 use Rattle.volume.specs.declared.mini_stage.MiniTable.{MiniTable}
 use Rattle.volume.specs.declared.mini_stage.MiniTable.the-variants.{Wrong, Right}
+use Rattle.volume.specs.declared.mini_stage.SystemTables.{SystemTables}
+use Rattle.volume.specs.declared.mini_stage.SystemTables.the-variants.{Wrong as NoSystem, Right as TheSystem}
 
 -- ---- after group 13
 
@@ -37,6 +45,17 @@ pub record TablesHold (g : Geometry) (img : Bytes) (work : List ℕ) (n : ℕ) :
   pub tables : tableRules g img ≡ true
   pub chained : directoryRules (volume g img) ≡ true
   pub count : n ≡ length (directorySectorsOf g img)
+
+-- ---- after groups 14 and 15
+
+unfoldable pub entriesAnswer : (fields trees : Bool) → Entries
+entriesAnswer fields trees = cond fields (cond trees Whole WrongTrees) WrongFields
+
+-- their answer, and what was listed before them still is
+pub record EntriesLeft (g : Geometry) (img : Bytes) (n : ℕ) (before after : List ℕ) (r : Entries) : Type 0 where
+  pub answer : r ≡ entriesAnswer (entryRules (directory g img)) (treeRules (directory g img))
+  pub hold : TablesHold g img after n
+  pub wrote : Wrote before after 0 (workNeed (length img))
 
 -- ---- in group 16
 
@@ -61,9 +80,9 @@ pub record MiniRoom (t : Tables) (d : Directory) (img : Bytes) (work : List ℕ)
   pub within : t .list ≤ W img
   pub room : 9 * (length img / 512) + 2 * sectorCountOf t img ≤ d .list
 
--- the rules on the mini FAT's cells
+-- the rules on the mini FAT's cells below K
 unfoldable pub miniCellRules : Volume → Bool
-miniCellRules v = leb (v .minis .limit) (v .minis .cells) && cellsRight (v .minis)
+miniCellRules v = leb (v .minis .limit) (v .minis .cells) && allBelow (v .minis .limit) (miniCellRight (v .minis))
 
 abbrev pub TableRight : Tables → Directory → Bytes → List ℕ → MiniTable → Type 0
 TableRight t d img work Wrong = miniCellRules (volumeOf (t .geometry) img) ≡ false
@@ -85,3 +104,13 @@ pub record ListsStand (t : Tables) (d : Directory) (m : Minis) (img : Bytes) (wo
 pub record SystemMarked (t : Tables) (d : Directory) (m : Minis) (img : Bytes) (work : List ℕ) (shared : Bool) : Type 0 where
   pub lists : ListsStand t d m img work
   pub owners : SystemOwned t img work shared
+
+-- the rules hold and the lists are those of the image's own tables, or one is broken
+abbrev pub SystemRight : Sizes → Bytes → Bool → List ℕ → SystemTables → Type 0
+SystemRight g img holds work NoSystem = holds ≡ false
+SystemRight g img holds work (TheSystem s) =
+    (holds ≡ true) × ((s .tables ≡ tablesOf g img) × SystemMarked (s .tables) (s .directory) (s .minis) img work (s .shared))
+
+pub record SystemLeft (g : Sizes) (img : Bytes) (holds : Bool) (before after : List ℕ) (r : SystemTables) : Type 0 where
+  pub answer : SystemRight g img holds after r
+  pub wrote : Wrote before after 0 (workNeed (length img))

@@ -9,7 +9,7 @@ ghost use Rattle.tables.specs.Listed.{FatListed, tablesOf};
 ghost use Rattle.theory.specs.TreeWalk.{WalkRoom};
 ghost use Rattle.directory.specs.Listed.{entriesOf, directoryAt, DirectoryListed};
 ghost use Rattle.volume.specs.Groups.{entryGroups};
-ghost use Rattle.volume.specs.Passed.{TablesHold};
+ghost use Rattle.volume.specs.Passed.{TablesHold, EntriesLeft};
 ghost use Rattle.volume.specs.Opened.{StageLeft};
 use super::Opened;
 use super::mini_stage::mini_groups;
@@ -23,7 +23,7 @@ use le::zero_first;
 use tables::tables_of;
 
 // Lists the directory's sectors at the start of the work buffer, with the marks of its entries behind them, all clear.
-fn open_directory(img: &[u8], work: &mut [u32], g: Geometry, n: usize) -> Directory
+pub fn open_directory(img: &[u8], work: &mut [u32], g: Geometry, n: usize) -> Directory
     requires { ⌜ TablesHold (geometryOf g) (now img) (now work) n ⌝ }
     ensures answer { λ r. ⌜ r ≡ directoryAt (tablesOf g (now (img .entry))) n 0 ⌝ }
     ensures directory { λ r. ⌜ DirectoryListed r (now (img .entry)) (now (work .exit)) ⌝ }
@@ -37,18 +37,36 @@ fn open_directory(img: &[u8], work: &mut [u32], g: Geometry, n: usize) -> Direct
     list_directory(img, work, t, n, 0)
 }
 
+// The first of the two groups that is broken, if one is.
+pub enum Entries {
+    WrongFields,
+    WrongTrees,
+    Right,
+}
+
 // The walk over the trees is lent what it needs and no more, so the list of FAT sectors stays.
+pub fn entry_tests(img: &[u8], work: &mut [u32], g: Geometry, n: usize) -> Entries
+    requires { ⌜ TablesHold (geometryOf g) (now img) (now work) n ⌝ }
+    ensures { λ r. ⌜ EntriesLeft (geometryOf g) (now (img .entry)) n (now (work .entry)) (now (work .exit)) r ⌝ }
+{
+    let d = open_directory(img, work, g, n);
+    if !entry_rules(img, work, d) {
+        return Entries::WrongFields;
+    }
+    let m = n + 3 * d.count() + 1;
+    if !tree_rules(img, &mut work[..m], d, n) {
+        return Entries::WrongTrees;
+    }
+    Entries::Right
+}
+
 pub fn entry_groups(img: &[u8], work: &mut [u32], g: Geometry, n: usize) -> Opened
     requires { ⌜ TablesHold (geometryOf g) (now img) (now work) n ⌝ }
     ensures { λ r. ⌜ StageLeft g (now (img .entry)) (entryGroups (volumeOf g (now (img .entry)))) (now (work .entry)) (now (work .exit)) r ⌝ }
 {
-    let d = open_directory(img, work, g, n);
-    if !entry_rules(img, work, d) {
-        return Opened::Refused(Refusal::Entries);
+    match entry_tests(img, work, g, n) {
+        Entries::WrongFields => Opened::Refused(Refusal::Entries),
+        Entries::WrongTrees => Opened::Refused(Refusal::Trees),
+        Entries::Right => mini_groups(img, work, g, n),
     }
-    let m = n + 3 * d.count() + 1;
-    if !tree_rules(img, &mut work[..m], d, n) {
-        return Opened::Refused(Refusal::Trees);
-    }
-    mini_groups(img, work, g, n)
 }

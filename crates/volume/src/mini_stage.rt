@@ -2,13 +2,14 @@
 ghost use mathlib.Core.Path.{_≡_};
 ghost use Prim.Native.Nat.{_-_};
 ghost use Rattle.format.specs.Layout.Header.{miniFatCount};
+ghost use Rattle.format.specs.Rules.Mini.{miniTables};
 ghost use Rattle.kinds.specs.Sizes.{geometryOf};
 ghost use Rattle.tables.specs.Work.{Wrote};
 ghost use Rattle.tables.specs.Views.{volumeOf};
 ghost use Rattle.tables.specs.Listed.{tablesOf};
 ghost use Rattle.directory.specs.Listed.{directoryAt};
 ghost use Rattle.volume.specs.Groups.{miniGroups};
-ghost use Rattle.volume.specs.Passed.{TablesHold, Cleared, MiniRoom, TableRight};
+ghost use Rattle.volume.specs.Passed.{TablesHold, Cleared, MiniRoom, TableRight, SystemLeft};
 ghost use Rattle.volume.specs.Opened.{StageLeft};
 use super::Opened;
 use super::owner_stage::owner_groups;
@@ -23,19 +24,33 @@ use kinds::MiniSector;
 use kinds::Refusal;
 use le::zero_first;
 use minis::Minis;
-use minis::cell_rules;
+use minis::cells_below;
+use minis::cells_rest;
 use minis::list_minis;
 use system_chains::mark_system;
 use tables::Tables;
 use tables::tables_of;
 
-// A rule on the mini FAT's cells is broken, or its sectors stand listed.
+// A rule on the mini FAT's cells below K is broken, or its sectors stand listed.
 pub enum MiniTable {
     Wrong,
     Right(Minis),
 }
 
-// Whether there is a cell for each mini sector, and the cells' values are right. Lists the mini FAT's sectors before the directory's.
+// What is listed after group 16, and whether two of the system's chains share a sector.
+pub struct System {
+    pub tables: Tables,
+    pub directory: Directory,
+    pub minis: Minis,
+    pub shared: bool,
+}
+
+pub enum SystemTables {
+    Wrong,
+    Right(System),
+}
+
+// Whether there is a cell for each mini sector, and the values of those cells are right. Lists the mini FAT's sectors before the directory's.
 fn mini_table(img: &[u8], work: &mut [u32], t: Tables, d: Directory) -> MiniTable
     requires { ⌜ MiniRoom t d (now img) (now work) ⌝ }
     ensures answer { λ r. ⌜ TableRight t d (now (img .entry)) (now (work .exit)) r ⌝ }
@@ -49,7 +64,7 @@ fn mini_table(img: &[u8], work: &mut [u32], t: Tables, d: Directory) -> MiniTabl
         return MiniTable::Wrong;
     }
     let minis = list_minis(img, work, t, k, list - m);
-    if !cell_rules(img, work, minis) {
+    if !cells_below(img, work, minis) {
         return MiniTable::Wrong;
     }
     MiniTable::Right(minis)
@@ -68,18 +83,37 @@ fn clear_marks(img: &[u8], work: &mut [u32], t: Tables, n: usize) -> Directory
     list_directory(img, work, t, n, list - n)
 }
 
-pub fn mini_groups(img: &[u8], work: &mut [u32], g: Geometry, n: usize) -> Opened
+// Group 16 but for the cells from K on. Marks the system's chains, and lists the directory's sectors and the mini FAT's.
+pub fn system_tables(img: &[u8], work: &mut [u32], g: Geometry, n: usize) -> SystemTables
     requires { ⌜ TablesHold (geometryOf g) (now img) (now work) n ⌝ }
-    ensures { λ r. ⌜ StageLeft g (now (img .entry)) (miniGroups (volumeOf g (now (img .entry)))) (now (work .entry)) (now (work .exit)) r ⌝ }
+    ensures { λ r. ⌜ SystemLeft g (now (img .entry)) (miniTables (volumeOf g (now (img .entry)))) (now (work .entry)) (now (work .exit)) r ⌝ }
 {
     let t = tables_of(img, g);
     let d = clear_marks(img, work, t, n);
     let a = mark_system(img, work, t, d);
     if a.is_broken() {
-        return Opened::Refused(Refusal::Mini);
+        return SystemTables::Wrong;
     }
     match mini_table(img, work, t, d) {
-        MiniTable::Wrong => Opened::Refused(Refusal::Mini),
-        MiniTable::Right(m) => owner_groups(img, work, t, d, m, a.is_shared()),
+        MiniTable::Wrong => SystemTables::Wrong,
+        MiniTable::Right(m) => SystemTables::Right(System {
+            tables: t,
+            directory: d,
+            minis: m,
+            shared: a.is_shared(),
+        }),
     }
+}
+
+pub fn mini_groups(img: &[u8], work: &mut [u32], g: Geometry, n: usize) -> Opened
+    requires { ⌜ TablesHold (geometryOf g) (now img) (now work) n ⌝ }
+    ensures { λ r. ⌜ StageLeft g (now (img .entry)) (miniGroups (volumeOf g (now (img .entry)))) (now (work .entry)) (now (work .exit)) r ⌝ }
+{
+    let SystemTables::Right(s) = system_tables(img, work, g, n) else {
+        return Opened::Refused(Refusal::Mini);
+    };
+    if !cells_rest(img, work, s.minis) {
+        return Opened::Refused(Refusal::Mini);
+    }
+    owner_groups(img, work, s.tables, s.directory, s.minis, s.shared)
 }

@@ -1,6 +1,6 @@
 -- Numbers in a list of bytes, the lowest byte first ("What is handed over").
 -- Every read is total: past the end there are no bytes, and a number made of none is 0. Where that matters a rule bounds the place.
-use Prim.Native.Nat.{ℕ, _+_, _*_, _/_, _%_}
+use Prim.Native.Nat.{ℕ, _+_, _*_, _/_, _%_, _<_}
 use mathlib.Core.Bool.{Bool}
 use mathlib.Core.List.{List, [], _∷_, _++_}
 use lib.Dec.{eqb}
@@ -11,6 +11,10 @@ use Rattle.format.specs.Basics.Lists.{all}
 -- an image, and any other run of bytes
 abbrev pub Bytes : Type 0
 Bytes = List ℕ
+
+-- every number of the list is a byte's
+abbrev pub AreBytes : Bytes → Type 0
+AreBytes b = (i : ℕ) → getD b i 0 < 256
 
 unfoldable pub byteAt : Bytes → ℕ → ℕ
 byteAt b i = getD b i 0

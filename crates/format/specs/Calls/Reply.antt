@@ -20,7 +20,7 @@ pub record Reply : Type 0 where
   pub entry : ℕ
   pub type : ℕ
   pub size : ℕ
-  -- of a read or a listing
+  -- of a read, a listing or a repair
   pub count : ℕ
 
 -- a number alone: of a refusal, and of a call that gives no value

@@ -96,6 +96,6 @@ ListsTrusted img =
 abbrev pub ListingTrusted : Type 0
 ListingTrusted = (img : Bytes) → Accepted (versionOf img) img → ListsTrusted img
 
--- and the same after any list of calls and fresh images
+-- and the same after any list of calls, fresh images and repairs
 abbrev pub ListingTrustedAfter : Type 0
 ListingTrustedAfter = (img : Bytes) (events : List Event) → Accepted (versionOf img) img → ListsTrusted (after img events)

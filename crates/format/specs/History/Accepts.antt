@@ -1,10 +1,11 @@
--- Which edits are accepted, and which answer 26, by the state before the call. Nothing here looks at an image.
+-- Which edits and repairs are accepted, and which calls answer 26, by the state before them. Nothing here looks at an image.
 use Prim.Native.Nat.{ℕ, _+_}
 use mathlib.Core.Bool.{Bool, false, not, _&&_, _||_}
 use mathlib.Core.List.{List}
 use lib.Dec.{ltb, leb}
 use lib.ListN.{length}
 use Rattle.format.specs.Basics.Lists.{any}
+use Rattle.format.specs.Basics.Bytes.{Bytes}
 use Rattle.format.specs.Layout.Name.{Name}
 use Rattle.format.specs.Layout.PathOrder.{isBelow}
 use Rattle.format.specs.Calls.Paths.{Path, names, wellFormed, namesBefore}
@@ -57,6 +58,10 @@ accepts s (setLength path new work) =
 accepts s (create made path work) = leb (s .setting .work) (length work) && mayCreate s path
 accepts s (remove path work) = leb (s .setting .work) (length work) && mayRemove s path
 accepts s (list out work) = false
+
+-- a repair: its buffers are long enough
+unfoldable pub acceptsRepair : State → (spare : Bytes) → (work : List ℕ) → Bool
+acceptsRepair s spare work = leb (s .setting .work) (length work) && leb (s .setting .bytes) (length spare)
 
 -- a change of length with no occasion of a lower number, but of 26
 unfoldable pub answers26 : State → Call → Bool

@@ -1,5 +1,5 @@
--- Demand 3: one claim about a whole list of calls and fresh images.
-use Prim.Native.Nat.{_+_}
+-- Demand 3: one claim about a whole list of calls, fresh images and repairs.
+use Prim.Native.Nat.{ℕ, _+_}
 use mathlib.Core.Path.{_≡_}
 use mathlib.Core.Logic.{_↔_}
 use mathlib.Core.Bool.{Bool, true, false}
@@ -12,9 +12,10 @@ use Rattle.format.specs.Rules.Version.{versionOf}
 use Rattle.format.specs.Rules.Verdict.{Accepted}
 use Rattle.format.specs.Calls.Call.{Call, validate, find, read, overwrite, setLength, create, remove, list}
 use Rattle.format.specs.Calls.Answer.{answer}
+use Rattle.format.specs.Calls.Repair.{repairAnswer}
 use Rattle.format.specs.History.Rows.{total}
 use Rattle.format.specs.History.State.{State, stateOf}
-use Rattle.format.specs.History.Accepts.{accepts, answers26}
+use Rattle.format.specs.History.Accepts.{accepts, acceptsRepair, answers26}
 use Rattle.format.specs.History.Event.{Event, after, stateAfter}
 
 unfoldable pub isEdit : Call → Bool
@@ -38,6 +39,8 @@ pub record Holds (now : Bytes) (s : State) : Type 0 where
   -- whatever call comes next: an edit answers 0, and a call answers 26, exactly if the state says so
   pub answersZero : (c : Call) → isEdit c ≡ true → (answer (s .setting .geometry) now c ≡ 0) ↔ (accepts s c ≡ true)
   pub answersFull : (c : Call) → (answer (s .setting .geometry) now c ≡ 26) ↔ (answers26 s c ≡ true)
+  -- a repair answers 0 exactly if the state says that both buffers are long enough
+  pub answersRepair : (spare : Bytes) (work : List ℕ) → (repairAnswer (s .setting .geometry) now spare work ≡ 0) ↔ (acceptsRepair s spare work ≡ true)
 
 -- DEMAND 3. It speaks of every list, and so of every beginning of a list: it holds after each event.
 -- The state comes from the first image and the list alone.

@@ -21,11 +21,14 @@ miniFatChain v = chain (v .sectors .cell) (v .sectors .limit) (v .miniFatCount) 
 unfoldable pub miniStreamChain : Volume → Bool
 miniStreamChain v = eqb (rootSize v % miniBytes) 0 && chainFor (v .sectors) (rootSize v) (start (root v))
 
--- GROUP 16: these chains, a cell for each of the K mini sectors, and the cells' values
-unfoldable pub miniRules : Volume → Bool
-miniRules v =
+-- these chains, a cell for each of the K mini sectors, and the values of those cells
+abbrev pub miniTables : Volume → Bool
+miniTables v =
     miniFatChain v
     && miniStreamChain v
     && leb (v .minis .limit) (v .minis .cells)
     && allBelow (v .minis .limit) (miniCellRight (v .minis))
-    && restFree (v .minis)
+
+-- GROUP 16: all that, and the cells from K on are free
+unfoldable pub miniRules : Volume → Bool
+miniRules v = miniTables v && restFree (v .minis)

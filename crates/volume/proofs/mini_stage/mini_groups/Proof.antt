@@ -1,84 +1,37 @@
 use borrow.Author.Needs.{needs}
-use mathlib.Core.Path.{_≡_, sym, _∙_, ap}
-use native.Mathlib.Omega.{arith}
-use mathlib.Core.Bool.{false}
+use mathlib.Core.Path.{_≡_, _∙_, ap}
+use Rattle.format.specs.Layout.Volume.{volume}
+use Rattle.format.specs.Rules.Cells.{restFree}
 use Rattle.kinds.specs.Sizes.{geometryOf}
 use Rattle.kinds.specs.declared.Refusal.the-variants.{Mini}
-use Rattle.tables.specs.Listed.{tablesOf}
-use Rattle.chains.specs.Answers.{isBroken}
-use Rattle.chains.proofs.Owners.{is-wrong}
-use Rattle.volume.specs.Groups.{miniGroups}
-use Rattle.volume.specs.Passed.{TablesHold}
-use Rattle.volume.proofs.Outcomes.{chains-break, cells-break, minis-hold, stage-refused, stage-later, stage-for}
-use Rattle.volume.proofs.MiniStage.{chains-wrote, chains-right, mini-room, table-wrote, table-wrong, table-right, system-marked}
+use Rattle.theory.proofs.Loops.{said-yes, said-no}
+use Rattle.volume.specs.Groups.{ownerGroups}
+use Rattle.volume.proofs.Outcomes.{minis-break, rest-breaks, minis-hold, stage-refused, stage-later, stage-for}
+use Rattle.volume.proofs.MiniStage.{system-wrong, system-right, system-tables, system-marked, system-minis}
 use Rattle.volume.proofs.mini_stage.mini_groups.Statement.{statement}
 use Rattle.volume.proofs.mini_stage.mini_groups.Tie as tie
 
-hold : (c : tie.After-tables-of) → let p = c .before .before .before .args in TablesHold (geometryOf (c .tables-of .result .geometry)) (p .img .now) (p .work .now) (p .n)
-hold c = rw (c .tables-of .ensures) (c .before .before .before .pre)
-
-tables : (c : tie.After-tables-of) → c .tables-of .result ≡ tablesOf (c .tables-of .result .geometry) (c .before .before .before .args .img .now)
-tables c = rw (c .tables-of .ensures)
-
-sized : (c : tie.After-tables-of) → c .tables-of .result .geometry ≡ c .before .before .before .args .g
-sized c = ap (λ t. t .geometry) (c .tables-of .ensures)
-
--- the system's chains are right
-whole : (c : tie.Else1) → isBroken (c .before .before .before .before .mark-system .result) ≡ false
-whole c = sym (c .before .is-broken .ensures) ∙ c .if1 .left
+-- what the answer about the cells from K on says
+rest : (c : tie.After-cells-rest) → let p = c .before .before .before .before .before .before .before .before .before .before .before .args in c .cells-rest .result ≡ restFree (volume (geometryOf (p .g)) (p .img .now) .minis)
+rest c = c .cells-rest .ensures ∙ ap restFree (system-minis (c .before .before .before .before .before .before .before .system-tables .ensures) (c .before .before .before .s .given .1))
 
 pub mini-groups-spec : {M : Type 1} → statement M
 mini-groups-spec =
     tie.close
     (tie.spec
-    (λ c κs. let t = c .before .before .pre .listed in (t .sized, t .few))  -- tables-of-requires
-    (λ c κs. (hold (c .before), tables (c .before)))  -- clear-marks-requires
-    (λ c κs.
-    let d = c .before .before .before .clear-marks .ensures in
-    (record { fat = d .1 .fat; directory = d .1 .directory; same = ap (λ x. x .geometry) (d .0); behind = omega (arith, d .1 .room) }, (d .1 .clear .closed, hold (c .before .before .before .before .before) .chained)))  -- mark-system-requires
-    (λ c κs. search needs)  -- is-broken-requires
-    (λ c. search needs)  -- same-length
-    (λ c.
-    let k = c .before .before .before .before .before .before .before .before in
-    let m = c .before .before .before .before .mark-system .ensures in
-    let d = k .clear-marks .ensures in
-    stage-for miniGroups _ (sized (k .before .before)) (stage-refused _ _ _ Mini (chains-break _ (is-wrong m (sym (c .before .is-broken .ensures) ∙ c .if1 .taken))) (chains-wrote (hold (k .before .before)) (tables (k .before .before)) (d .0) (d .1) m)))  -- returns
-    (λ c κs.
-    let k = c .before .before .before .before .before .before .before .before .before in
-    let d = k .clear-marks .ensures in
-    mini-room (hold (k .before .before)) (tables (k .before .before)) (d .0) (d .1) (c .before .before .before .before .before .mark-system .ensures) (whole (c .before)))  -- mini-table-requires
+    (λ c κs. search needs)  -- system-tables-requires
+    (λ c. search needs)  -- enum-known-s
     (λ c. search needs)  -- enum-told
-    (λ c. search needs)  -- enum-known-m
-    (λ c κs. search needs)  -- is-shared-requires
-    (λ c κs.
-    let k = c .before .before .before .before .before .before .before .before .before .before .before .before .before .before .before .before .before in
-    let d = k .clear-marks .ensures in
-    let e = c .before .before .before .before .before .before .before .before .before in
-    let t = c .before .before .before .before .before .before .before .mini-table .ensures in
-    rw (c .is-shared .ensures)
-    (system-marked (hold (k .before .before)) (tables (k .before .before)) (d .0) (d .1) (c .before .before .before .before .before .before .before .before .before .before .before .before .before .mark-system .ensures) (whole e) (t .1) _ (t .0) (c .before .before .before .m .given .1)))  -- owner-groups-requires
+    (λ c. search needs)  -- same-length
+    (λ c. let l = c .before .before .before .before .system-tables .ensures in stage-refused _ _ _ Mini (minis-break _ (system-wrong l (c .enum-told .given .1))) (l .wrote))  -- returns
+    (λ c κs. system-marked (c .before .before .before .before .before .before .system-tables .ensures) (c .before .before .s .given .1) .lists .minis)  -- cells-rest-requires
     (λ c. search needs)  -- same-length-2
     (λ c.
-    let k = c .before .before .before .before .before .before .before .before .before .before .before .before .before .before in
-    let d = k .clear-marks .ensures in
-    let m = c .before .before .before .before .before .before .before .before .before .before .mark-system .ensures in
-    let h = hold (k .before .before) in
-    let t = c .before .before .before .before .mini-table .ensures in
-    let u = whole (c .before .before .before .before .before .before) in
-    stage-for miniGroups _ (sized (k .before .before))
-    (stage-refused _ _ _ Mini (cells-break _ (chains-right h (tables (k .before .before)) (d .0) (d .1) m u) (table-wrong h (tables (k .before .before)) (d .0) (d .1) m u (t .1) _ (t .0) (c .enum-told .given .1)))
-    (table-wrote h (tables (k .before .before)) (d .0) (d .1) m u (t .1))))  -- returns-2
+    let l = c .before .before .before .before .before .before .before .before .system-tables .ensures in
+    stage-refused _ _ _ Mini (rest-breaks _ (system-right l (c .before .before .before .before .s .given .1)) (said-no (c .if1 .taken) (rest (c .before)))) (l .wrote))  -- returns-2
+    (λ c κs. system-marked (c .before .before .before .before .before .before .before .before .before .system-tables .ensures) (c .before .before .before .before .before .s .given .1))  -- owner-groups-requires
+    (λ c. c .before .before .owner-groups .kept .1 .0 ∙ c .before .before .before .before .before .before .before .before .before .before .before .before .system-tables .ensures .wrote .long)  -- same-length-3
     (λ c.
-    let k = c .before .before .before .before .before .before .before .before .before .before .before .before .before .before .before .before .before .before .before .before in
-    let d = k .clear-marks .ensures in
-    c .before .before .owner-groups .kept .1 .0 ∙ table-wrote (hold (k .before .before)) (tables (k .before .before)) (d .0) (d .1) (c .before .before .before .before .before .before .before .before .before .before .before .before .before .before .before .before .mark-system .ensures) (whole (c .before .before .before .before .before .before .before .before .before .before .before .before)) (c .before .before .before .before .before .before .before .before .before .before .mini-table .ensures .1) .long)  -- same-length-3
-    (λ c.
-    let k = c .before .before .before .before .before .before .before .before .before .before .before .before .before .before .before .before .before .before .before .before in
-    let d = k .clear-marks .ensures in
-    let m = c .before .before .before .before .before .before .before .before .before .before .before .before .before .before .before .before .mark-system .ensures in
-    let h = hold (k .before .before) in
-    let t = c .before .before .before .before .before .before .before .before .before .before .mini-table .ensures in
-    let u = whole (c .before .before .before .before .before .before .before .before .before .before .before .before) in
-    stage-for miniGroups _ (sized (k .before .before))
-    (stage-later (minis-hold _ (chains-right h (tables (k .before .before)) (d .0) (d .1) m u) (table-right h (tables (k .before .before)) (d .0) (d .1) m u (t .1) _ (t .0) (c .before .before .before .before .before .before .m .given .1)))
-    (table-wrote h (tables (k .before .before)) (d .0) (d .1) m u (t .1)) (c .before .before .owner-groups .ensures))))  -- returns-3
+    let l = c .before .before .before .before .before .before .before .before .before .before .before .before .system-tables .ensures in
+    let e = c .before .before .before .before .before .before .before .before .s .given .1 in
+    stage-later (minis-hold _ (system-right l e) (said-yes (c .before .before .before .before .if1 .left) (rest (c .before .before .before .before .before)))) (l .wrote) (stage-for ownerGroups _ (ap (λ t. t .geometry) (system-tables l e)) (c .before .before .owner-groups .ensures))))  -- returns-3

@@ -45,12 +45,12 @@ room c =
     omega (arith, many c, table-short _ _ (p .fat .sized) (p .table), p .room)
 
 -- the cells' rules, by the answer
-rules : (c : tie.After-cell-rules) → let p = c .before .before .before .before .before .before .before .before .before .before .before .before .before .before .before .args in
-    miniCellRules (volume (geometryOf (p .t .geometry)) (p .img .now)) ≡ c .cell-rules .result
+rules : (c : tie.After-cells-below) → let p = c .before .before .before .before .before .before .before .before .before .before .before .before .before .before .before .args in
+    miniCellRules (volume (geometryOf (p .t .geometry)) (p .img .now)) ≡ c .cells-below .result
 rules c =
     let l = c .before .before .before .before in
     let e = l .before .before in
-    cells-by-rules _ _ (omega (arith, e .if1 .left, cells (e .before), units (e .before .before .before))) (rw (l .list-minis .ensures .0) at (c .cell-rules .ensures))
+    cells-by-rules _ _ (omega (arith, e .if1 .left, cells (e .before), units (e .before .before .before))) (rw (l .list-minis .ensures .0) at (c .cells-below .ensures))
 
 wrote : (c : tie.After-list-minis) → let p = c .before .before .before .before .before .before .before .before .before .before .before .args in
     Wrote (p .work .now) (c .list-minis .last .1 .0) (p .d .list - miniFatCount (p .img .now)) (miniFatCount (p .img .now))
@@ -76,7 +76,7 @@ mini-table-spec =
     let p = c .before .before .before .before .before .before .before .before .before .before .pre in
     let e = c .before in
     (p .fat, (counts e, (omega (arith, counts e .few, many e, room e, table-short _ _ (p .fat .sized) (p .table), p .room), omega (arith, many e, room e, p .before)))))  -- list-minis-requires
-    (λ c κs. c .before .before .before .list-minis .ensures .1 .0)  -- cell-rules-requires
+    (λ c κs. c .before .before .before .list-minis .ensures .1 .0)  -- cells-below-requires
     (λ c. search needs)  -- same-length-2
     (λ c. (rules (c .before) ∙ not-true _ (c .if2 .taken), wrote (c .before .before .before .before .before)))  -- returns-2
     (λ c. search needs)  -- same-length-3

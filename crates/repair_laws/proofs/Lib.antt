@@ -1,0 +1,27 @@
+-- A repair, against its claims. First what it keeps; then its four steps; what an accepted outcome has of the image; and what an accepted
+-- image gets.
+pub mod Keeps
+pub mod Lengths
+pub mod Taken
+pub mod Tabled
+pub mod BlackFields
+pub mod BlackDirectory
+pub mod BlackRules
+pub mod Blackening
+pub mod Freeing
+pub mod Heads
+pub mod SectorLists
+pub mod StepRules
+pub mod SameLists
+pub mod Listed
+pub mod KeptRows
+pub mod Outcome
+pub mod Blackened
+pub mod SameCells
+pub mod FreeAgain
+pub mod AcceptedSteps
+pub mod Answered
+pub mod Exact
+pub mod Counted
+pub mod Repairs
+pub mod InHistory

@@ -1,0 +1,1 @@
+// Laws of repairs (W-213). There is no code here.
