@@ -10,6 +10,7 @@ use cfb::list;
 use cfb::overwrite;
 use cfb::read;
 use cfb::remove;
+use cfb::repair;
 use cfb::set_length;
 use cfb::validate;
 use kinds::number;
@@ -20,6 +21,7 @@ use le::u64_at;
 use queries::find::Find;
 use queries::list::List;
 use queries::read::Read;
+use repair::Repair;
 
 // ---- what a call gives
 
@@ -28,7 +30,7 @@ struct Values {
     entry: u32,
     kind: u8,
     size: u64,
-    count: usize,
+    count: u64,
 }
 
 fn plain(n: u32) -> Values {
@@ -41,7 +43,7 @@ fn plain(n: u32) -> Values {
     }
 }
 
-fn counted(n: usize) -> Values {
+fn counted(n: u64) -> Values {
     Values {
         number: 0,
         entry: 0,
@@ -70,15 +72,22 @@ fn found(f: Find) -> Values {
 
 fn copied(r: Read) -> Values {
     match r {
-        Read::Done(n) => counted(n),
+        Read::Done(n) => counted(n as u64),
         Read::Refused(a) => plain(refusal_number(a)),
     }
 }
 
 fn listed(r: List) -> Values {
     match r {
-        List::Done(n) => counted(n),
+        List::Done(n) => counted(n as u64),
         List::Refused(a) => plain(refusal_number(a)),
+    }
+}
+
+fn repaired(r: Repair) -> Values {
+    match r {
+        Repair::Done(n) => counted(n),
+        Repair::Refused(a) => plain(refusal_number(a)),
     }
 }
 
@@ -103,7 +112,7 @@ fn fresh(image: &mut [u8], bytes: &[u8]) -> Outcome {
 }
 
 // The call of a kind: 0 validates, 1 finds, 2 reads, 3 lists, 4 overwrites, 5 sets a length, 6 creates a
-// stream, 7 a storage, 8 removes, 9 writes a fresh image.
+// stream, 7 a storage, 8 removes, 9 writes a fresh image, 10 repairs, with the bytes as spare buffer.
 fn make(
     kind: u32,
     image: &mut [u8],
@@ -123,6 +132,7 @@ fn make(
         7 => Outcome::Made(plain(number(create_storage(image, work, path)))),
         8 => Outcome::Made(plain(number(remove(image, work, path)))),
         9 => fresh(image, bytes),
+        10 => Outcome::Made(repaired(repair(image, work, bytes))),
         _ => Outcome::Unknown,
     }
 }
@@ -163,7 +173,7 @@ fn print_values(v: Values) {
     print_next(v.entry as u64);
     print_next(v.kind as u64);
     print_next(v.size);
-    print_next(v.count as u64);
+    print_next(v.count);
 }
 
 // ---- reading
@@ -231,8 +241,8 @@ fn with_path(head: &[u8; 28], image: &mut [u8], path: &mut [u16]) -> bool {
     if !read_path(path) {
         return false;
     }
-    let room = within(u32_at(head, 12), 8192);
-    let mut bytes = [90u8; 8192];
+    let room = within(u32_at(head, 12), 65536);
+    let mut bytes = [90u8; 65536];
     with_bytes(head, image, path, &mut bytes[..room])
 }
 

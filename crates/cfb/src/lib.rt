@@ -6,10 +6,12 @@ ghost use Rattle.format.specs.Calls.Call.{create as createCall, remove as remov
 ghost use Rattle.format.specs.Calls.Create.{stream, storage};
 ghost use Rattle.format.specs.Calls.Reply.{plain, reply};
 ghost use Rattle.format.specs.Calls.Buffers.{imageAfter, outAfter, workAfter};
+ghost use Rattle.format.specs.Calls.Repair.{repairReply, imageRepaired, workRepaired, spareRepaired};
 ghost use Rattle.format.specs.Fresh.Answer.{formatAnswer, formatted};
 ghost use Rattle.kinds.specs.Numbers.{numberOf};
 ghost use Rattle.kinds.specs.Links.{newKindOf};
 ghost use Rattle.queries.specs.Replies.{findReply, readReply, listReply};
+ghost use Rattle.repair.specs.Replies.{repairReplyOf};
 ghost use Rattle.formatting.specs.Plans.{planFor};
 use kinds::Answer;
 use kinds::NewKind;
@@ -25,6 +27,8 @@ use opened::set_length_opened;
 use queries::find::Find;
 use queries::list::List;
 use queries::read::Read;
+use repair::Repair;
+use repair::repair_image;
 use volume::Opened;
 
 // Whether an image keeps all rules; where not, the first group that it breaks.
@@ -191,4 +195,15 @@ pub fn format_image(
     ensures { λ _. ⌜ now (image .exit) ≡ formatted (now (image .entry)) (planFor version sectors directory minifat minis) ⌝ }
 {
     formatting::format_image(image, version, sectors, directory, minifat, minis)
+}
+
+// Repairs tables and colours that a power cut has bent, where the image then keeps all rules, and says how many cells and colour bytes have
+// changed. Else it is as it was. The spare buffer has to be as long as the image.
+pub fn repair(image: &mut [u8], work: &mut [u32], spare: &mut [u8]) -> Repair
+    ensures { λ r. ⌜ repairReplyOf r ≡ repairReply (now (image .entry)) (now (spare .entry)) (now (work .entry)) ⌝ }
+    ensures { λ _. ⌜ now (image .exit) ≡ imageRepaired (now (image .entry)) (now (spare .entry)) (now (work .entry)) ⌝ }
+    ensures { λ _. ⌜ now (work .exit) ≡ workRepaired (now (image .entry)) (now (spare .entry)) (now (work .entry)) ⌝ }
+    ensures { λ _. ⌜ now (spare .exit) ≡ spareRepaired (now (image .entry)) (now (spare .entry)) (now (work .entry)) ⌝ }
+{
+    repair_image(image, work, spare)
 }

@@ -6,6 +6,7 @@ ghost use Rattle.format.specs.Calls.Call.{create as createCall, remove as remov
 ghost use Rattle.format.specs.Calls.Create.{stream, storage};
 ghost use Rattle.format.specs.Calls.Reply.{plain, reply};
 ghost use Rattle.format.specs.Calls.Buffers.{imageAfter, outAfter, workAfter};
+ghost use Rattle.format.specs.Calls.Repair.{repairReply, imageRepaired, workRepaired, spareRepaired};
 ghost use Rattle.format.specs.Fresh.Answer.{formatAnswer, formatted};
 ghost use Rattle.kinds.specs.Numbers.{refusalNumber};
 ghost use Rattle.formatting.specs.Plans.{planFor};
@@ -17,6 +18,7 @@ use cfb::list;
 use cfb::overwrite;
 use cfb::read;
 use cfb::remove;
+use cfb::repair;
 use cfb::set_length;
 use cfb::validate;
 use kinds::Refusal;
@@ -25,6 +27,7 @@ use kinds::refusal_number;
 use queries::find::Find;
 use queries::list::List;
 use queries::read::Read;
+use repair::Repair;
 
 pub mod opened_calls;
 
@@ -189,4 +192,26 @@ pub extern "C" fn cfb_format(
         mini_fat_sectors,
         mini_sectors,
     ))
+}
+
+#[no_mangle]
+pub extern "C" fn cfb_repair(
+    image: &mut [u8],
+    work: &mut [u32],
+    spare: &mut [u8],
+    changed: &mut u64,
+) -> u32
+    ensures { λ r. ⌜ record { number = r; entry = 0; type = 0; size = 0; count = now (changed .exit) }
+        ≡ repairReply (now (image .entry)) (now (spare .entry)) (now (work .entry)) ⌝ }
+    ensures { λ _. ⌜ now (image .exit) ≡ imageRepaired (now (image .entry)) (now (spare .entry)) (now (work .entry)) ⌝ }
+    ensures { λ _. ⌜ now (work .exit) ≡ workRepaired (now (image .entry)) (now (spare .entry)) (now (work .entry)) ⌝ }
+    ensures { λ _. ⌜ now (spare .exit) ≡ spareRepaired (now (image .entry)) (now (spare .entry)) (now (work .entry)) ⌝ }
+{
+    match repair(image, work, spare) {
+        Repair::Done(n) => {
+            *changed = n;
+            0
+        }
+        Repair::Refused(a) => refused(changed, a),
+    }
 }

@@ -13,7 +13,7 @@ with-path-spec =
     (λ c κs. search needs)  -- u32-at-requires
     (λ c κs. search needs)  -- within-requires
     (λ c. search needs)  -- array-borrow-prefix-bytes
-    (λ c. front-length _ 8192 90 (c .before .before .before .within .ensures))  -- slice-aggregate-with-bytes
+    (λ c. front-length _ 65536 90 (c .before .before .before .within .ensures))  -- slice-aggregate-with-bytes
     (λ c κs. search needs)  -- with-bytes-requires
     (λ c. search needs)  -- same-length-2
     (λ c. search needs)  -- same-length-3

@@ -1,0 +1,7 @@
+-- Laws of a repair's code.
+pub mod Counting
+pub mod Differing
+pub mod Replies
+pub mod Judging
+pub mod Trying
+pub mod Answers

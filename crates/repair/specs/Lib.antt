@@ -1,0 +1,3 @@
+-- What the code of a repair answers and requires.
+pub mod Replies
+pub mod Room

@@ -1,0 +1,2 @@
+-- The first test that fails decides what is asked.
+pub mod Asked

@@ -1,0 +1,1 @@
+-- What is asked is said by `format` (Calls/RepairSteps), what is left by `tables` and `volume`.

@@ -1,0 +1,58 @@
+-- The chains of all streams are marked beside those of the system.
+use Prim.Native.Nat.{ℕ, _*_, _/_}
+use mathlib.Core.Path.{_≡_}
+use mathlib.Core.Bool.{Bool, true, false, _&&_}
+use mathlib.Core.List.{List, _++_}
+use lib.ListN.{length}
+use Rattle.format.specs.Basics.Bytes.{Bytes}
+use Rattle.format.specs.Basics.Lists.{joinBelow}
+use Rattle.format.specs.Layout.Geometry.{Geometry}
+use Rattle.format.specs.Layout.Volume.{volume}
+use Rattle.format.specs.Rules.Length.{workNeed}
+use Rattle.format.specs.Rules.Owners.{ownSectors, ownedMinis}
+use Rattle.format.specs.Rules.Streams.{streamRules}
+use Rattle.format.specs.Calls.RepairSteps.{tablesHold, directoryHolds, entriesHold, streamsHold}
+use Rattle.kinds.specs.declared.Geometry.{Geometry as Sizes}
+use Rattle.kinds.specs.Sizes.{geometryOf}
+use Rattle.tables.specs.Work.{Wrote}
+use Rattle.tables.specs.Views.{volumeOf, sectorCountOf}
+use Rattle.minis.specs.Listed.{minisOf}
+use Rattle.system_chains.specs.System.{systemChains}
+use Rattle.volume.specs.Passed.{ListsStand}
+use Rattle.volume.specs.declared.mini_stage.System.{System}
+use Rattle.volume.specs.declared.mini_stage.SystemTables.{SystemTables}
+use Rattle.volume.specs.declared.mini_stage.SystemTables.the-variants.{Wrong, Right}
+use Rattle.repair_writes.specs.Cells.{MarksSay}
+
+-- groups 10 to 16 but for the mini FAT's cells from K on
+abbrev pub systemHolds : Geometry → Bytes → Bool
+systemHolds g img = tablesHold g img && directoryHolds (volume g img) && entriesHold (volume g img)
+
+-- where the marks of sectors stand while mini sectors are marked: no image has so many mini sectors
+abbrev pub sectorMarks : Bytes → ℕ
+sectorMarks img = 8 * (length img / 512)
+
+-- the sectors of all chains: the system's and the streams'
+abbrev pub chainSectors : Geometry → Bytes → List ℕ
+chainSectors g img = systemChains g img ++ joinBelow (volume g img .directory .count) (ownSectors (volume g img))
+
+-- the lists stand, and the marks are those of all chains
+pub record StreamsMarked (s : System) (img : Bytes) (work : List ℕ) : Type 0 where
+  pub lists : ListsStand (s .tables) (s .directory) (s .minis) img work
+  pub sectors : MarksSay work (sectorMarks img) (sectorCountOf (s .tables) img) (chainSectors (geometryOf (s .tables .geometry)) img)
+  pub minis : MarksSay work 0 (minisOf (s .minis) img .limit) (ownedMinis (volumeOf (s .minis .geometry) img))
+
+-- group 17's answer, and that they are marked where it holds
+pub record StreamsLeft (s : System) (img : Bytes) (before after : List ℕ) (r : Bool) : Type 0 where
+  pub answer : r ≡ streamRules (volumeOf (s .tables .geometry) img)
+  pub marked : r ≡ true → StreamsMarked s img after
+  pub wrote : Wrote before after 0 (workNeed (length img))
+
+-- groups 10 to 17 hold, with the lists of the image's own tables and the marks of all chains; or one is broken
+abbrev pub AllRight : Sizes → Bytes → List ℕ → SystemTables → Type 0
+AllRight g img work Wrong = streamsHold (geometryOf g) img ≡ false
+AllRight g img work (Right s) = (streamsHold (geometryOf g) img ≡ true) × ((s .tables .geometry ≡ g) × StreamsMarked s img work)
+
+pub record AllLeft (g : Sizes) (img : Bytes) (before after : List ℕ) (r : SystemTables) : Type 0 where
+  pub answer : AllRight g img after r
+  pub wrote : Wrote before after 0 (workNeed (length img))

@@ -1,0 +1,128 @@
+// The fourth step of a repair: where groups 10 to 17 hold, the cells of units that nobody owns become free. All chains are marked before a
+// byte is written.
+ghost use mathlib.Core.Path.{_≡_};
+ghost use mathlib.Core.Bool.{true};
+ghost use Prim.Native.Nat.{_+_, _≤_};
+ghost use lib.ListN.{length};
+ghost use Rattle.format.specs.Basics.Lists.{allBelow};
+ghost use Rattle.format.specs.Rules.Length.{workNeed};
+ghost use Rattle.format.specs.Rules.Mini.{miniCellRight};
+ghost use Rattle.format.specs.Calls.RepairSteps.{unownedFreed, fourthStep};
+ghost use Rattle.kinds.specs.Sizes.{geometryOf};
+ghost use Rattle.header.specs.Sized.{ImageSized, W};
+ghost use Rattle.theory.specs.Marks.{marks};
+ghost use Rattle.tables.specs.Work.{Wrote, Holds};
+ghost use Rattle.tables.specs.Views.{volumeOf};
+ghost use Rattle.minis.specs.Listed.{minisOf};
+ghost use Rattle.volume.specs.Passed.{SystemMarked, SystemLeft};
+ghost use Rattle.repair_owners.specs.Streams.{systemHolds, StreamsMarked, StreamsLeft, AllLeft};
+use chains::Length;
+use header::work_need;
+use kinds::Geometry;
+use le::zero_first;
+use minis::cells_rest;
+use owners::mark_large_streams;
+use owners::mark_small_streams;
+use repair_asks::directory_holds;
+use repair_asks::entries_hold;
+use repair_asks::tables_hold;
+use repair_writes::free_unowned;
+use tables::tables_of;
+use volume::mini_stage::System;
+use volume::mini_stage::SystemTables;
+
+// ---- marks
+
+// Copies the marks of the first n units to a place behind them.
+fn copy_marks(work: &mut [u32], n: usize, to: usize)
+    requires { ⌜ n ≤ to ⌝ }
+    requires { ⌜ to + n ≤ length (now work) ⌝ }
+    ensures wrote { λ _. ⌜ Wrote (now (work .entry)) (now (work .exit)) to n ⌝ }
+    ensures holds { λ _. ⌜ Holds (now (work .exit)) to n (marks (now (work .entry))) ⌝ }
+{
+    let mut u = 0;
+    while u < n {
+        work[to + u] = work[u];
+        u += 1;
+    }
+}
+
+// Group 17. Where it holds, the chains of all streams are marked beside those of the system, the sectors behind the mini sectors.
+fn mark_streams(img: &[u8], work: &mut [u32], s: System) -> bool
+    requires { ⌜ SystemMarked (s .tables) (s .directory) (s .minis) (now img) (now work) (s .shared) ⌝ }
+    ensures { λ r. ⌜ StreamsLeft s (now (img .entry)) (now (work .entry)) (now (work .exit)) r ⌝ }
+{
+    let large = mark_large_streams(img, work, s.tables, s.directory);
+    if large.is_broken() {
+        return false;
+    }
+    copy_marks(work, s.tables.sectors, 8 * (img.len() / 512));
+    zero_first(work, s.minis.units);
+    let small = mark_small_streams(img, work, s.minis, s.directory);
+    !small.is_broken()
+}
+
+// ---- what is asked
+
+// Groups 10 to 16 but for the mini FAT's cells from K on.
+fn system_holds(img: &[u8], work: &mut [u32], g: Geometry) -> SystemTables
+    requires { ⌜ ImageSized (geometryOf g) (now img) ⌝ }
+    requires { ⌜ W (now img) ≤ length (now work) ⌝ }
+    ensures { λ r. ⌜ SystemLeft g (now (img .entry)) (systemHolds (geometryOf g) (now (img .entry))) (now (work .entry)) (now (work .exit)) r ⌝ }
+{
+    zero_first(work, work_need(img.len()));
+    if !tables_hold(img, work, g) {
+        return SystemTables::Wrong;
+    }
+    let t = tables_of(img, g);
+    let Length::Is(n) = directory_holds(img, work, t) else {
+        return SystemTables::Wrong;
+    };
+    entries_hold(img, work, g, n)
+}
+
+// Groups 10 to 17. Where they hold, all chains are marked.
+fn streams_hold(img: &[u8], work: &mut [u32], g: Geometry) -> SystemTables
+    requires { ⌜ ImageSized (geometryOf g) (now img) ⌝ }
+    requires { ⌜ W (now img) ≤ length (now work) ⌝ }
+    ensures { λ r. ⌜ AllLeft g (now (img .entry)) (now (work .entry)) (now (work .exit)) r ⌝ }
+{
+    let SystemTables::Right(s) = system_holds(img, work, g) else {
+        return SystemTables::Wrong;
+    };
+    if !cells_rest(img, work, s.minis) {
+        return SystemTables::Wrong;
+    }
+    if !mark_streams(img, work, s) {
+        return SystemTables::Wrong;
+    }
+    SystemTables::Right(s)
+}
+
+// ---- what is written
+
+// The cells of units without a mark become free, in the FAT and in the mini FAT.
+fn free_cells(img: &mut [u8], work: &[u32], s: System)
+    requires { ⌜ StreamsMarked s (now img) (now work) ⌝ }
+    requires { ⌜ allBelow (minisOf (s .minis) (now img) .limit) (miniCellRight (minisOf (s .minis) (now img))) ≡ true ⌝ }
+    ensures { λ _. ⌜ now (img .exit) ≡ unownedFreed (volumeOf (s .tables .geometry) (now (img .entry))) (now (img .entry)) ⌝ }
+{
+    let t = s.tables;
+    let m = s.minis;
+    let at = 8 * (img.len() / 512);
+    free_unowned(img, work, t.geometry, t.list, t.sectors, at);
+    free_unowned(img, work, m.geometry, m.list, m.units, 0);
+}
+
+// The fourth step.
+pub fn free_owners(img: &mut [u8], work: &mut [u32], g: Geometry)
+    requires { ⌜ ImageSized (geometryOf g) (now img) ⌝ }
+    requires { ⌜ W (now img) ≤ length (now work) ⌝ }
+    ensures image { λ _. ⌜ now (img .exit) ≡ fourthStep (geometryOf g) (now (img .entry)) ⌝ }
+    ensures wrote { λ _. ⌜ Wrote (now (work .entry)) (now (work .exit)) 0 (workNeed (length (now (img .entry)))) ⌝ }
+{
+    let SystemTables::Right(s) = streams_hold(img, work, g) else {
+        return;
+    };
+    free_cells(img, work, s);
+}

@@ -1,0 +1,2 @@
+-- What the steps of a repair are called with.
+pub mod Passed

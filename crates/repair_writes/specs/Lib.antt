@@ -1,0 +1,2 @@
+-- What the writes of a repair require and leave.
+pub mod Cells
