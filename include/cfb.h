@@ -8,10 +8,11 @@
  * elements as its length says (where the length is 0, to anything but NULL; where it has no length, to one), and what a call
  * writes to must overlap nothing else that it is given.
  *
- * Every call but cfb_format looks at the whole image first and answers as cfb_validate does where it breaks a rule. Only
- * cfb_overwrite, cfb_set_len, cfb_create_stream, cfb_create_storage, cfb_remove and cfb_format change the image. After answers
- * 1 and 2 the work buffer is as it was; after any other its first CFB_WORK_NEED(image_len) numbers are zero and the rest is as
- * it was. After any answer but 0 the image and an out buffer are as they were, and every count, entry, type and size is 0.
+ * Every call but cfb_format and cfb_repair looks at the whole image first and answers as cfb_validate does where it breaks a
+ * rule. Only cfb_overwrite, cfb_set_len, cfb_create_stream, cfb_create_storage, cfb_remove, cfb_format and cfb_repair change
+ * the image. After answers 1 and 2 the work buffer is as it was; after any other its first CFB_WORK_NEED(image_len) numbers are
+ * zero and the rest is as it was. After any answer but 0 the image and an out buffer are as they were, and every count, entry,
+ * type and size is 0.
  *
  * A path is given in 16-bit units (UTF-16, in the machine's byte order) with their number, and no zero behind them. Its names
  * are parted by '/', with none at either end; the empty path is the root. Small and capital letters are the same: a to z,
@@ -33,8 +34,9 @@ extern "C" {
 #define CFB_DONE 0u
 #define CFB_BAD_LENGTH 1u  /* the length is no multiple of 512 from 1,536 to 67,108,864; in version 4 of 4,096 from 12,288;
                             * or it is another one than a fresh image's number of sectors says */
-#define CFB_SHORT_WORK 2u  /* the work buffer has fewer numbers than CFB_WORK_NEED says */
-#define CFB_HEADER 10u     /* 10 to 18: the first group of rules that the image breaks */
+#define CFB_SHORT_WORK 2u  /* the work buffer has fewer numbers than CFB_WORK_NEED says, or a repair's spare buffer fewer bytes
+                            * than the image */
+#define CFB_HEADER 10u     /* 10 to 18: the first group of rules that the image breaks, or that a repair leaves broken */
 #define CFB_TABLES 11u
 #define CFB_CELLS 12u
 #define CFB_DIRECTORY 13u
@@ -148,6 +150,27 @@ uint32_t cfb_list(const uint8_t *image, size_t image_len, uint32_t *work, size_t
  * cells, or the parts take more than N sectors. A refusal writes nothing. */
 uint32_t cfb_format(uint8_t *image, size_t image_len, uint32_t version, uint64_t sectors, uint64_t directory_sectors,
                     uint64_t mini_fat_sectors, uint64_t mini_sectors);
+
+/* Repairs an image that a power cut has bent: cells of FAT and mini FAT that stand for no sector or mini sector, or for one
+ * that nobody owns, become free, and the colours of the root, the storages and the streams become black. Nothing else is
+ * touched: no name, no link, no size, no chain, no byte of a stream. There are four steps, on a copy:
+ *
+ *     where 10 and 11 hold                               FAT cells behind the last sector's become free
+ *     where then 12 and 13 hold                          colours become black
+ *     where then 14, 15 and 16 hold, but for what        mini FAT cells behind the last mini sector's become free
+ *         is freed here
+ *     where then 10 to 17 hold                           cells of sectors and mini sectors that nobody owns become free
+ *
+ * The first that cannot be taken is the end of it. The answer is that of cfb_validate for the copy then. With 0 the copy takes
+ * the image's place, and the number of cells and colours that differ goes to changed: the image is accepted, and lists and
+ * holds what its directory named before. With 10 to 18 the image stays as it was, and changed is 0. An accepted image is
+ * answered 0 and gets black colours alone; a second repair changes nothing, and counts 0.
+ *
+ * The spare buffer has at least image_len bytes, which may hold anything; where it, or the work buffer, is shorter, the answer
+ * is 2. After 1 and 2 it is as it was; after any other answer its first image_len bytes are zero, and the rest is as it was.
+ * The time is linear in the image's length, whatever its bytes. */
+uint32_t cfb_repair(uint8_t *image, size_t image_len, uint32_t *work, size_t work_len, uint8_t *spare, size_t spare_len,
+                    uint64_t *changed);
 
 #ifdef __cplusplus
 }

@@ -4,8 +4,8 @@
  *
  * Compound files opened once, for many calls. Every call of cfb.h validates the whole image; here cfb_open does, once. Each
  * cfb_opened_X then has exactly the answer of cfb_X with the same arguments, its values, and its bytes in the image and the out
- * buffer; only the work buffer differs, which stays the volume's. Answers 1, 2 and 10 to 18 come from cfb_open alone. Only
- * cfb_format, which validates nothing, has no such form: it writes a new image, to be opened after it.
+ * buffer; only the work buffer differs, which stays the volume's. Answers 1, 2 and 10 to 18 come from cfb_open alone.
+ * Two have no such form, as they do not begin with a validation: cfb_format and cfb_repair, after which an image is opened.
  *
  * Of pointers the same is asked as in cfb.h. No pointer is kept, and nothing is allocated. cfb_opened_find and cfb_opened_read
  * write to none of the three.

@@ -3,11 +3,11 @@
 What the program reads, all numbers little-endian: groups of an image's length and its number of calls (4 bytes each), the image, the calls. A
 call is its kind, the units of its path, the numbers of its work buffer, the bytes of its buffer, how many of those are given (4 bytes each), and
 an offset or a length (8 bytes); then the path's units and the given bytes. Kinds: 0 validate, 1 find, 2 read, 3 list, 4 overwrite, 5 set length, 6 create
-stream, 7 create storage, 8 remove, 9 format. 4 writes all bytes of its buffer, all given, and 5 to 8 have none. The buffer of 9 has the plan, all given: the
+stream, 7 create storage, 8 remove, 9 format, 10 repair. 4 writes all bytes of its buffer, all given, and 5 to 8 have none. The buffer of 9 has the plan, all given: the
 version (4 bytes), N, the sectors of directory and mini FAT, and K (8 bytes each); with fewer bytes it is no call. It leaves buffer and work buffer as they
-are. The other bytes of a buffer are 90, and a work buffer is all 7.
+are. The buffer of 10 is the spare buffer. The other bytes of a buffer are 90, and a work buffer is all 7.
 
-What it prints for each call: number, entry, type, size, count, how many numbers of the work buffer are 0, and digests of the buffer and of the image.
+What it prints for each call: number, entry, type, size, count (of a repair how many cells and colours differ), how many numbers of the work buffer are 0, and digests of the buffer and of the image.
 Of what is no call it prints `unknown`, and ends."""
 import functools
 import itertools
@@ -18,8 +18,9 @@ from edits import Edited
 from letters import order
 from plain import Reader
 from plans import printed
+from repairs import repaired
 
-VALIDATE, FIND, READ, LIST, OVERWRITE, SET_LENGTH, CREATE_STREAM, CREATE_STORAGE, REMOVE, FORMAT = range(10)
+VALIDATE, FIND, READ, LIST, OVERWRITE, SET_LENGTH, CREATE_STREAM, CREATE_STORAGE, REMOVE, FORMAT, REPAIR = range(11)
 STORAGE, STREAM, ROOT = 1, 2, 5
 
 
@@ -44,15 +45,15 @@ def folded(path):
 
 class Group:
     """Calls on one image, with their lines. By the calls so far, `rows` has each stream's bytes, `entries` each path's entry number, `storages` the paths of
-    storages, and `image` the image's bytes."""
+    storages, and `image` the image's bytes. An image may be given with the plan that a repair brings it back to."""
 
     def __init__(self, plan=None, img=None):
         self.plan = plan
-        self.first = self.image = plan.image if plan else img
+        self.first = self.image = plan.image if img is None else img
         self.rows = dict(plan.streams) if plan else {}
         self.entries = dict(plan.entries) if plan else {}
         self.storages = set(plan.storages) if plan else set()
-        self.edited = Edited(plan.image) if plan else None
+        self.edited = Edited(plan.image) if plan and img is None else None
         self.root_size = plan.g.size(plan.root) if plan else 0
         self.calls, self.lines = [], []
 
@@ -61,7 +62,7 @@ class Group:
         need = 13 * (len(self.image) // 512)
         work = need + 3 if work is None else work
         text = units(path)
-        assert len(self.image) <= 65536 and work <= 2048 and len(text) // 2 <= 256 and len(given) <= room <= 8192
+        assert len(self.image) <= 65536 and work <= 2048 and len(text) // 2 <= 256 and len(given) <= room <= 65536
         self.calls.append(struct.pack("<IIIIIQ", kind, len(text) // 2, work, room, len(given), place) + text + given)
         before = given + bytes([90]) * (room - len(given))
         after = left + before[len(left):]
@@ -159,6 +160,16 @@ class Group:
             self.begins(fresh.image(*plan), 64 * minis)
         given = struct.pack("<IQQQQ", *plan)
         self.call(FORMAT, number, room=len(given), given=given)
+
+    def repair(self, number, spare=None, **more):
+        """With a spare buffer of so many bytes. Where nothing is refused, the image has the objects of the plan, and of the edits so far."""
+        spare, count = len(self.image) + 5 if spare is None else spare, 0
+        left = b"" if number in (1, 2) else bytes(len(self.image))
+        if number == 0:
+            image, count = repaired(self.image)
+            self.edited = Edited(image)
+            self.rearranged()
+        self.call(REPAIR, number, room=spare, count=count, left=left, **more)
 
     def begins(self, image, root_size):
         """A new first image, with nothing but a root."""

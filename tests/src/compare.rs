@@ -8,6 +8,7 @@ use crate::geometry::VERSIONS;
 #[cfg(feature = "library")]
 use crate::library;
 use crate::model::Model;
+use crate::volume::{validate, work_needed};
 use std::collections::BTreeMap;
 use std::rc::Rc;
 
@@ -98,11 +99,15 @@ impl Tally {
         if cfg!(not(feature = "library")) {
             println!("not compared with the library: every call");
         } else if cfg!(not(feature = "edits")) {
-            println!("not compared with the library: overwrite, set_len, create_*, remove, format, opened calls");
+            println!(
+                "not compared with the library: overwrite, set_len, create_*, remove, format, repair, opened calls"
+            );
         } else if cfg!(not(feature = "objects")) {
-            println!("not compared with the library: create_stream, create_storage, remove, format");
+            println!("not compared with the library: create_stream, create_storage, remove, format, repair");
         } else if cfg!(not(feature = "fresh")) {
-            println!("not compared with the library: format");
+            println!("not compared with the library: format, repair");
+        } else if cfg!(not(feature = "repair")) {
+            println!("not compared with the library: repair");
         }
         let opened = if cfg!(feature = "edits") { OPENED_ANSWERS } else { &[] };
         let rows = || ANSWERS.iter().chain(&CROSSINGS).chain(opened);
@@ -163,6 +168,7 @@ fn due(case: &Case) -> Result<After, String> {
         return Err(format!("independent lists otherwise than expected, which is {text:?}"));
     }
     let model = match (&case.model, &case.call) {
+        (rows, Call::Repair { .. }) => by_repair(rows.as_deref(), case, &outcome, &image)?,
         (Some(rows), _) => Some(by_rows(rows, case, &outcome, &image)?),
         (None, Call::Format(asked)) => in_any_buffer(asked, case, &outcome, &image)?,
         (None, _) => None,
@@ -179,7 +185,7 @@ fn by_rows(rows: &Model, case: &Case, outcome: &Outcome, image: &[u8]) -> Result
         return Err(format!("independent {answer} {values:?}, by the rows {} {:?}", due.answer, due.values));
     }
     model.holds_of(image)?;
-    effects::check(&case.call, outcome.answer, &case.image, image)?;
+    effects::check(&case.call, outcome, &case.image, image)?;
     Ok(Rc::new(model))
 }
 
@@ -190,9 +196,28 @@ fn in_any_buffer(asked: &Fresh, case: &Case, outcome: &Outcome, image: &[u8]) ->
     if due != outcome.answer {
         return Err(format!("independent {}, by the numbers asked for {due}", outcome.answer));
     }
-    effects::check(&case.call, outcome.answer, &case.image, image)?;
+    effects::check(&case.call, outcome, &case.image, image)?;
     if let Ok(model) = &model {
         model.holds_of(image)?;
     }
     Ok(model.ok().map(Rc::new))
+}
+
+/// The rows after a repair. A valid image is as its rows say; one that was repaired has the rows that its directory named already, all
+/// black.
+fn by_repair(rows: Option<&Model>, case: &Case, outcome: &Outcome, image: &[u8]) -> Result<Option<Rc<Model>>, String> {
+    let Some(rows) = rows else {
+        effects::check(&case.call, outcome, &case.image, image)?;
+        return Ok(None);
+    };
+    if validate(&case.image, work_needed(case.image.len())) == 0 {
+        return by_rows(rows, case, outcome, image).map(Some);
+    }
+    effects::check(&case.call, outcome, &case.image, image)?;
+    let mut model = rows.clone();
+    if outcome.answer == 0 {
+        model.blacken();
+        model.holds_of(image)?;
+    }
+    Ok(Some(Rc::new(model)))
 }

@@ -54,6 +54,7 @@ impl<'a> Rest<'a> {
             7 => Call::CreateStorage { path },
             8 => Call::Remove { path },
             9 => Call::Format(plan(&buffer)?),
+            10 => Call::Repair { spare: buffer.clone() },
             _ => return None,
         };
         Some((call, buffer, work_len))
@@ -74,8 +75,9 @@ fn plan(buffer: &[u8]) -> Option<Fresh> {
 fn line(call: &Call, buffer: &[u8], image: &mut [u8], work_len: usize) -> String {
     let Outcome { answer, values, out } = perform(call, image, work_len);
     let (found, count) = if matches!(call, Call::Find { .. }) { (values, 0) } else { ([0; 3], values[0]) };
-    let buffer = if matches!(call, Call::Read { .. } | Call::List { .. }) { &out } else { buffer };
-    let untouched = !call.validates() || answer == 1 || answer == 2;
+    let buffer =
+        if matches!(call, Call::Read { .. } | Call::List { .. } | Call::Repair { .. }) { &out } else { buffer };
+    let untouched = !call.has_work() || answer == 1 || answer == 2;
     let zeros = if untouched { 0 } else { work_needed(image.len()) };
     let [entry, kind, size] = found;
     format!("{answer} {entry} {kind} {size} {count} {zeros} {} {}\n", digest(buffer), digest(image))

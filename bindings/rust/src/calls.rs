@@ -4,8 +4,8 @@
 //! them all:
 //! - Each is not null, is aligned, and points to as many elements as its length says. Of an empty slice the pointer is
 //!   dangling but not null, which is enough: nothing is read or written through it.
-//! - What a call writes (the work buffer, an out buffer, the image of an edit, the values) overlaps nothing else: these are
-//!   `&mut`. Where an image and a path are only read, they may overlap: nobody writes them during the call.
+//! - What a call writes (the work buffer, an out or spare buffer, the image of an edit, the values) overlaps nothing else:
+//!   these are `&mut`. Where an image and a path are only read, they may overlap: nobody writes them during the call.
 //! - It lives until the call ends. The library keeps no pointer.
 
 #![allow(unsafe_code)]
@@ -98,6 +98,15 @@ extern "C" {
         directory_sectors: u64,
         mini_fat_sectors: u64,
         mini_sectors: u64,
+    ) -> u32;
+    fn cfb_repair(
+        image: *mut u8,
+        image_len: usize,
+        work: *mut u32,
+        work_len: usize,
+        spare: *mut u8,
+        spare_len: usize,
+        changed: *mut u64,
     ) -> u32;
 }
 
@@ -192,4 +201,15 @@ pub fn format(image: &mut [u8], plan: Plan) -> u32 {
     let Plan { version, sectors, directory_sectors, mini_fat_sectors, mini_sectors } = plan;
     // SAFETY: a slice, which is written and lent to this call alone. Any numbers may be given.
     unsafe { cfb_format(image, image_len, version, sectors, directory_sectors, mini_fat_sectors, mini_sectors) }
+}
+
+/// The answer, and how many cells and colours differ.
+pub fn repair(image: &mut [u8], work: &mut [u32], spare: &mut [u8]) -> (u32, u64) {
+    let (image, image_len) = (image.as_mut_ptr(), image.len());
+    let (work, work_len) = (work.as_mut_ptr(), work.len());
+    let (spare, spare_len) = (spare.as_mut_ptr(), spare.len());
+    let mut changed = 0;
+    // SAFETY: three slices, which are written and lent to this call alone, and a value.
+    let answer = unsafe { cfb_repair(image, image_len, work, work_len, spare, spare_len, &mut changed) };
+    (answer, changed)
 }

@@ -9,10 +9,10 @@
 //! [`path()`] makes one. Small and capital letters are the same: a to z, U+00E0 to U+00FF but U+00F7, U+03B1 to U+03C9 but
 //! U+03C2, U+0430 to U+045F, and their capitals. No other units are.
 //!
-//! Every call but [`format()`] validates the whole image first, and refuses it as [`validate`] does. Only [`overwrite`],
-//! [`set_len`], [`create_stream`], [`create_storage`], [`remove`] and [`format()`] change it. After a refusal the image and
-//! an out buffer are as they were. The work buffer is as it was after [`Refusal::BadLength`] and [`Refusal::ShortWork`];
-//! else its first [`work_need`] numbers are zero, and the rest is as it was.
+//! Every call but [`format()`] and [`repair`] validates the whole image first, and refuses it as [`validate`] does. Only
+//! [`overwrite`], [`set_len`], [`create_stream`], [`create_storage`], [`remove`], [`format()`] and [`repair`] change it.
+//! After a refusal the image and an out buffer are as they were. The work buffer is as it was after [`Refusal::BadLength`]
+//! and [`Refusal::ShortWork`]; else its first [`work_need`] numbers are zero, and the rest is as it was.
 //!
 //! ```
 //! use gyomrelas::{find, path, work_need, Kind, Refusal};
@@ -185,4 +185,38 @@ pub fn list(image: &[u8], work: &mut [u32], out: &mut [u8]) -> Result<usize, Ref
 /// ```
 pub fn format(image: &mut [u8], plan: Plan) -> Result<(), Refusal> {
     answered(calls::format(image, plan))
+}
+
+/// Repairs an image that a power cut has bent, and gives the number of cells and colours that differ. Cells of FAT and mini
+/// FAT that stand for no sector or mini sector, or for one that nobody owns, become free, and the colours of the root, the
+/// storages and the streams become black. Nothing else is touched. Then the image is accepted, and lists and holds what its
+/// directory named before. An accepted image gets black colours alone, and a second repair gives 0.
+///
+/// There are four steps, on a copy: where groups 10 and 11 hold, FAT cells behind the last sector's become free; where then
+/// 12 and 13 hold, colours become black; where then 14, 15 and the rest of 16 hold, mini FAT cells behind the last mini
+/// sector's become free; where then 10 to 17 hold, cells without an owner become free. The first that cannot be taken is the
+/// end of it. The copy takes the image's place if [`validate`] accepts it.
+///
+/// The spare buffer has at least the image's length, and may hold anything. After [`Refusal::BadLength`] and
+/// [`Refusal::ShortWork`] it is as it was; else as many of its bytes as the image has are zero, and the rest is as it was.
+///
+/// Refusals: 1; 2, where the work buffer or the spare buffer is too short; and 10 to 18, the first group of rules that is
+/// still broken after the steps. Then the image is as it was.
+///
+/// ```
+/// use gyomrelas::{repair, validate, work_need, Refusal};
+///
+/// let mut image = std::fs::read("../../samples/site.cfb").expect("the sample is there");
+/// let mut work = vec![0; work_need(image.len())];
+/// let mut spare = vec![0; image.len()];
+/// // the FAT's last cell stands for no sector, and should be free
+/// image[1020] = 5;
+/// assert_eq!(validate(&image, &mut work), Err(Refusal::Cells));
+/// assert_eq!(repair(&mut image, &mut work, &mut spare), Ok(1));
+/// assert_eq!(validate(&image, &mut work), Ok(()));
+/// # Ok::<(), Refusal>(())
+/// ```
+pub fn repair(image: &mut [u8], work: &mut [u32], spare: &mut [u8]) -> Result<u64, Refusal> {
+    let (answer, changed) = calls::repair(image, work, spare);
+    answered(answer).map(|()| changed)
 }

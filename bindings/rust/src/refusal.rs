@@ -33,7 +33,7 @@ macro_rules! refusals {
 
 refusals! {
     1 BadLength "the image's length is no multiple of 512 from 1,536 to 67,108,864; in version 4 of 4,096 from 12,288; or not the plan's"
-    2 ShortWork "the work buffer is too short"
+    2 ShortWork "the work buffer or the spare buffer is too short"
     10 Header "the image breaks a rule on the header"
     11 Tables "the image breaks a rule on the sectors of the tables"
     12 Cells "the image breaks a rule on the tables' cells"

@@ -1,22 +1,23 @@
 //! harness SEED [IMAGES [CALLS [LISTS]]]   all cases: random images to validate, random calls, random lists of calls, as
-//!                                         many lists on opened volumes and on fresh images, and listings read back, one for
-//!                                         ten lists
+//!                                         many lists on opened volumes, on fresh images and on repaired ones, and listings
+//!                                         read back, one for ten lists
 //! harness SEED only KIND NUMBER           one case again: KIND is fixed, samples, small, large, tables, calls, deep, filled,
-//!                                         crowded, lists, opened, formatted, listed
+//!                                         crowded, lists, opened, formatted, repaired, listed
 
 use cfb_tests::breaks::uses::Uses;
 use cfb_tests::calls::{ANSWERS, CROSSINGS, OPENED_ANSWERS};
 #[cfg(feature = "edits")]
 use cfb_tests::cases::opened;
 use cfb_tests::cases::{
-    Case, calls::Calls, crowded, deep, filled, fixed, formatted, large, listed, lists, samples, small::Cases, tables,
+    Case, calls::Calls, crowded, deep, filled, fixed, formatted, large, listed, lists, repaired, samples, small::Cases,
+    tables,
 };
 use cfb_tests::compare::Tally;
 
 /// So many random images use every break.
 const ENOUGH: u64 = 100_000;
 /// So many random calls get every answer.
-const ENOUGH_CALLS: u64 = 20_000;
+const ENOUGH_CALLS: u64 = 100_000;
 /// With so many lists, too, every call on an opened volume.
 const ENOUGH_LISTS: u64 = 1_000;
 /// For so many lists one listing is read back and its paths are found, which takes some hundred calls.
@@ -76,6 +77,9 @@ fn all(seed: u64, images: u64, calls: u64, list_count: u64) -> Tally {
     for number in 0..list_count {
         formatted::run(seed, number, false, &mut tally);
     }
+    for number in 0..list_count {
+        repaired::run(seed, number, false, &mut tally);
+    }
     for number in 0..list_count / LISTS_FOR_A_LISTING {
         listed::run(seed, number, false, &mut tally);
     }
@@ -115,6 +119,10 @@ fn one(seed: u64, kind: &str, number: u64) -> Tally {
     }
     if kind == "formatted" {
         formatted::run(seed, number, true, &mut tally);
+        return tally;
+    }
+    if kind == "repaired" {
+        repaired::run(seed, number, true, &mut tally);
         return tally;
     }
     if kind == "listed" {

@@ -9,6 +9,7 @@ pub mod patch;
 pub mod path;
 pub mod read;
 pub mod remove;
+pub mod repair;
 pub mod set_length;
 pub mod siblings;
 pub mod stream;
@@ -18,7 +19,7 @@ use crate::volume::{Volume, admit, version};
 use format::Fresh;
 use patch::Patch;
 
-/// A call with its path, numbers and bytes to be written, and the first content of its out buffer.
+/// A call with its path, numbers and bytes to be written, and the first content of its out buffer or spare buffer.
 #[derive(Clone, PartialEq, Debug)]
 pub enum Call {
     Validate,
@@ -31,15 +32,16 @@ pub enum Call {
     CreateStorage { path: Vec<u16> },
     Remove { path: Vec<u16> },
     Format(Fresh),
+    Repair { spare: Vec<u8> },
 }
 
 /// What a call hands back.
 #[derive(Clone, PartialEq, Debug)]
 pub struct Outcome {
     pub answer: u32,
-    /// Of a find the entry number, kind and size; of a read and a listing the count, and zeros.
+    /// Of a find the entry number, kind and size; of a read, a listing and a repair the count, and zeros.
     pub values: [u64; 3],
-    /// The out buffer after the call.
+    /// The out buffer after the call; of a repair the spare buffer.
     pub out: Vec<u8>,
 }
 
@@ -63,10 +65,12 @@ impl Call {
             Call::CreateStorage { .. } => "create_storage",
             Call::Remove { .. } => "remove",
             Call::Format(_) => "format",
+            Call::Repair { .. } => "repair",
         }
     }
 
-    /// The name of the call on an opened volume; to open is to validate, and a fresh image is written when it is closed.
+    /// The name of the call on an opened volume; to open is to validate, and a fresh image is written and an image repaired when it is
+    /// closed.
     pub fn opened_name(&self) -> &'static str {
         match self {
             Call::Validate => "open",
@@ -79,11 +83,17 @@ impl Call {
             Call::CreateStorage { .. } => "opened create_storage",
             Call::Remove { .. } => "opened remove",
             Call::Format(_) => "format",
+            Call::Repair { .. } => "repair",
         }
     }
 
-    /// Whether the call looks at the image, and is lent a work buffer.
+    /// Whether the call validates the image before all else. Then it has a form on an opened volume.
     pub fn validates(&self) -> bool {
+        !matches!(self, Call::Format(_) | Call::Repair { .. })
+    }
+
+    /// Whether it is lent a work buffer.
+    pub fn has_work(&self) -> bool {
         !matches!(self, Call::Format(_))
     }
 
@@ -92,10 +102,10 @@ impl Call {
         if let Call::Format(asked) = self { asked.geometry().major } else { version(image).major }
     }
 
-    /// The first content of the out buffer; empty where there is none.
+    /// The first content of the out buffer or of the spare buffer; empty where there is none.
     pub fn out(&self) -> &[u8] {
         match self {
-            Call::Read { out, .. } | Call::List { out } => out,
+            Call::Read { out, .. } | Call::List { out } | Call::Repair { spare: out } => out,
             _ => &[],
         }
     }
@@ -117,6 +127,7 @@ pub const ANSWERS: &Answers = &[
     ("create_storage", &[0, 1, 2, 10, 11, 12, 13, 14, 15, 16, 17, 18, 20, 21, 22, 29, 30]),
     ("remove", &[0, 1, 2, 10, 11, 12, 13, 14, 15, 16, 17, 18, 20, 21, 22, 28, 31]),
     ("format", &[0, 1, 32]),
+    ("repair", &[0, 1, 2, 10, 11, 12, 13, 14, 15, 16, 17, 18]),
 ];
 
 /// Changes of length over the cutoff, which are counted by themselves too (W-201).
@@ -147,6 +158,9 @@ pub fn perform(call: &Call, image: &mut [u8], work_len: usize) -> Outcome {
         return Outcome::of(format::format(asked, image), Vec::new());
     }
     let mut out = call.out().to_vec();
+    if let Call::Repair { .. } = call {
+        return Outcome::of(repair::repair(image, work_len, &mut out), out);
+    }
     let result = admit(image, work_len).and_then(|volume| done(call, &volume, &mut out));
     let result = result.map(|(values, patches)| {
         patch::apply(image, patches);
@@ -172,7 +186,7 @@ fn done(call: &Call, volume: &Volume, out: &mut [u8]) -> Result<([u64; 3], Vec<P
         Call::CreateStream { path } => patches = create::create(volume, path, STREAM)?,
         Call::CreateStorage { path } => patches = create::create(volume, path, STORAGE)?,
         Call::Remove { path } => patches = remove::remove(volume, path)?,
-        Call::Format(_) => panic!("no call on what the image holds"),
+        Call::Format(_) | Call::Repair { .. } => panic!("no call on a valid image"),
     }
     Ok((values, patches))
 }
@@ -194,6 +208,7 @@ impl std::fmt::Display for Call {
                 write!(f, "{} {:?}", self.name(), text(path))
             }
             Call::Format(asked) => write!(f, "{asked:?}"),
+            Call::Repair { spare } => write!(f, "repair, spare {}", spare.len()),
         }
     }
 }

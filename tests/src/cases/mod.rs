@@ -3,6 +3,7 @@
 pub mod calls;
 pub mod crowded;
 pub mod cutoff;
+pub mod damage;
 pub mod deep;
 pub mod filled;
 pub mod fixed;
@@ -21,6 +22,8 @@ pub mod objects;
 #[cfg(feature = "edits")]
 pub mod opened;
 pub mod papers;
+pub mod repair;
+pub mod repaired;
 pub mod samples;
 pub mod sectors;
 pub mod siblings;

@@ -22,7 +22,7 @@ fn cases_of_fresh_images() {
             number += 1;
         });
     }
-    tally.ask_for_every_answer(&ANSWERS[9..]);
+    tally.ask_for_every_answer(&ANSWERS[9..10]);
     assert!(tally.passed > 1_500 && tally.failed == 0, "{}", tally.passed);
 }
 

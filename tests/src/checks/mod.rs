@@ -8,6 +8,7 @@ mod objects;
 mod plain_owners;
 mod plain_siblings;
 mod plain_tree;
+mod repair;
 mod samples;
 mod sizes;
 mod versions;

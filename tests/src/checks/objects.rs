@@ -2,7 +2,7 @@
 
 use super::plain_siblings::Plain;
 use crate::breaks::edit::{CHILD, LEFT, RIGHT};
-use crate::calls::{ANSWERS, Call, perform};
+use crate::calls::{ANSWERS, Call, Outcome, perform};
 use crate::cases::siblings::{self, NAMES, hang, trees};
 use crate::cases::{crowded, new_names, object_lists, objects};
 use crate::compare::Tally;
@@ -140,6 +140,7 @@ fn a_stream_is_cut_and_removed() {
 /// Of all trees that the objects left could have, the properties allow the one that the call leaves, and no other.
 #[test]
 fn one_tree_is_left_by_a_removal() {
+    let done = Outcome::of(Ok([0; 3]), Vec::new());
     for (g, tree) in VERSIONS.into_iter().flat_map(|g| trees(0, 4).into_iter().map(move |tree| (g, tree))) {
         let sample = siblings::site(g, 4, &tree, 0);
         let entries: Vec<u32> = sample.layout.nodes[2..6].iter().map(|node| node.entry).collect();
@@ -151,7 +152,7 @@ fn one_tree_is_left_by_a_removal() {
                 let mut changed = Sample { image: image.clone(), layout: sample.layout.clone() };
                 hang(&mut changed, sample.layout.nodes[1].entry, &left, other);
                 assert_eq!(validate(&changed.image, work_needed(image.len())), 0);
-                let allowed = effects::check(&call, 0, &sample.image, &changed.image).is_ok();
+                let allowed = effects::check(&call, &done, &sample.image, &changed.image).is_ok();
                 assert!(!allowed || changed.image == image);
                 allowed
             });

@@ -15,6 +15,7 @@ pub fn call(model: &Model, r: &mut Random) -> Call {
         6..9 => Call::CreateStorage { path: paths::new(model, r) },
         9..16 => Call::Remove { path: paths::old(model, r) },
         16 => Call::Format(fresh::asked(model.bytes(), r)),
+        17 => Call::Repair { spare: spare(model.bytes(), r) },
         _ => on_streams(model, r),
     }
 }
@@ -64,6 +65,18 @@ fn set_length(model: &Model, r: &mut Random) -> Call {
 fn size(model: &Model, path: &[u16], r: &mut Random) -> u64 {
     let meant = model.meant(path).ok().and_then(|row| model.rows[row].bytes.as_ref());
     meant.map_or_else(|| r.below(5_000) as u64, |bytes| bytes.len() as u64)
+}
+
+/// A spare buffer for an image of this length: mostly exactly enough, often more, sometimes too short.
+pub fn spare(needed: usize, r: &mut Random) -> Vec<u8> {
+    let len = match r.below(30) {
+        0 => 0,
+        1 => needed.saturating_sub(1),
+        2 => r.index(needed),
+        3..9 => needed + r.between(1, 600) as usize,
+        _ => needed,
+    };
+    noise(len, r)
 }
 
 fn noise(len: usize, r: &mut Random) -> Vec<u8> {

@@ -1,17 +1,19 @@
-//! What a call does to a valid image, and a fresh one to any, stated as properties of the image before and after, not as a way to get there.
+//! What a call does to a valid image, and a fresh one and a repair to any, stated as properties of the image before and after, not as a
+//! way to get there.
 
 mod fresh;
 mod lengths;
 mod objects;
+mod repair;
 
-use crate::calls::Call;
+use crate::calls::{Call, Outcome};
 use crate::volume::entry::{STORAGE, STREAM};
 use lengths::Seen;
 
 /// The error says which property does not hold.
-pub fn check(call: &Call, answer: u32, before: &[u8], after: &[u8]) -> Result<(), &'static str> {
+pub fn check(call: &Call, outcome: &Outcome, before: &[u8], after: &[u8]) -> Result<(), &'static str> {
     let changed = match call {
-        _ if answer != 0 => Vec::new(),
+        _ if outcome.answer != 0 => Vec::new(),
         Call::Overwrite { path, offset, bytes } => {
             Seen::of(before, path).stream().pieces(*offset, *offset + bytes.len() as u64).collect()
         }
@@ -20,6 +22,7 @@ pub fn check(call: &Call, answer: u32, before: &[u8], after: &[u8]) -> Result<()
         Call::CreateStorage { path } => objects::created(before, after, path, STORAGE)?,
         Call::Remove { path } => objects::removed(before, after, path)?,
         Call::Format(asked) => fresh::written(after, asked)?,
+        Call::Repair { .. } => repair::repaired(before, after, outcome.values[0])?,
         _ => Vec::new(),
     };
     let mut put_back = after.to_vec();

@@ -107,14 +107,27 @@ unsafe extern "C" {
     ) -> u32;
 }
 
+#[cfg(feature = "repair")]
+unsafe extern "C" {
+    fn cfb_repair(
+        image: *mut u8,
+        image_len: usize,
+        work: *mut u32,
+        work_len: usize,
+        spare: *mut u8,
+        spare_len: usize,
+        changed: *mut u64,
+    ) -> u32;
+}
+
 /// The library's answer for an image that it may not change.
 pub fn validate(image: &[u8], work: &mut [u32]) -> u32 {
     // A slice's pointer is not null, aligned, and good for its length.
     unsafe { cfb_validate(image.as_ptr(), image.len(), work.as_mut_ptr(), work.len()) }
 }
 
-/// The library's answer, and the values that it wrote; None for a function that is not linked. The out buffer is the one
-/// lent here, not the call's own.
+/// The library's answer, and the values that it wrote; None for a function that is not linked. The out buffer, of
+/// a repair the spare buffer, is the one lent here, not the call's own.
 pub fn call(call: &Call, image: &mut [u8], work: &mut [u32], out: &mut [u8]) -> Option<(u32, [u64; 3])> {
     let (image, image_len) = (image.as_mut_ptr(), image.len());
     let (work, work_len) = (work.as_mut_ptr(), work.len());
@@ -157,7 +170,9 @@ pub fn call(call: &Call, image: &mut [u8], work: &mut [u32], out: &mut [u8]) -> 
         Call::Format(Fresh { version, sectors, directory, mini_fat, minis }) => unsafe {
             cfb_format(image, image_len, *version, *sectors, *directory, *mini_fat, *minis)
         },
-        #[cfg(not(feature = "fresh"))]
+        #[cfg(feature = "repair")]
+        Call::Repair { .. } => unsafe { cfb_repair(image, image_len, work, work_len, out, out_len, count) },
+        #[cfg(not(feature = "repair"))]
         _ => return None,
     };
     Some((answer, values.of(call)))

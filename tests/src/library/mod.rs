@@ -31,7 +31,7 @@ pub fn check(case: &Case, due: &After) -> Result<(), String> {
     let mut work = Lent::new(&first_work, 16, || noise.word());
     let mut out = Lent::new(case.call.out(), noise.index(16), || noise.byte());
     let Some(done) = functions::call(&given, image.part(), work.part(), out.part()) else { return Ok(()) };
-    let work_after = match case.call.validates() {
+    let work_after = match case.call.has_work() {
         true => work_after(first_work, case.image.len(), due.outcome.answer),
         false => first_work,
     };

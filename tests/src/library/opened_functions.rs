@@ -129,7 +129,7 @@ pub fn opened_call(
     let Values { entry, kind, size, count } = &mut values;
     // A slice's pointer is not null, aligned, and good for its length.
     let answer = match call {
-        Call::Validate | Call::Format(_) => panic!("no call on an opened volume"),
+        Call::Validate | Call::Format(_) | Call::Repair { .. } => panic!("no call on an opened volume"),
         Call::Find { path } => unsafe {
             let (path, path_len) = (path.as_ptr(), path.len());
             cfb_opened_find(image, image_len, work, work_len, volume, path, path_len, entry, kind, size)

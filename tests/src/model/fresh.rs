@@ -31,7 +31,7 @@ impl Model {
         if !carried_out {
             return Err(32);
         }
-        let root = Row { path: Vec::new(), key: Vec::new(), entry: 0, bytes: None };
+        let root = Row { path: Vec::new(), key: Vec::new(), entry: 0, red: false, bytes: None };
         let blanks = (1..directory as u32 * g.entries as u32).collect();
         Ok(Model { geometry: g, rows: vec![root], sectors, minis, fixed: fixed as u64, blanks })
     }

@@ -9,7 +9,7 @@ use crate::volume::chains::Chains;
 use crate::volume::entry::{BLANK, STREAM};
 
 impl Model {
-    /// The image is valid, has exactly the rows' paths and bytes in their entries, and as many units are taken as the rows need.
+    /// The image is valid, has exactly the rows' paths, bytes and colours in their entries, and as many units are taken as the rows need.
     pub fn holds_of(&self, image: &[u8]) -> Result<(), String> {
         let volume = Volume::open(image).map_err(|group| format!("image broken in group {group}"))?;
         let taken = Units { sectors: taken(&volume.sectors), minis: taken(&volume.mini.chains) };
@@ -26,6 +26,10 @@ impl Model {
             if path != row.path || entry as u32 != row.entry || bytes(&volume, entry) != row.bytes {
                 return Err(format!("object {i} of the listing is not its row"));
             }
+        }
+        let is_red = |entry: u32| volume.directory.entry(entry as usize).is_red();
+        if let Some(row) = self.rows.iter().find(|row| is_red(row.entry) != row.red) {
+            return Err(format!("entry {} has the other colour", row.entry));
         }
         let blank = |entry: &usize| volume.directory.entry(*entry).kind() == BLANK;
         let blanks = (0..volume.directory.count()).filter(blank).map(|entry| entry as u32);

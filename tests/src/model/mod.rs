@@ -6,8 +6,10 @@ mod fresh;
 mod holds;
 mod lines;
 mod objects;
+mod repair;
 pub mod room;
 
+use crate::breaks::edit::COLOUR;
 use crate::calls::{Call, Outcome};
 use crate::geometry::Geometry;
 use crate::images::Sample;
@@ -24,6 +26,7 @@ pub struct Row {
     /// The same as they are compared.
     key: Vec<(usize, Vec<u16>)>,
     entry: u32,
+    red: bool,
     /// None for a storage and the root.
     pub bytes: Option<Vec<u8>>,
 }
@@ -53,7 +56,8 @@ impl Model {
                 path.push(node.name.clone());
             }
             let key = key(&path);
-            rows.push(Row { path, key, entry: node.entry, bytes: first_bytes(g, &sample.image, &minis, node) });
+            let red = sample.image[layout.entry(node.entry) + COLOUR] == 0;
+            rows.push(Row { path, key, entry: node.entry, red, bytes: first_bytes(g, &sample.image, &minis, node) });
         }
         let system = [&layout.fat, &layout.difat, &layout.directory, &layout.mini_fat, &layout.mini_stream];
         let fixed = system.into_iter().map(|part| part.len() as u64).sum();
@@ -64,7 +68,7 @@ impl Model {
     /// What the call hands back, on an image that is valid.
     pub fn perform(&mut self, call: &Call, work_len: usize) -> Outcome {
         let mut out = call.out().to_vec();
-        let too_short = call.validates() && work_len < 13 * self.bytes() / 512;
+        let too_short = call.has_work() && work_len < 13 * self.bytes() / 512;
         let result = if too_short { Err(2) } else { self.done(call, &mut out) };
         Outcome::of(result, out)
     }
@@ -88,6 +92,7 @@ impl Model {
             Call::CreateStorage { path } => self.create(path, None),
             Call::Remove { path } => self.remove(path),
             Call::Format(asked) => self.format(asked),
+            Call::Repair { .. } => self.repair(out),
         }
     }
 

@@ -19,7 +19,7 @@ impl Model {
         }
         // Its number is what a find gives.
         let entry = self.blanks.pop_first().ok_or(30u32)?;
-        self.rows.push(Row { path, key, entry, bytes });
+        self.rows.push(Row { path, key, entry, red: false, bytes });
         Ok([0; 3])
     }
 
@@ -34,6 +34,10 @@ impl Model {
         }
         let row = self.rows.remove(at);
         self.blanks.insert(row.entry);
+        // Those that were in the same tree.
+        let (_, holder) = row.key.split_last().expect("not the root");
+        let sibling = |other: &&mut Row| other.key.split_last().is_some_and(|(_, before)| before == holder);
+        self.rows.iter_mut().filter(sibling).for_each(|other| other.red = false);
         Ok([0; 3])
     }
 

@@ -11,11 +11,24 @@ pub struct Mini {
     pub stream: Vec<u32>,
     /// Over the K cells that count.
     pub chains: Chains,
+    /// Whether those from K on are free.
+    rest_free: bool,
 }
 
 impl Mini {
     /// None if group 16 is broken.
     pub fn read(g: Geometry, image: &[u8], header: &Header, directory: &Directory, sectors: &Chains) -> Option<Mini> {
+        Mini::read_but_rest(g, image, header, directory, sectors).filter(|mini| mini.rest_free)
+    }
+
+    /// The same without the cells from K on.
+    pub fn read_but_rest(
+        g: Geometry,
+        image: &[u8],
+        header: &Header,
+        directory: &Directory,
+        sectors: &Chains,
+    ) -> Option<Mini> {
         let fat_count = header.mini_fat_count as u64;
         let (start, size) = (directory.root().start(), directory.root().size());
         let count = size / MINI_SECTOR;
@@ -31,7 +44,7 @@ impl Mini {
         let all = words(&g.gather(image, &fat));
         let (cells, rest) = all.split_at(count as usize);
         let allowed = |&cell: &u32| (cell as u64) < count || cell == END || cell == FREE;
-        let cells_hold = cells.iter().all(allowed) && rest.iter().all(|&cell| cell == FREE);
-        cells_hold.then(|| Mini { fat, stream, chains: Chains::new(cells) })
+        let rest_free = rest.iter().all(|&cell| cell == FREE);
+        cells.iter().all(allowed).then(|| Mini { fat, stream, chains: Chains::new(cells), rest_free })
     }
 }

@@ -1,6 +1,6 @@
 //! The calls on samples/site.cfb: a storage Site with the streams log (5,000 bytes) and Jets (70 bytes), no sector and no
 //! mini sector free. What holds for any image is tried on samples/nested.cfb too, and on samples/site4.cfb, which has the
-//! same objects in version 4. Fresh images are written over noise, and over these.
+//! same objects in version 4. Fresh images are written over noise, and over these; what is repaired is one of them, bent.
 
 mod created;
 mod edits;
@@ -12,6 +12,7 @@ mod plans;
 mod queries;
 mod readme;
 mod refusals;
+mod repaired;
 mod sizes;
 mod streams;
 mod versions;

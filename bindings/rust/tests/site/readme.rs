@@ -18,6 +18,7 @@ fn the_uses_from_rust_are_the_examples() {
         include_str!("../../examples/first.rs"),
         include_str!("../../examples/volume.rs"),
         include_str!("../../examples/fresh.rs"),
+        include_str!("../../examples/repair.rs"),
     ];
     assert_eq!(blocks("rust"), examples);
 }
