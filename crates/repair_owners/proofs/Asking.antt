@@ -1,6 +1,6 @@
 -- What the fourth step asks, test by test.
 use Prim.Native.Nat.{ℕ, _≤_}
-use mathlib.Core.Path.{_≡_, refl, sym, ap, _∙_, subst}
+use mathlib.Core.Path.{_≡_, refl, sym, ap}
 use mathlib.Core.Bool.{Bool, true, false, _&&_}
 use mathlib.Core.List.{List}
 use native.Mathlib.Omega.{arith}
@@ -8,7 +8,8 @@ use lib.Dec.{leb}
 use lib.ListN.{length}
 use Rattle.format.specs.Basics.Bytes.{Bytes}
 use Rattle.format.specs.Basics.Lists.{allBelow}
-use Rattle.format.specs.Layout.Volume.{Volume, volume, miniSpace}
+use Rattle.format.specs.Layout.Geometry.{Geometry}
+use Rattle.format.specs.Layout.Volume.{Volume, volume}
 use Rattle.format.specs.Rules.Cells.{restFree}
 use Rattle.format.specs.Rules.Entries.{entryRules}
 use Rattle.format.specs.Rules.Trees.{treeRules}
@@ -22,6 +23,7 @@ use Rattle.kinds.specs.Sizes.{geometryOf}
 use Rattle.format.specs.Calls.Buffers.{workCleared}
 use Rattle.header.specs.Sized.{ImageSized, W}
 use Rattle.tables.specs.Work.{Wrote, WorkClear}
+use Rattle.tables.specs.Views.{volumeOf}
 use Rattle.tables.proofs.WorkLaws.{wrote-cleared, wrote-two}
 use Rattle.minis.specs.Listed.{minisOf}
 use Rattle.volume.specs.Passed.{SystemLeft}
@@ -29,8 +31,9 @@ use Rattle.volume.specs.declared.mini_stage.System.{System}
 use Rattle.volume.specs.declared.mini_stage.SystemTables.{SystemTables}
 use Rattle.volume.specs.declared.mini_stage.SystemTables.the-variants.{Wrong, Right}
 use Rattle.volume.proofs.Verdicts.{clear-start}
-use Rattle.repair_laws.proofs.Heads.{streams-minis}
-use Rattle.repair_owners.specs.Streams.{systemHolds, StreamsMarked, StreamsLeft, AllRight, AllLeft}
+use Rattle.volume.proofs.MiniStage.{system-tables, system-minis}
+use Rattle.repair_laws.proofs.Heads.{entries-minis}
+use Rattle.repair_owners.specs.Streams.{systemHolds, StreamsLeft, streamsFreed}
 
 -- ---- a cleared work buffer
 
@@ -72,57 +75,50 @@ regroup true true false d e f h = refl
 regroup true true true false e f h = refl
 regroup true true true true e f h = refl
 
-module _ (g : Sizes) (img : Bytes) where
+module _ (g : Geometry) (img : Bytes) where
   abbrev vg : Volume
-  vg = volume (geometryOf g) img
+  vg = volume g img
 
-  all-is : streamsHold (geometryOf g) img ≡ ((systemHolds (geometryOf g) img && restFree (vg .minis)) && streamRules vg)
+  all-is : streamsHold g img ≡ ((systemHolds g img && restFree (vg .minis)) && streamRules vg)
   unfolding streamsHold entriesHold miniRules
-  all-is =
-      regroup (tablesHold (geometryOf g) img) (directoryHolds vg) (entryRules (vg .directory)) (treeRules (vg .directory)) (miniTables vg) (restFree (vg .minis)) (streamRules vg)
+  all-is = regroup (tablesHold g img) (directoryHolds vg) (entryRules (vg .directory)) (treeRules (vg .directory)) (miniTables vg) (restFree (vg .minis)) (streamRules vg)
 
-  pub system-breaks : {w w₁ : List ℕ} → systemHolds (geometryOf g) img ≡ false → Wrote w w₁ 0 (workNeed (length img)) → AllLeft g img w w₁ Wrong
-  system-breaks h o = record { answer = all-is ∙ rw h; wrote = o }
+  -- a group before 17 is broken
+  pub system-breaks : systemHolds g img ≡ false → img ≡ fourthStep g img
+  unfolding fourthStep
+  system-breaks h = sym (rw (all-is, h))
 
-  module _ (h : systemHolds (geometryOf g) img ≡ true) where
-    pub rest-breaks : {w w₁ : List ℕ} → restFree (vg .minis) ≡ false → Wrote w w₁ 0 (workNeed (length img)) → AllLeft g img w w₁ Wrong
-    rest-breaks f o = record { answer = all-is ∙ rw (h, f); wrote = o }
+  module _ (h : systemHolds g img ≡ true) where
+    pub rest-breaks : restFree (vg .minis) ≡ false → img ≡ fourthStep g img
+    unfolding fourthStep
+    rest-breaks f = sym (rw (all-is, h, f))
 
     -- group 17 decides
-    module _ (f : restFree (vg .minis) ≡ true) {w w₁ w₂ : List ℕ} (o : Wrote w w₁ 0 (workNeed (length img))) {s : System} (e : s .tables .geometry ≡ g) {r : Bool} (l : StreamsLeft s img w₁ w₂ r) where
-      decides : streamsHold (geometryOf g) img ≡ r
-      decides = all-is ∙ rw (h, f) (sym (l .answer ∙ ap (λ q. streamRules (volume (geometryOf q) img)) e))
-
-      pub streams-break : r ≡ false → AllLeft g img w w₂ Wrong
-      streams-break q = record { answer = decides ∙ q; wrote = wrote-two o (l .wrote) }
-
-      pub streams-right : r ≡ true → AllLeft g img w w₂ (Right s)
-      streams-right q = record { answer = (decides ∙ q, (e, l .marked q)); wrote = wrote-two o (l .wrote) }
-
--- ---- the step
-
-module _ {g : Sizes} {img : Bytes} {w w₁ : List ℕ} {r : SystemTables} (l : AllLeft g img w w₁ r) where
-  pub not-taken : r ≡ Wrong → img ≡ fourthStep (geometryOf g) img
-  unfolding fourthStep
-  not-taken e = sym (rw (subst (λ y. AllRight g img w₁ y) e (l .answer)))
-
-  module _ {s : System} (e : r ≡ Right s) where
-    found : (streamsHold (geometryOf g) img ≡ true) × ((s .tables .geometry ≡ g) × StreamsMarked s img w₁)
-    found = subst (λ y. AllRight g img w₁ y) e (l .answer)
-
-    pub all-marked : StreamsMarked s img w₁
-    all-marked = found .1 .1
-
-    -- the values of the mini FAT's cells below K
-    pub mini-cells : allBelow (minisOf (s .minis) img .limit) (miniCellRight (minisOf (s .minis) img)) ≡ true
-    unfolding volume
-    mini-cells =
-        let q = volume (geometryOf g) img in
-        let k = ap (λ c. miniSpace (geometryOf c) img) (all-marked .lists .same ∙ found .1 .0) in
-        rw k
-        (both (miniFatChain q && miniStreamChain q && leb (q .minis .limit) (q .minis .cells)) (allBelow (q .minis .limit) (miniCellRight (q .minis)))
-        (streams-minis (geometryOf g) img (found .0)) .1)
-
-    pub taken : unownedFreed (volume (geometryOf (s .tables .geometry)) img) img ≡ fourthStep (geometryOf g) img
+    pub streams-decide : restFree (vg .minis) ≡ true → streamsFreed vg img ≡ fourthStep g img
     unfolding fourthStep
-    taken = ap (λ q. unownedFreed (volume (geometryOf q) img) img) (found .1 .0) ∙ sym (rw (found .0))
+    streams-decide f = sym (rw (all-is, h, f))
+
+  pub system-entries : systemHolds g img ≡ true → entriesHold vg ≡ true
+  system-entries h = both (tablesHold g img && directoryHolds vg) (entriesHold vg) h .1
+
+-- ---- what the tables that were found are called with, and what they leave
+
+module _ {g : Sizes} {img : Bytes} {b : Bool} {w w₁ : List ℕ} {r : SystemTables} (l : SystemLeft g img b w w₁ r) {s : System} (e : r ≡ Right s) where
+  -- the values of the mini FAT's cells below K
+  pub mini-cells : entriesHold (volume (geometryOf g) img) ≡ true → allBelow (minisOf (s .minis) img .limit) (miniCellRight (minisOf (s .minis) img)) ≡ true
+  mini-cells h =
+      let q = volume (geometryOf g) img in
+      rw (system-minis l e)
+      (both (miniFatChain q && miniStreamChain q && leb (q .minis .limit) (q .minis .cells)) (allBelow (q .minis .limit) (miniCellRight (q .minis))) (entries-minis q h) .1)
+
+  pub freed-own : streamsFreed (volumeOf (s .tables .geometry) img) img ≡ streamsFreed (volume (geometryOf g) img) img
+  freed-own = ap (λ t. streamsFreed (volumeOf (t .geometry) img) img) (system-tables l e)
+
+-- ---- group 17 and the cells
+
+module _ {s : System} {img : Bytes} {w w₁ : List ℕ} {r : Bool} (l : StreamsLeft s img w w₁ r) where
+  pub streams-stay : r ≡ false → img ≡ streamsFreed (volumeOf (s .tables .geometry) img) img
+  streams-stay e = sym (rw (← l .answer, e))
+
+  pub streams-freed : r ≡ true → unownedFreed (volumeOf (s .tables .geometry) img) img ≡ streamsFreed (volumeOf (s .tables .geometry) img) img
+  streams-freed e = sym (rw (← l .answer, e))

@@ -1,18 +1,17 @@
 -- The chains of all streams are marked beside those of the system.
 use Prim.Native.Nat.{ℕ, _*_, _/_}
 use mathlib.Core.Path.{_≡_}
-use mathlib.Core.Bool.{Bool, true, false, _&&_}
+use mathlib.Core.Bool.{Bool, true, cond, _&&_}
 use mathlib.Core.List.{List, _++_}
 use lib.ListN.{length}
 use Rattle.format.specs.Basics.Bytes.{Bytes}
 use Rattle.format.specs.Basics.Lists.{joinBelow}
 use Rattle.format.specs.Layout.Geometry.{Geometry}
-use Rattle.format.specs.Layout.Volume.{volume}
+use Rattle.format.specs.Layout.Volume.{Volume, volume}
 use Rattle.format.specs.Rules.Length.{workNeed}
 use Rattle.format.specs.Rules.Owners.{ownSectors, ownedMinis}
 use Rattle.format.specs.Rules.Streams.{streamRules}
-use Rattle.format.specs.Calls.RepairSteps.{tablesHold, directoryHolds, entriesHold, streamsHold}
-use Rattle.kinds.specs.declared.Geometry.{Geometry as Sizes}
+use Rattle.format.specs.Calls.RepairSteps.{tablesHold, directoryHolds, entriesHold, unownedFreed}
 use Rattle.kinds.specs.Sizes.{geometryOf}
 use Rattle.tables.specs.Work.{Wrote}
 use Rattle.tables.specs.Views.{volumeOf, sectorCountOf}
@@ -20,8 +19,6 @@ use Rattle.minis.specs.Listed.{minisOf}
 use Rattle.system_chains.specs.System.{systemChains}
 use Rattle.volume.specs.Passed.{ListsStand}
 use Rattle.volume.specs.declared.mini_stage.System.{System}
-use Rattle.volume.specs.declared.mini_stage.SystemTables.{SystemTables}
-use Rattle.volume.specs.declared.mini_stage.SystemTables.the-variants.{Wrong, Right}
 use Rattle.repair_writes.specs.Cells.{MarksSay}
 
 -- groups 10 to 16 but for the mini FAT's cells from K on
@@ -48,11 +45,6 @@ pub record StreamsLeft (s : System) (img : Bytes) (before after : List ℕ) (r :
   pub marked : r ≡ true → StreamsMarked s img after
   pub wrote : Wrote before after 0 (workNeed (length img))
 
--- groups 10 to 17 hold, with the lists of the image's own tables and the marks of all chains; or one is broken
-abbrev pub AllRight : Sizes → Bytes → List ℕ → SystemTables → Type 0
-AllRight g img work Wrong = streamsHold (geometryOf g) img ≡ false
-AllRight g img work (Right s) = (streamsHold (geometryOf g) img ≡ true) × ((s .tables .geometry ≡ g) × StreamsMarked s img work)
-
-pub record AllLeft (g : Sizes) (img : Bytes) (before after : List ℕ) (r : SystemTables) : Type 0 where
-  pub answer : AllRight g img after r
-  pub wrote : Wrote before after 0 (workNeed (length img))
+-- what is left of the fourth step where groups 10 to 16 hold
+abbrev pub streamsFreed : Volume → Bytes → Bytes
+streamsFreed v img = cond (streamRules v) (unownedFreed v img) img

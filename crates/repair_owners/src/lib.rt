@@ -15,7 +15,7 @@ ghost use Rattle.tables.specs.Work.{Wrote, Holds};
 ghost use Rattle.tables.specs.Views.{volumeOf};
 ghost use Rattle.minis.specs.Listed.{minisOf};
 ghost use Rattle.volume.specs.Passed.{SystemMarked, SystemLeft};
-ghost use Rattle.repair_owners.specs.Streams.{systemHolds, StreamsMarked, StreamsLeft, AllLeft};
+ghost use Rattle.repair_owners.specs.Streams.{systemHolds, StreamsMarked, StreamsLeft, streamsFreed};
 use chains::Length;
 use header::work_need;
 use kinds::Geometry;
@@ -81,24 +81,6 @@ fn system_holds(img: &[u8], work: &mut [u32], g: Geometry) -> SystemTables
     entries_hold(img, work, g, n)
 }
 
-// Groups 10 to 17. Where they hold, all chains are marked.
-fn streams_hold(img: &[u8], work: &mut [u32], g: Geometry) -> SystemTables
-    requires { ⌜ ImageSized (geometryOf g) (now img) ⌝ }
-    requires { ⌜ W (now img) ≤ length (now work) ⌝ }
-    ensures { λ r. ⌜ AllLeft g (now (img .entry)) (now (work .entry)) (now (work .exit)) r ⌝ }
-{
-    let SystemTables::Right(s) = system_holds(img, work, g) else {
-        return SystemTables::Wrong;
-    };
-    if !cells_rest(img, work, s.minis) {
-        return SystemTables::Wrong;
-    }
-    if !mark_streams(img, work, s) {
-        return SystemTables::Wrong;
-    }
-    SystemTables::Right(s)
-}
-
 // ---- what is written
 
 // The cells of units without a mark become free, in the FAT and in the mini FAT.
@@ -114,6 +96,18 @@ fn free_cells(img: &mut [u8], work: &[u32], s: System)
     free_unowned(img, work, m.geometry, m.list, m.units, 0);
 }
 
+// Group 17 and the cells: where it holds, those of units that nobody owns become free. The chains of the system are marked.
+pub fn free_marked(img: &mut [u8], work: &mut [u32], s: System)
+    requires { ⌜ SystemMarked (s .tables) (s .directory) (s .minis) (now img) (now work) (s .shared) ⌝ }
+    requires { ⌜ allBelow (minisOf (s .minis) (now img) .limit) (miniCellRight (minisOf (s .minis) (now img))) ≡ true ⌝ }
+    ensures image { λ _. ⌜ now (img .exit) ≡ streamsFreed (volumeOf (s .tables .geometry) (now (img .entry))) (now (img .entry)) ⌝ }
+    ensures wrote { λ _. ⌜ Wrote (now (work .entry)) (now (work .exit)) 0 (workNeed (length (now (img .entry)))) ⌝ }
+{
+    if mark_streams(img, work, s) {
+        free_cells(img, work, s);
+    }
+}
+
 // The fourth step.
 pub fn free_owners(img: &mut [u8], work: &mut [u32], g: Geometry)
     requires { ⌜ ImageSized (geometryOf g) (now img) ⌝ }
@@ -121,8 +115,10 @@ pub fn free_owners(img: &mut [u8], work: &mut [u32], g: Geometry)
     ensures image { λ _. ⌜ now (img .exit) ≡ fourthStep (geometryOf g) (now (img .entry)) ⌝ }
     ensures wrote { λ _. ⌜ Wrote (now (work .entry)) (now (work .exit)) 0 (workNeed (length (now (img .entry)))) ⌝ }
 {
-    let SystemTables::Right(s) = streams_hold(img, work, g) else {
+    let SystemTables::Right(s) = system_holds(img, work, g) else {
         return;
     };
-    free_cells(img, work, s);
+    if cells_rest(img, work, s.minis) {
+        free_marked(img, work, s);
+    }
 }

@@ -7,7 +7,6 @@ use lib.ListN.{length}
 use Rattle.format.specs.Basics.Bytes.{Bytes}
 use Rattle.format.specs.Layout.Geometry.{Geometry, sectorCount, cellsIn}
 use Rattle.format.specs.Layout.Volume.{volume, directorySectorsOf}
-use Rattle.format.specs.Rules.Directory.{directoryRules}
 use Rattle.format.specs.Calls.RepairSteps.{directoryHolds, restFreed, blackened}
 use Rattle.kinds.specs.declared.Geometry.{Geometry as Sizes}
 use Rattle.kinds.specs.Sizes.{geometryOf}
@@ -20,14 +19,14 @@ use Rattle.volume.specs.declared.mini_stage.System.{System}
 use Rattle.volume.specs.declared.mini_stage.SystemTables.{SystemTables}
 use Rattle.volume.specs.declared.mini_stage.SystemTables.the-variants.{Right}
 use Rattle.volume.proofs.MiniStage.{system-tables, system-marked}
-use Rattle.repair_asks.proofs.Asked.{directory-says}
+use Rattle.repair_asks.proofs.Asked.{tables-say, directory-says}
 use Rattle.repair_laws.specs.Tables.{Tabled}
 use Rattle.repair_laws.proofs.Tabled.{tabled-of, first-tables}
 use Rattle.repair_laws.proofs.Blackening.{second-tables}
-use Rattle.repair_laws.proofs.StepRules.{first-rules, second-rules, second-dirs, second-directory}
+use Rattle.repair_laws.proofs.StepRules.{first-holds, second-holds, second-dirs, second-directory}
 use Rattle.repair_writes.specs.Cells.{tableIn, TableRoom}
 use Rattle.repair_writes.proofs.Tables.{fat-rest, mini-room, mini-rest}
-use Rattle.repair_steps.specs.Passed.{TablesPassed}
+use Rattle.repair_steps.specs.Passed.{TablesPassed, DirectoryPassed}
 use Rattle.repair_steps.proofs.SameLists.{sizes, listed-same}
 
 module _ (s : Sizes) {A : Bytes} {w : List ℕ} (p : TablesPassed (geometryOf s) A w) where
@@ -35,7 +34,7 @@ module _ (s : Sizes) {A : Bytes} {w : List ℕ} (p : TablesPassed (geometryOf s)
   g = geometryOf s
 
   tables : Tabled g A
-  tables = tabled-of g A (p .listed .sized .long) (p .listed .sized .few) (p .tables)
+  tables = tabled-of g A (p .listed .sized .long) (p .listed .sized .few) (tables-say g A (p .tables))
 
   -- ---- the first step
 
@@ -47,27 +46,30 @@ module _ (s : Sizes) {A : Bytes} {w : List ℕ} (p : TablesPassed (geometryOf s)
   pub first-passed : {B : Bytes} → B ≡ restFreed (volume g A .sectors) A → TablesPassed g B w
   first-passed e =
       let k = first-tables g (sizes (p .listed .sized)) A tables in
-      rw e (record { listed = listed-same k (p .listed); whole = rw (k .size) (p .whole); tables = first-rules g (sizes (p .listed .sized)) A tables ∙ p .tables })
+      rw e (record { listed = listed-same k (p .listed); whole = rw (k .size) (p .whole); tables = first-holds g (sizes (p .listed .sized)) A tables ∙ p .tables })
 
   -- ---- the second
 
   module _ (h : directoryHolds (volume g A) ≡ true) {n : ℕ} (c : n ≡ length (directorySectorsOf g A)) where
-    chained : directoryRules (volume g A) ≡ true
-    chained = directory-says g A h
-
     pub second-asked : TablesHold g A w n
-    second-asked = record { listed = p .listed; whole = p .whole; tables = p .tables; chained = chained; count = c }
+    second-asked = record { listed = p .listed; whole = p .whole; tables = tables-say g A (p .tables); chained = directory-says g A h; count = c }
 
-    pub second-passed : {B : Bytes} {w′ : List ℕ} → B ≡ blackened (volume g A) A → FatListedAt g A w′ (sectorCount g A) (listPlace A) → length w′ ≡ length w → TablesHold g B w′ n
+    pub second-passed : {B : Bytes} {w′ : List ℕ} → B ≡ blackened (volume g A) A → FatListedAt g A w′ (sectorCount g A) (listPlace A) → length w′ ≡ length w → DirectoryPassed g B w′ n
     second-passed e l q =
         let z = sizes (p .listed .sized) in
         let k = second-tables g z A tables h .0 in
+        let t = second-holds g z A tables h ∙ p .tables in
+        let d = second-directory g z A tables h ∙ h in
         rw e (record {
-          listed = listed-same k l;
-          whole = rw (k .size, q) (p .whole);
-          tables = second-rules g z A tables h ∙ p .tables;
-          chained = second-directory g z A tables h ∙ chained;
-          count = c ∙ ap length (sym (second-dirs g z A tables h));
+          tables = t;
+          directory = d;
+          hold = record {
+            listed = listed-same k l;
+            whole = rw (k .size, q) (p .whole);
+            tables = tables-say g (blackened (volume g A) A) t;
+            chained = directory-says g (blackened (volume g A) A) d;
+            count = c ∙ ap length (sym (second-dirs g z A tables h));
+          };
         })
 
 -- ---- the third

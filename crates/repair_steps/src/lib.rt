@@ -6,14 +6,15 @@ ghost use Rattle.format.specs.Calls.RepairSteps.{thirdStep, secondStep, repaire
 ghost use Rattle.kinds.specs.Sizes.{geometryOf};
 ghost use Rattle.header.specs.Sized.{ImageSized};
 ghost use Rattle.tables.specs.Work.{Wrote, WorkClear};
-ghost use Rattle.volume.specs.Passed.{TablesHold};
-ghost use Rattle.repair_steps.specs.Passed.{TablesPassed};
+ghost use Rattle.repair_steps.specs.Passed.{TablesPassed, DirectoryPassed};
 use chains::Length;
 use header::fat_count;
 use kinds::Geometry;
+use minis::cells_rest;
 use repair_asks::directory_holds;
 use repair_asks::entries_hold;
 use repair_asks::tables_hold;
+use repair_owners::free_marked;
 use repair_owners::free_owners;
 use repair_writes::blacken_entries;
 use repair_writes::free_rest;
@@ -23,7 +24,7 @@ use volume::mini_stage::SystemTables;
 
 // Steps 3 and 4.
 fn repair_entries(img: &mut [u8], work: &mut [u32], g: Geometry, n: usize)
-    requires { ⌜ TablesHold (geometryOf g) (now img) (now work) n ⌝ }
+    requires { ⌜ DirectoryPassed (geometryOf g) (now img) (now work) n ⌝ }
     ensures image { λ _. ⌜ now (img .exit) ≡ thirdStep (geometryOf g) (now (img .entry)) ⌝ }
     ensures wrote { λ _. ⌜ Wrote (now (work .entry)) (now (work .exit)) 0 (workNeed (length (now (img .entry)))) ⌝ }
 {
@@ -31,6 +32,12 @@ fn repair_entries(img: &mut [u8], work: &mut [u32], g: Geometry, n: usize)
         return;
     };
     let m = s.minis;
+    // Where the third step has nothing to write, groups 10 to 16 hold already.
+    let idle = cells_rest(img, work, m);
+    if idle {
+        free_marked(img, work, s);
+        return;
+    }
     let cells = g.cells() * m.sectors;
     free_rest(img, work, g, m.list, m.units, cells);
     free_owners(img, work, g);

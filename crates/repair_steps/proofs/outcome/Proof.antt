@@ -15,7 +15,6 @@ use Rattle.tables.proofs.WorkLaws.{wrote-two}
 use Rattle.volume.proofs.Verdicts.{tables-wrote}
 use Rattle.repair_writes.proofs.Tables.{fat-room}
 use Rattle.repair_steps.specs.Passed.{TablesPassed}
-use Rattle.repair_asks.proofs.Asked.{tables-say}
 use Rattle.repair_steps.proofs.Steps.{first-taken, first-left}
 use Rattle.repair_steps.proofs.Passing.{first-is, first-passed}
 use Rattle.repair_steps.proofs.outcome.Statement.{statement}
@@ -27,7 +26,7 @@ passed c =
     record {
       listed = t .tables-hold .ensures .1 .listed (not-false _ (c .if1 .left));
       whole = omega (arith, c .before .before .before .before .before .before .before .before .pre .1 .room, t .tables-hold .kept .1 .0);
-      tables = tables-say _ _ (said-yes (c .if1 .left) (t .tables-hold .ensures .0));
+      tables = said-yes (c .if1 .left) (t .tables-hold .ensures .0);
     }
 
 -- how many cells the FAT has, as the code works it out
