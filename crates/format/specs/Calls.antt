@@ -10,10 +10,12 @@ pub mod Create
 pub mod Remove
 pub mod Text
 pub mod Listing
+pub mod Cursor
 pub mod Call
 pub mod Answer
 pub mod Reply
 pub mod Buffers
 pub mod RepairSteps
 pub mod Repair
+pub mod CursorMoves
 pub mod Program

@@ -5,5 +5,6 @@ pub mod Search
 pub mod PathOrder
 pub mod ListingText
 pub mod Listing
+pub mod Cursor
 pub mod Fresh
 pub mod Repair

@@ -9,6 +9,7 @@ pub mod Folding
 pub mod Versions
 pub mod Finds
 pub mod Reads
+pub mod Cursors
 pub mod SmallLengths
 pub mod LargeLengths
 pub mod Crossings

@@ -16,7 +16,7 @@ use Rattle.format.specs.Rules.Entries.{entryRules}
 use Rattle.format.specs.Rules.Verdict.{verdict}
 use Rattle.format.specs.Calls.Paths.{Path, pushFront, split, names, namesBefore}
 use Rattle.format.specs.Calls.Find.{Child, missing, present, orElse, childNamed, Found, at, refused, foundChild, enter, descend, resolve, resolveStream, resolveParent}
-use Rattle.format.specs.Calls.Call.{Call, validate, find, read, overwrite, setLength, create, remove, list, workOf}
+use Rattle.format.specs.Calls.Call.{Call, validate, find, read, overwrite, setLength, create, remove, list, readAt, workOf}
 use Rattle.format.specs.Calls.Answer.{firstOf, target, targetAnswer, answerIn, answer}
 use Rattle.format.specs.Calls.Reply.{plain, onZero, done, replyBy}
 use Rattle.format.specs.Claims.Folding.{steadyUnit, steadyNames, plainUnit}
@@ -153,6 +153,7 @@ module _ (g : Geometry) (v : Volume) (fields : entryRules (v .directory) ≡ tru
   answer-same (create made path work) h = rw (former-parent (v .directory) fields ok path h, former-resolve (v .directory) fields ok path h)
   answer-same (remove path work) h = rw (former-resolve (v .directory) fields ok path h)
   answer-same (list out work) h = refl
+  answer-same (readAt entry position out work) h = refl
 
   done-same : (call : Call) → all steadyUnit (pathOf call) ≡ true → formerDone v call ≡ done v call
   unfolding formerDone done target pathOf
@@ -164,6 +165,7 @@ module _ (g : Geometry) (v : Volume) (fields : entryRules (v .directory) ≡ tru
   done-same (create made path work) h = refl
   done-same (remove path work) h = refl
   done-same (list out work) h = refl
+  done-same (readAt entry position out work) h = refl
 
 pub keeps-reply : (g : Geometry) → KeepsReply g
 unfolding formerReply formerAnswer replyBy answer firstOf onZero volume

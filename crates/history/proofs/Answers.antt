@@ -21,7 +21,8 @@ use Rattle.format.specs.Calls.Paths.{Path}
 use Rattle.format.specs.Calls.Find.{Found, at, refused, resolve, resolveStream, answerOf, entryOf}
 use Rattle.format.specs.Calls.SetLength.{tooFew}
 use Rattle.format.specs.Calls.Listing.{listing}
-use Rattle.format.specs.Calls.Call.{Call, validate, find, read, overwrite, setLength, create, remove, list, workOf}
+use Rattle.format.specs.Calls.Cursor.{streamAnswer}
+use Rattle.format.specs.Calls.Call.{Call, validate, find, read, overwrite, setLength, create, remove, list, readAt, workOf}
 use Rattle.format.specs.History.Rows.{Row, rowsOf, hasRow, rowLength}
 use Rattle.format.specs.History.Setting.{Setting, settingOf}
 use Rattle.format.specs.History.State.{State, stateIn}
@@ -191,6 +192,7 @@ module _ (g : Geometry) (pos : 0 < g .sectorBytes) (img : Bytes) (acc : Accepted
   answers-0-iff (create made p work) h = create-iff g pos img acc sized made p work
   answers-0-iff (remove p work) h = remove-iff g pos img acc sized p work
   answers-0-iff (list out work) h = absurd (clash h refl)
+  answers-0-iff (readAt entry position out work) h = absurd (clash h refl)
 
   other-not-26 : (c : Call) → (n : ℕ) → answerIn g v c ≡ n → n ≢ 26 → answer g img c ≢ 26
   unfolding answer
@@ -198,7 +200,7 @@ module _ (g : Geometry) (pos : 0 < g .sectorBytes) (img : Bytes) (acc : Accepted
       work-first-not-26 (leb (workNeed (length img)) (length (workOf c))) n h (sym (ap₂ firstOf (verdict-accepted g img (length (workOf c)) acc) e) ∙ z)
 
   pub answers-26-iff : (c : Call) → (answer g img c ≡ 26) ↔ (answers26 st c ≡ true)
-  unfolding answers26 answerIn targetAnswer beyond
+  unfolding answers26 answerIn targetAnswer beyond streamAnswer
   answers-26-iff (validate work) = iff-never _ 26 false (other-not-26 (validate work) 0 refl (omega arith)) refl
   answers-26-iff (find p work) = iff-never _ 26 false (other-not-26 (find p work) _ refl (refused-not-26 (resolve (v .directory) p) (resolve-low (v .directory) p))) refl
   answers-26-iff (read p offset out work) =
@@ -214,3 +216,8 @@ module _ (g : Geometry) (pos : 0 < g .sectorBytes) (img : Bytes) (acc : Accepted
   answers-26-iff (remove p work) = iff-never _ 26 false (other-not-26 (remove p work) _ refl (remove-not-26 (v .directory) (resolve (v .directory) p) (resolve-low (v .directory) p))) refl
   answers-26-iff (list out work) =
       iff-never _ 26 false (other-not-26 (list out work) _ refl (cond-not-26 (ltb (length out) (length (listing (v .directory)))) 27 0 (omega arith) (omega arith))) refl
+  answers-26-iff (readAt entry position out work) =
+      iff-never _ 26 false (other-not-26 (readAt entry position out work) _ refl
+      (first-not-26 (streamAnswer v entry) _
+      (cond-not-26 (ltb entry (v .directory .count) && isStream (v .directory .entry entry)) 0 33 (omega arith) (omega arith))
+      (cond-not-26 (ltb (streamSize v entry) position) 24 0 (omega arith) (omega arith)))) refl

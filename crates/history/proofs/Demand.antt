@@ -24,7 +24,7 @@ use Rattle.format.specs.Calls.Find.{Found, at, refused, resolveStream, answerOf
 use Rattle.format.specs.Calls.SetLength.{crosses, tooFew, resized}
 use Rattle.format.specs.Calls.Move.{moved, lengthChanged}
 use Rattle.format.specs.Calls.Overwrite.{overwritten}
-use Rattle.format.specs.Calls.Call.{Call, validate, find, read, overwrite, setLength, create, remove, list}
+use Rattle.format.specs.Calls.Call.{Call, validate, find, read, overwrite, setLength, create, remove, list, readAt}
 use Rattle.format.specs.Calls.Buffers.{edited, imageAfterBy, imageAfter}
 use Rattle.format.specs.History.Rows.{rowsOf}
 use Rattle.format.specs.History.Setting.{settingOf}
@@ -155,6 +155,7 @@ module _ (g : Geometry) (pos : 0 < g .sectorBytes) (fr : Frame g) (img : Bytes) 
   accepted-step (create made p work) h a = create-answered-0 g pos fr img acc made p work a
   accepted-step (remove p work) h a = remove-answered-0 g pos fr img acc p work a
   accepted-step (list out work) h a = absurd (clash h refl)
+  accepted-step (readAt entry position out work) h a = absurd (clash h refl)
 
   edit-call : (c : Call) → isEdit c ≡ true → CallStep g img c
   unfolding imageAfterBy stateStep onZero
@@ -185,6 +186,7 @@ module _ (g : Geometry) (pos : 0 < g .sectorBytes) (fr : Frame g) (img : Bytes) 
   call-step (create made p work) = edit-call (create made p work) refl
   call-step (remove p work) = edit-call (remove p work) refl
   call-step (list out work) = other-call (list out work) refl refl
+  call-step (readAt entry position out work) = other-call (readAt entry position out work) refl refl
 
 -- ---- every list of events: a call reads the image's version, and that stays, as it does in a repair; a fresh image brings its own
 

@@ -10,7 +10,7 @@ use lib.Dec.{eqb, ltb, leb}
 use lib.ListN.{length}
 use Rattle.format.specs.Basics.Bytes.{Bytes}
 use Rattle.format.specs.Layout.Geometry.{Geometry}
-use Rattle.format.specs.Layout.Entry.{isStorage}
+use Rattle.format.specs.Layout.Entry.{isStorage, isStream}
 use Rattle.format.specs.Layout.Directory.{Directory, blanks}
 use Rattle.format.specs.Layout.Tree.{isEmpty}
 use Rattle.format.specs.Layout.Volume.{Volume, volume}
@@ -22,7 +22,8 @@ use Rattle.format.specs.Calls.Paths.{Path}
 use Rattle.format.specs.Calls.SetLength.{tooFew}
 use Rattle.format.specs.Calls.Listing.{listing}
 use Rattle.format.specs.Calls.Find.{Found, at, refused, answerOf, resolve, resolveStream, resolveParent}
-use Rattle.format.specs.Calls.Call.{Call, validate, find, read, overwrite, setLength, create, remove, list, workOf}
+use Rattle.format.specs.Calls.Call.{Call, validate, find, read, overwrite, setLength, create, remove, list, readAt, workOf}
+use Rattle.format.specs.Calls.Cursor.{streamAnswer}
 use Rattle.format.specs.Calls.Answer.{firstOf, target, targetAnswer, beyond, lengthAnswer, createAnswer, removeAnswer, answerIn, answer}
 use Rattle.format.specs.Calls.Reply.{replyBy}
 use Rattle.format.specs.Calls.Buffers.{workCleared, imageAfterBy, outAfterBy, workAfterBy}
@@ -80,6 +81,10 @@ late-remove d (at e b) h =
     late-either (isStorage (d .entry e) && not (isEmpty b)) 28 _ (inr (omega arith)) (late-either (eqb e 0) 31 0 (inr (omega arith)) (inl refl))
 late-remove d (refused a) h = inr (h .0)
 
+late-stream : (v : Volume) (e : ℕ) → Late (streamAnswer v e)
+unfolding streamAnswer
+late-stream v e = late-either (ltb e (v .directory .count) && isStream (v .directory .entry e)) 0 33 (inl refl) (inr (omega arith))
+
 late : (g : Geometry) (v : Volume) (c : Call) → Late (answerIn g v c)
 unfolding answerIn
 late g v (validate work) = inl refl
@@ -91,6 +96,8 @@ late g v (setLength path new work) = late-first (targetAnswer v path) (lengthAns
 late g v (create made path work) = late-create (v .directory) path
 late g v (remove path work) = late-remove (v .directory) (resolve (v .directory) path) (resolve-low (v .directory) path)
 late g v (list out work) = late-either (ltb (length out) (length (listing (v .directory)))) 27 0 (inr (omega arith)) (inl refl)
+late g v (readAt entry position out work) =
+    late-first (streamAnswer v entry) (beyond (streamSize v entry) position) (late-stream v entry) (late-beyond (streamSize v entry) position)
 
 -- ---- the call, where the verdict is 0
 

@@ -6,7 +6,7 @@ use Rattle.format.specs.Basics.Bytes.{Bytes}
 use Rattle.format.specs.Layout.Geometry.{Geometry}
 use Rattle.format.specs.Layout.Volume.{Volume, volume}
 use Rattle.format.specs.Calls.Paths.{Path}
-use Rattle.format.specs.Calls.Call.{Call, validate, find, read, overwrite, setLength, create, remove, list}
+use Rattle.format.specs.Calls.Call.{Call, validate, find, read, overwrite, setLength, create, remove, list, readAt}
 use Rattle.format.specs.Calls.Answer.{answer}
 use Rattle.format.specs.Calls.Reply.{plain, foundReply, counted, done, onZero, replyBy}
 use Rattle.format.specs.Calls.Buffers.{edited, imageAfterBy}
@@ -22,6 +22,7 @@ done-number v (setLength path new work) = refl
 done-number v (create made path work) = refl
 done-number v (remove path work) = refl
 done-number v (list out work) = refl
+done-number v (readAt entry position out work) = refl
 
 module _ (g : Geometry) (img : Bytes) where
   pub reply-number : (call : Call) → replyBy g img call .number ≡ answer g img call
@@ -43,3 +44,7 @@ module _ (g : Geometry) (img : Bytes) where
         → (imageAfterBy g img (validate work) ≡ img) × ((imageAfterBy g img (find path work) ≡ img) × ((imageAfterBy g img (read path offset out work) ≡ img) × (imageAfterBy g img (list out work) ≡ img)))
     unfolding imageAfterBy edited
     reading-keeps path offset out = (kept _, (kept _, (kept _, kept _)))
+
+    pub reading-at-keeps : (entry position : ℕ) (out : Bytes) → imageAfterBy g img (readAt entry position out work) ≡ img
+    unfolding imageAfterBy edited
+    reading-at-keeps entry position out = kept _

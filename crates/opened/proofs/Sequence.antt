@@ -12,7 +12,7 @@ use Rattle.format.specs.Rules.Length.{workNeed}
 use Rattle.format.specs.Rules.Version.{versionOf}
 use Rattle.format.specs.Rules.Verdict.{verdict}
 use Rattle.format.specs.Calls.Paths.{Path}
-use Rattle.format.specs.Calls.Call.{Call, validate, find, read, overwrite, setLength, create, remove, list, workOf, outOf}
+use Rattle.format.specs.Calls.Call.{Call, validate, find, read, overwrite, setLength, create, remove, list, readAt, workOf, outOf}
 use Rattle.format.specs.Calls.Answer.{answerIn}
 use Rattle.format.specs.Calls.Reply.{Reply, plain, reply, done, onZero}
 use Rattle.format.specs.Calls.Buffers.{workCleared, edited, handedOut, imageAfter, outAfter, outAfterBy, workAfter}
@@ -26,7 +26,7 @@ use Rattle.volume.proofs.Opening.{cleared-same}
 use Rattle.queries.specs.Inside.{replyIn, outIn, imageIn}
 use Rattle.opened.proofs.Inside.{reply-in, image-in, out-in, work-in}
 use Rattle.opened.proofs.Validated.{reply-is}
-use Rattle.opened.proofs.Numbers.{reading-keeps}
+use Rattle.opened.proofs.Numbers.{reading-keeps, reading-at-keeps}
 use Rattle.opened.specs.OpenVolume.{OpenVolume}
 use Rattle.opened.specs.Opening.{OpeningRight}
 use Rattle.opened.specs.Sequence.{lent, Given, given, plainGiven, plainImage, plainWork, Left, OpenedCalls}
@@ -44,6 +44,7 @@ lent-work w (setLength path new work) = refl
 lent-work w (create made path work) = refl
 lent-work w (remove path work) = refl
 lent-work w (list out work) = refl
+lent-work w (readAt entry position out work) = refl
 
 module _ (g : Geometry) (v : Volume) (img : Bytes) (w w′ : List ℕ) where
   any-reply : (c : Call) → replyIn g v (lent w c) ≡ replyIn g v (lent w′ c)
@@ -56,6 +57,7 @@ module _ (g : Geometry) (v : Volume) (img : Bytes) (w w′ : List ℕ) where
   any-reply (create made path work) = refl
   any-reply (remove path work) = refl
   any-reply (list out work) = refl
+  any-reply (readAt entry position out work) = refl
 
   any-out : (c : Call) → outIn g v img (lent w c) ≡ outIn g v img (lent w′ c)
   unfolding lent outIn answerIn handedOut outOf
@@ -67,6 +69,7 @@ module _ (g : Geometry) (v : Volume) (img : Bytes) (w w′ : List ℕ) where
   any-out (create made path work) = refl
   any-out (remove path work) = refl
   any-out (list out work) = refl
+  any-out (readAt entry position out work) = refl
 
   any-image : (c : Call) → imageIn g v img (lent w c) ≡ imageIn g v img (lent w′ c)
   unfolding lent imageIn answerIn edited
@@ -78,6 +81,7 @@ module _ (g : Geometry) (v : Volume) (img : Bytes) (w w′ : List ℕ) where
   any-image (create made path work) = refl
   any-image (remove path work) = refl
   any-image (list out work) = refl
+  any-image (readAt entry position out work) = refl
 
 -- ---- one call
 
@@ -160,6 +164,7 @@ module _ (img : Bytes) (w : List ℕ) where
   edit-out (create made path work) h = nothing _
   edit-out (remove path work) h = nothing _
   edit-out (list out work) h = absurd (clash h refl)
+  edit-out (readAt entry position out work) h = absurd (clash h refl)
 
 -- ---- opening is a validation
 
@@ -190,6 +195,7 @@ reading-same img w (setLength path new work) h = absurd (clash refl h)
 reading-same img w (create made path work) h = absurd (clash refl h)
 reading-same img w (remove path work) h = absurd (clash refl h)
 reading-same img w (list out work) h = reading-keeps (versionOf img) img w [] 0 out .1 .1 .1
+reading-same img w (readAt entry position out work) h = reading-at-keeps (versionOf img) img w entry position out
 
 -- a listing
 pub left-read : {v : Place} {img : Bytes} {w w₁ : List ℕ} (c : Call) → isEdit c ≡ false → OpenVolume v img w₁ → Wrote w w₁ 0 (workNeed (length img)) → Left v img w c img w₁

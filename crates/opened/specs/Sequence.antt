@@ -5,7 +5,7 @@ use mathlib.Core.List.{List, [], _∷_}
 use lib.ListN.{length}
 use Rattle.format.specs.Basics.Bytes.{Bytes}
 use Rattle.format.specs.Rules.Length.{workNeed}
-use Rattle.format.specs.Calls.Call.{Call, validate, find, read, overwrite, setLength, create, remove, list}
+use Rattle.format.specs.Calls.Call.{Call, validate, find, read, overwrite, setLength, create, remove, list, readAt}
 use Rattle.format.specs.Calls.Reply.{Reply, reply}
 use Rattle.format.specs.Calls.Buffers.{imageAfter, outAfter, workAfter}
 use Rattle.tables.specs.Work.{Wrote}
@@ -22,6 +22,7 @@ lent w (setLength path new work) = setLength path new w
 lent w (create made path work) = create made path w
 lent w (remove path work) = remove path w
 lent w (list out work) = list out w
+lent w (readAt entry position out work) = readAt entry position out w
 
 -- all that a call hands out
 pub record Given : Type 0 where

@@ -16,7 +16,8 @@ use Rattle.format.specs.Calls.Paths.{Path}
 use Rattle.format.specs.Calls.Find.{Found, at, refused, resolve, resolveStream, answerOf, entryOf, resolveParent}
 use Rattle.format.specs.Calls.SetLength.{tooFew}
 use Rattle.format.specs.Calls.Listing.{listing}
-use Rattle.format.specs.Calls.Call.{Call, validate, find, read, overwrite, setLength, create, remove, list, workOf}
+use Rattle.format.specs.Calls.Cursor.{streamAnswer}
+use Rattle.format.specs.Calls.Call.{Call, validate, find, read, overwrite, setLength, create, remove, list, readAt, workOf}
 
 -- the first number that is not 0, and else 0
 unfoldable pub firstOf : ℕ → ℕ → ℕ
@@ -48,7 +49,7 @@ unfoldable pub removeAnswer : Directory → Found → ℕ
 removeAnswer d (at e b) = cond (isStorage (d .entry e) && not (isEmpty b)) 28 (cond (eqb e 0) 31 0)
 removeAnswer d (refused a) = a
 
--- what comes after validation: 20 to 31, or 0. A sum of numbers is the true one.
+-- what comes after validation: 20 to 33, or 0. A sum of numbers is the true one.
 unfoldable pub answerIn : Geometry → Volume → Call → ℕ
 answerIn g v (validate work) = 0
 answerIn g v (find path work) = answerOf (resolve (v .directory) path)
@@ -61,8 +62,11 @@ answerIn g v (setLength path new work) =
 answerIn g v (create made path work) = createAnswer (v .directory) (resolveParent (v .directory) path) (resolve (v .directory) path)
 answerIn g v (remove path work) = removeAnswer (v .directory) (resolve (v .directory) path)
 answerIn g v (list out work) = cond (ltb (length out) (length (listing (v .directory)))) 27 0
+answerIn g v (readAt entry position out work) =
+    firstOf (streamAnswer v entry) (beyond (streamSize v entry) position)
 
--- Every call validates the image first. The numbers rise from question to question, so the first that is not 0 is the lowest.
+-- Every call validates the image first. The numbers rise from question to question, so the first that is not 0 is the lowest;
+-- but at a cursor 33 comes before 24.
 unfoldable pub answer : Geometry → Bytes → Call → ℕ
 answer g img call =
     let later = answerIn g (volume g img) call in

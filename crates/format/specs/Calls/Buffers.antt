@@ -16,7 +16,7 @@ use Rattle.format.specs.Calls.Move.{lengthChanged}
 use Rattle.format.specs.Calls.Create.{objectCreated}
 use Rattle.format.specs.Calls.Remove.{objectRemoved}
 use Rattle.format.specs.Calls.Listing.{listing}
-use Rattle.format.specs.Calls.Call.{Call, validate, find, read, overwrite, setLength, create, remove, list, workOf, outOf}
+use Rattle.format.specs.Calls.Call.{Call, validate, find, read, overwrite, setLength, create, remove, list, readAt, workOf, outOf}
 use Rattle.format.specs.Calls.Answer.{target, answer}
 use Rattle.format.specs.Calls.Reply.{onZero}
 
@@ -32,6 +32,7 @@ edited v img (setLength path new work) = lengthChanged v img (target v path) new
 edited v img (create made path work) = objectCreated v img made path
 edited v img (remove path work) = objectRemoved v img path
 edited v img (list out work) = img
+edited v img (readAt entry position out work) = img
 
 unfoldable pub imageAfterBy : Geometry → Bytes → Call → Bytes
 imageAfterBy g img call =
@@ -55,6 +56,7 @@ handedOut v img (setLength path new work) = []
 handedOut v img (create made path work) = []
 handedOut v img (remove path work) = []
 handedOut v img (list out work) = over (listing (v .directory)) out
+handedOut v img (readAt entry position out work) = over (readBytes (contents v img entry) position (length out)) out
 
 unfoldable pub outAfterBy : Geometry → Bytes → Call → Bytes
 outAfterBy g img call =

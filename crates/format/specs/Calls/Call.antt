@@ -14,6 +14,8 @@ pub data Call : Type 0 where
   create : (made : NewKind) → (path : Path) → (work : List ℕ) → Call
   remove : (path : Path) → (work : List ℕ) → Call
   list : (out : Bytes) → (work : List ℕ) → Call
+  -- at a cursor
+  readAt : (entry : ℕ) → (position : ℕ) → (out : Bytes) → (work : List ℕ) → Call
 
 unfoldable pub workOf : Call → List ℕ
 workOf (validate work) = work
@@ -24,6 +26,7 @@ workOf (setLength path new work) = work
 workOf (create made path work) = work
 workOf (remove path work) = work
 workOf (list out work) = work
+workOf (readAt entry position out work) = work
 
 -- of a call that is lent no out buffer it is empty
 unfoldable pub outOf : Call → Bytes
@@ -35,3 +38,4 @@ outOf (setLength path new work) = []
 outOf (create made path work) = []
 outOf (remove path work) = []
 outOf (list out work) = out
+outOf (readAt entry position out work) = out

@@ -10,7 +10,7 @@ use Rattle.format.specs.Rules.Version.{versionOf}
 use Rattle.format.specs.Calls.Find.{resolve, entryOf}
 use Rattle.format.specs.Calls.Read.{readCount}
 use Rattle.format.specs.Calls.Listing.{listing}
-use Rattle.format.specs.Calls.Call.{Call, validate, find, read, overwrite, setLength, create, remove, list}
+use Rattle.format.specs.Calls.Call.{Call, validate, find, read, overwrite, setLength, create, remove, list, readAt}
 use Rattle.format.specs.Calls.Answer.{target, answer}
 
 -- a value that a call does not give is 0
@@ -43,6 +43,7 @@ done v (setLength path new work) = plain 0
 done v (create made path work) = plain 0
 done v (remove path work) = plain 0
 done v (list out work) = counted (length (listing (v .directory)))
+done v (readAt entry position out work) = counted (readCount (streamSize v entry) position (length out))
 
 -- x where the answer is 0, and else y
 unfoldable pub onZero : {A : Type 0} → ℕ → A → A → A

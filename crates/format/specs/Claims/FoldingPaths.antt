@@ -16,7 +16,7 @@ use Rattle.format.specs.Layout.Stream.{streamSize}
 use Rattle.format.specs.Calls.Paths.{Path, names, wellFormed, namesBefore}
 use Rattle.format.specs.Calls.Find.{Child, missing, present, orElse, Found, at, refused, foundChild, needStream, answerOf, entryOf, needParent}
 use Rattle.format.specs.Calls.Read.{readCount}
-use Rattle.format.specs.Calls.Call.{Call, validate, find, read, overwrite, setLength, create, remove, list, workOf}
+use Rattle.format.specs.Calls.Call.{Call, validate, find, read, overwrite, setLength, create, remove, list, readAt, workOf}
 use Rattle.format.specs.Calls.Answer.{firstOf, beyond, lengthAnswer, createAnswer, removeAnswer, answerIn}
 use Rattle.format.specs.Calls.Reply.{Reply, plain, foundReply, counted, done, onZero, replyBy}
 use Rattle.format.specs.Claims.Folding.{formerFold, formerVerdict, steadyUnit, steadyNames, plainUnit, plainNames}
@@ -63,6 +63,7 @@ formerAnswerIn g v (setLength path new work) =
 formerAnswerIn g v (create made path work) = createAnswer (v .directory) (formerParent (v .directory) path) (formerResolve (v .directory) path)
 formerAnswerIn g v (remove path work) = removeAnswer (v .directory) (formerResolve (v .directory) path)
 formerAnswerIn g v (list out work) = answerIn g v (list out work)
+formerAnswerIn g v (readAt entry position out work) = answerIn g v (readAt entry position out work)
 
 unfoldable pub formerDone : Volume → Call → Reply
 formerDone v (validate work) = done v (validate work)
@@ -73,6 +74,7 @@ formerDone v (setLength path new work) = done v (setLength path new work)
 formerDone v (create made path work) = done v (create made path work)
 formerDone v (remove path work) = done v (remove path work)
 formerDone v (list out work) = done v (list out work)
+formerDone v (readAt entry position out work) = done v (readAt entry position out work)
 
 unfoldable pub formerAnswer : Geometry → Bytes → Call → ℕ
 formerAnswer g img call =
@@ -96,6 +98,7 @@ pathOf (setLength path new work) = path
 pathOf (create made path work) = path
 pathOf (remove path work) = path
 pathOf (list out work) = []
+pathOf (readAt entry position out work) = []
 
 -- On a file whose objects' names have no unit that is folded anew, a call whose path has none either replies as it did.
 abbrev pub KeepsReply : Geometry → Type 0

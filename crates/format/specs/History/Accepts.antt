@@ -10,7 +10,7 @@ use Rattle.format.specs.Layout.Name.{Name}
 use Rattle.format.specs.Layout.PathOrder.{isBelow}
 use Rattle.format.specs.Calls.Paths.{Path, names, wellFormed, namesBefore}
 use Rattle.format.specs.Calls.SetLength.{tooFew}
-use Rattle.format.specs.Calls.Call.{Call, validate, find, read, overwrite, setLength, create, remove, list}
+use Rattle.format.specs.Calls.Call.{Call, validate, find, read, overwrite, setLength, create, remove, list, readAt}
 use Rattle.format.specs.History.Rows.{Row, hasRow, rowLength}
 use Rattle.format.specs.History.Setting.{Setting, freeSectors, freeMinis}
 use Rattle.format.specs.History.Storages.{hasStorage, isStorageOrRoot}
@@ -58,6 +58,7 @@ accepts s (setLength path new work) =
 accepts s (create made path work) = leb (s .setting .work) (length work) && mayCreate s path
 accepts s (remove path work) = leb (s .setting .work) (length work) && mayRemove s path
 accepts s (list out work) = false
+accepts s (readAt entry position out work) = false
 
 -- a repair: its buffers are long enough
 unfoldable pub acceptsRepair : State → (spare : Bytes) → (work : List ℕ) → Bool
@@ -74,3 +75,4 @@ answers26 s (setLength path new work) =
 answers26 s (create made path work) = false
 answers26 s (remove path work) = false
 answers26 s (list out work) = false
+answers26 s (readAt entry position out work) = false

@@ -10,7 +10,7 @@ use Rattle.format.specs.Layout.Space.{allocated}
 use Rattle.format.specs.Layout.Volume.{volume}
 use Rattle.format.specs.Rules.Version.{versionOf}
 use Rattle.format.specs.Rules.Verdict.{Accepted}
-use Rattle.format.specs.Calls.Call.{Call, validate, find, read, overwrite, setLength, create, remove, list}
+use Rattle.format.specs.Calls.Call.{Call, validate, find, read, overwrite, setLength, create, remove, list, readAt}
 use Rattle.format.specs.Calls.Answer.{answer}
 use Rattle.format.specs.Calls.Repair.{repairAnswer}
 use Rattle.format.specs.History.Rows.{total}
@@ -27,6 +27,7 @@ isEdit (setLength path new work) = true
 isEdit (create made path work) = true
 isEdit (remove path work) = true
 isEdit (list out work) = false
+isEdit (readAt entry position out work) = false
 
 -- what holds of an image, and of the state that the history gives
 pub record Holds (now : Bytes) (s : State) : Type 0 where

@@ -8,7 +8,7 @@ use Rattle.format.specs.Layout.Name.{Name}
 use Rattle.format.specs.Layout.PathOrder.{insert, samePath}
 use Rattle.format.specs.Calls.Paths.{Path, names, namesBefore, lastName}
 use Rattle.format.specs.Calls.Create.{NewKind, stream, storage}
-use Rattle.format.specs.Calls.Call.{Call, validate, find, read, overwrite, setLength, create, remove, list}
+use Rattle.format.specs.Calls.Call.{Call, validate, find, read, overwrite, setLength, create, remove, list, readAt}
 use Rattle.format.specs.History.Rows.{Row, means}
 use Rattle.format.specs.History.Storages.{spelled}
 use Rattle.format.specs.History.State.{State, withRows}
@@ -75,6 +75,7 @@ changed s (setLength path new work) = withRows s (map (change path (fit new)) (s
 changed s (create made path work) = withObject s made (newPath s path)
 changed s (remove path work) = withoutObject s path
 changed s (list out work) = s
+changed s (readAt entry position out work) = s
 
 unfoldable pub stateStep : State → Call → State
 stateStep s call = cond (accepts s call) (changed s call) s
