@@ -2,7 +2,7 @@
 ghost use mathlib.Core.Path.{_≡_};
 ghost use lib.ListN.{length};
 ghost use Rattle.format.specs.Calls.Call.{validate as validateCall, find as findCall, read as readCall, overwrite as overwriteCall, setLength as lengthCall};
-ghost use Rattle.format.specs.Calls.Call.{create as createCall, remove as removeCall, list as listCall};
+ghost use Rattle.format.specs.Calls.Call.{create as createCall, remove as removeCall, list as listCall, readAt as readAtCall};
 ghost use Rattle.format.specs.Calls.Create.{stream, storage};
 ghost use Rattle.format.specs.Calls.Reply.{plain, reply};
 ghost use Rattle.format.specs.Calls.Buffers.{imageAfter, outAfter, workAfter};
@@ -14,6 +14,7 @@ ghost use Rattle.queries.specs.Replies.{findReply, readReply, listReply};
 ghost use Rattle.repair.specs.Replies.{repairReplyOf};
 ghost use Rattle.formatting.specs.Plans.{planFor};
 use kinds::Answer;
+use kinds::EntryId;
 use kinds::NewKind;
 use opened::close;
 use opened::create_opened;
@@ -21,6 +22,7 @@ use opened::find_opened;
 use opened::list_opened;
 use opened::open_image;
 use opened::overwrite_opened;
+use opened::read_at_opened;
 use opened::read_opened;
 use opened::remove_opened;
 use opened::set_length_opened;
@@ -68,6 +70,28 @@ pub fn read(image: &[u8], work: &mut [u32], path: &[u16], offset: u64, out: &mut
         Opened::Refused(a) => Read::Refused(a),
         Opened::Ready(v) => {
             let r = read_opened(image, work, v, path, offset, out);
+            close(image, work, v);
+            r
+        }
+    }
+}
+
+// The same at a cursor: bytes of the stream of an entry number, from a position on. A caller who moves the position by the count reads on.
+pub fn read_at(
+    image: &[u8],
+    work: &mut [u32],
+    entry: EntryId,
+    position: u64,
+    out: &mut [u8],
+) -> Read
+    ensures { λ r. ⌜ readReply r ≡ reply (now (image .entry)) (readAtCall (entry .0) position (now (out .entry)) (now (work .entry))) ⌝ }
+    ensures { λ _. ⌜ now (out .exit) ≡ outAfter (now (image .entry)) (readAtCall (entry .0) position (now (out .entry)) (now (work .entry))) ⌝ }
+    ensures { λ _. ⌜ now (work .exit) ≡ workAfter (now (image .entry)) (readAtCall (entry .0) position (now (out .entry)) (now (work .entry))) ⌝ }
+{
+    match open_image(image, work) {
+        Opened::Refused(a) => Read::Refused(a),
+        Opened::Ready(v) => {
+            let r = read_at_opened(image, work, v, entry, position, out);
             close(image, work, v);
             r
         }

@@ -2,7 +2,7 @@
 ghost use mathlib.Core.Path.{_≡_};
 ghost use lib.ListN.{length};
 ghost use Rattle.format.specs.Calls.Call.{validate as validateCall, find as findCall, read as readCall, overwrite as overwriteCall, setLength as lengthCall};
-ghost use Rattle.format.specs.Calls.Call.{create as createCall, remove as removeCall, list as listCall};
+ghost use Rattle.format.specs.Calls.Call.{create as createCall, remove as removeCall, list as listCall, readAt as readAtCall};
 ghost use Rattle.format.specs.Calls.Create.{stream, storage};
 ghost use Rattle.format.specs.Calls.Reply.{plain, reply};
 ghost use Rattle.format.specs.Calls.Buffers.{imageAfter, outAfter, workAfter};
@@ -17,10 +17,12 @@ use cfb::format_image;
 use cfb::list;
 use cfb::overwrite;
 use cfb::read;
+use cfb::read_at;
 use cfb::remove;
 use cfb::repair;
 use cfb::set_length;
 use cfb::validate;
+use kinds::EntryId;
 use kinds::Refusal;
 use kinds::number;
 use kinds::refusal_number;
@@ -93,6 +95,29 @@ pub extern "C" fn cfb_read(
     ensures { λ _. ⌜ now (work .exit) ≡ workAfter (now (image .entry)) (readCall (now (path .entry)) offset (now (out .entry)) (now (work .entry))) ⌝ }
 {
     match read(image, work, path, offset, out) {
+        Read::Done(n) => {
+            *count = n as u64;
+            0
+        }
+        Read::Refused(a) => refused(count, a),
+    }
+}
+
+#[no_mangle]
+pub extern "C" fn cfb_read_at(
+    image: &[u8],
+    work: &mut [u32],
+    entry: u32,
+    position: u64,
+    out: &mut [u8],
+    count: &mut u64,
+) -> u32
+    ensures { λ r. ⌜ record { number = r; entry = 0; type = 0; size = 0; count = now (count .exit) }
+        ≡ reply (now (image .entry)) (readAtCall entry position (now (out .entry)) (now (work .entry))) ⌝ }
+    ensures { λ _. ⌜ now (out .exit) ≡ outAfter (now (image .entry)) (readAtCall entry position (now (out .entry)) (now (work .entry))) ⌝ }
+    ensures { λ _. ⌜ now (work .exit) ≡ workAfter (now (image .entry)) (readAtCall entry position (now (out .entry)) (now (work .entry))) ⌝ }
+{
+    match read_at(image, work, EntryId(entry), position, out) {
         Read::Done(n) => {
             *count = n as u64;
             0

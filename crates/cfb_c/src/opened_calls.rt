@@ -5,7 +5,7 @@ ghost use mathlib.Core.Logic.{_≢_};
 ghost use lib.ListN.{length};
 ghost use Rattle.format.specs.Rules.Length.{workNeed};
 ghost use Rattle.format.specs.Calls.Call.{validate as validateCall, find as findCall, read as readCall, overwrite as overwriteCall, setLength as lengthCall};
-ghost use Rattle.format.specs.Calls.Call.{create as createCall, remove as removeCall, list as listCall};
+ghost use Rattle.format.specs.Calls.Call.{create as createCall, remove as removeCall, list as listCall, readAt as readAtCall};
 ghost use Rattle.format.specs.Calls.Create.{stream, storage};
 ghost use Rattle.format.specs.Calls.Reply.{plain, reply};
 ghost use Rattle.format.specs.Calls.Buffers.{workCleared, imageAfter, outAfter, workAfter};
@@ -14,6 +14,7 @@ ghost use Rattle.opened.specs.OpenVolume.{OpenVolume};
 ghost use Rattle.cfb_c.specs.Packed.{sizesFor, Known, unpacked};
 use super::refused;
 use directory::Directory;
+use kinds::EntryId;
 use kinds::Geometry;
 use kinds::NewKind;
 use kinds::number;
@@ -25,6 +26,7 @@ use opened::find_opened;
 use opened::list_opened;
 use opened::open_image;
 use opened::overwrite_opened;
+use opened::read_at_opened;
 use opened::read_opened;
 use opened::remove_opened;
 use opened::set_length_opened;
@@ -166,6 +168,30 @@ pub extern "C" fn cfb_opened_read(
         ≡ outAfter (now (image .entry)) (readCall (now (path .entry)) offset (now (out .entry)) (now (work .entry))) ⌝ }
 {
     match read_opened(image, work, unpack(volume), path, offset, out) {
+        Read::Done(n) => {
+            *count = n as u64;
+            0
+        }
+        Read::Refused(a) => refused(count, a),
+    }
+}
+
+#[no_mangle]
+pub extern "C" fn cfb_opened_read_at(
+    image: &[u8],
+    work: &[u32],
+    volume: &[u64; 9],
+    entry: u32,
+    position: u64,
+    out: &mut [u8],
+    count: &mut u64,
+) -> u32
+    requires { ⌜ OpenVolume (unpacked (now volume)) (now image) (now work) ⌝ }
+    ensures { λ r. ⌜ record { number = r; entry = 0; type = 0; size = 0; count = now (count .exit) }
+        ≡ reply (now (image .entry)) (readAtCall entry position (now (out .entry)) (now (work .entry))) ⌝ }
+    ensures { λ _. ⌜ now (out .exit) ≡ outAfter (now (image .entry)) (readAtCall entry position (now (out .entry)) (now (work .entry))) ⌝ }
+{
+    match read_at_opened(image, work, unpack(volume), EntryId(entry), position, out) {
         Read::Done(n) => {
             *count = n as u64;
             0

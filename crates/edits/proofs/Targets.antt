@@ -1,10 +1,8 @@
 -- What a find says of the answer of an edit, and of the image that it leaves.
-use mathlib.Core.Path.{_≡_, sym, _∙_, subst}
+use mathlib.Core.Path.{_≡_, sym, subst}
 use mathlib.Core.Logic.{_≢_}
-use borrow.Author.Tests.{ne-eqb}
 use Rattle.format.specs.Basics.Bytes.{Bytes}
 use Rattle.format.specs.Layout.Geometry.{Geometry}
-use Rattle.format.specs.Layout.Entry.{kind}
 use Rattle.format.specs.Layout.Volume.{Volume}
 use Rattle.format.specs.Calls.Paths.{Path}
 use Rattle.format.specs.Calls.Call.{Call}
@@ -19,7 +17,7 @@ use Rattle.queries.specs.declared.find.Object.{Object}
 use Rattle.queries.specs.declared.find.Find.{Find}
 use Rattle.queries.specs.declared.find.Find.the-variants.{Entry, Refused}
 use Rattle.queries.proofs.ReadAnswers.{target-none, target-some, target-refused}
-use Rattle.queries.proofs.Streams.{find-stream}
+use Rattle.queries.proofs.Streams.{find-stream, object-other}
 
 -- ---- any call
 
@@ -42,7 +40,7 @@ module _ (v : Volume) (path : Path) where
   module _ (e : Object) (h : FindRight v path (Entry e)) where
     -- a storage, or the root
     pub find-other : e .«entry_type» .0 ≢ 2 → targetAnswer v path ≡ 23
-    find-other k = target-none v path (e .id .0) (h .0) (ne-eqb (kind (v .directory .entry (e .id .0))) 2 (λ z. k (h .1 .1 .0 ∙ z)))
+    find-other k = target-none v path (e .id .0) (h .0) (object-other v e (h .1) k)
 
     module _ (k : e .«entry_type» .0 ≡ 2) where
       pub find-target : (targetAnswer v path ≡ 0) × (target v path ≡ e .id .0)

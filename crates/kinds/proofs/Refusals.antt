@@ -7,7 +7,7 @@ use Rattle.format.specs.Calls.Answer.{firstOf}
 use Rattle.format.specs.Calls.Reply.{onZero}
 use Rattle.kinds.specs.Numbers.{refusalNumber}
 use Rattle.kinds.specs.declared.Refusal.{Refusal}
-use Rattle.kinds.specs.declared.Refusal.the-variants.{BadLength, ShortWork, Header, Tables, Cells, Directory, Entries, Trees, Mini, Streams, Owners, BadPath, NotFound, StreamOnTheWay, NotAStream, Beyond, TooFewFree, OutTooShort, NotEmpty, AlreadyThere, NoBlankEntry, RootRemoved, PlanDoesNotFit}
+use Rattle.kinds.specs.declared.Refusal.the-variants.{BadLength, ShortWork, Header, Tables, Cells, Directory, Entries, Trees, Mini, Streams, Owners, BadPath, NotFound, StreamOnTheWay, NotAStream, Beyond, TooFewFree, OutTooShort, NotEmpty, AlreadyThere, NoBlankEntry, RootRemoved, PlanDoesNotFit, BadEntry}
 
 pub refusal-some : (a : Refusal) → refusalNumber a ≢ 0
 refusal-some BadLength = λ z. omega arith
@@ -33,6 +33,7 @@ refusal-some AlreadyThere = λ z. omega arith
 refusal-some NoBlankEntry = λ z. omega arith
 refusal-some RootRemoved = λ z. omega arith
 refusal-some PlanDoesNotFit = λ z. omega arith
+refusal-some BadEntry = λ z. omega arith
 
 -- so it is the first number, whatever comes after it
 pub first-refused : (a : Refusal) (m : ℕ) → firstOf (refusalNumber a) m ≡ refusalNumber a

@@ -1,7 +1,7 @@
 -- 01's number of each refusal, and of each answer.
 use Prim.Native.Nat.{ℕ}
 use Rattle.kinds.specs.declared.Refusal.{Refusal}
-use Rattle.kinds.specs.declared.Refusal.the-variants.{BadLength, ShortWork, Header, Tables, Cells, Directory, Entries, Trees, Mini, Streams, Owners, BadPath, NotFound, StreamOnTheWay, NotAStream, Beyond, TooFewFree, OutTooShort, NotEmpty, AlreadyThere, NoBlankEntry, RootRemoved, PlanDoesNotFit}
+use Rattle.kinds.specs.declared.Refusal.the-variants.{BadLength, ShortWork, Header, Tables, Cells, Directory, Entries, Trees, Mini, Streams, Owners, BadPath, NotFound, StreamOnTheWay, NotAStream, Beyond, TooFewFree, OutTooShort, NotEmpty, AlreadyThere, NoBlankEntry, RootRemoved, PlanDoesNotFit, BadEntry}
 use Rattle.kinds.specs.declared.Answer.{Answer}
 use Rattle.kinds.specs.declared.Answer.the-variants.{Done, Refused}
 
@@ -29,6 +29,7 @@ refusalNumber AlreadyThere = 29
 refusalNumber NoBlankEntry = 30
 refusalNumber RootRemoved = 31
 refusalNumber PlanDoesNotFit = 32
+refusalNumber BadEntry = 33
 
 abbrev pub numberOf : Answer → ℕ
 numberOf Done = 0

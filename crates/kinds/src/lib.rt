@@ -423,6 +423,7 @@ pub enum Refusal {
     NoBlankEntry,
     RootRemoved,
     PlanDoesNotFit,
+    BadEntry,
 }
 
 // What a call answers that gives no values.
@@ -459,6 +460,7 @@ pub fn refusal_number(a: Refusal) -> u32
         Refusal::NoBlankEntry => 30,
         Refusal::RootRemoved => 31,
         Refusal::PlanDoesNotFit => 32,
+        Refusal::BadEntry => 33,
     }
 }
 

@@ -6,7 +6,7 @@ use Rattle.format.specs.Basics.Bytes.{Bytes}
 use Rattle.format.specs.Layout.Geometry.{Geometry}
 use Rattle.format.specs.Layout.Volume.{Volume}
 use Rattle.format.specs.Calls.Paths.{Path}
-use Rattle.format.specs.Calls.Call.{find, read, overwrite, setLength, create, remove, list, outOf}
+use Rattle.format.specs.Calls.Call.{find, read, overwrite, setLength, create, remove, list, readAt, outOf}
 use Rattle.format.specs.Calls.Create.{NewKind}
 use Rattle.format.specs.Calls.Answer.{answerIn}
 use Rattle.format.specs.Calls.Reply.{plain, done}
@@ -44,6 +44,11 @@ module _ (g : Geometry) (v : Volume) (img : Bytes) (work : List ℕ) where
     pub read-any : (path : Path) (offset : ℕ) → (replyIn g v (read path offset out []) ≡ replyIn g v (read path offset out work)) × (outIn g v img (read path offset out []) ≡ outIn g v img (read path offset out work))
     unfolding replyIn outIn answerIn done handedOut outOf
     read-any path offset = (refl, refl)
+
+    pub read-at-any : (entry position : ℕ)
+        → (replyIn g v (readAt entry position out []) ≡ replyIn g v (readAt entry position out work)) × (outIn g v img (readAt entry position out []) ≡ outIn g v img (readAt entry position out work))
+    unfolding replyIn outIn answerIn done handedOut outOf
+    read-at-any entry position = (refl, refl)
 
     pub list-any : (replyIn g v (list out []) ≡ replyIn g v (list out work)) × (outIn g v img (list out []) ≡ outIn g v img (list out work))
     unfolding replyIn outIn answerIn done handedOut outOf

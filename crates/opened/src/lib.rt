@@ -3,7 +3,7 @@ ghost use mathlib.Core.Path.{_≡_};
 ghost use lib.ListN.{length};
 ghost use Rattle.format.specs.Rules.Length.{workNeed};
 ghost use Rattle.format.specs.Calls.Call.{find as findCall, read as readCall, overwrite as overwriteCall, setLength as lengthCall};
-ghost use Rattle.format.specs.Calls.Call.{create as createCall, remove as removeCall, list as listCall};
+ghost use Rattle.format.specs.Calls.Call.{create as createCall, remove as removeCall, list as listCall, readAt as readAtCall};
 ghost use Rattle.format.specs.Calls.Reply.{plain, reply};
 ghost use Rattle.format.specs.Calls.Buffers.{workCleared, imageAfter, outAfter};
 ghost use Rattle.kinds.specs.Numbers.{numberOf};
@@ -16,6 +16,7 @@ use creation::create_in;
 use edits::overwrite::overwrite_in;
 use header::work_need;
 use kinds::Answer;
+use kinds::EntryId;
 use kinds::NewKind;
 use le::zero_first;
 use lengths::set_length_in;
@@ -24,6 +25,7 @@ use queries::find::find_in;
 use queries::list::List;
 use queries::list::list_in;
 use queries::read::Read;
+use queries::read::read_at_in;
 use queries::read::read_in;
 use removal::remove_in;
 use volume::Opened;
@@ -67,6 +69,22 @@ pub fn read_opened(
     ensures { λ _. ⌜ now (out .exit) ≡ outAfter (now (image .entry)) (readCall (now (path .entry)) offset (now (out .entry)) (now (work .entry))) ⌝ }
 {
     read_in(path, image, work, v, offset, out)
+}
+
+// The same at a cursor: bytes of the stream of an entry number, from a position on.
+pub fn read_at_opened(
+    image: &[u8],
+    work: &[u32],
+    v: Volume,
+    entry: EntryId,
+    position: u64,
+    out: &mut [u8],
+) -> Read
+    requires { ⌜ OpenVolume v (now image) (now work) ⌝ }
+    ensures { λ r. ⌜ readReply r ≡ reply (now (image .entry)) (readAtCall (entry .0) position (now (out .entry)) (now (work .entry))) ⌝ }
+    ensures { λ _. ⌜ now (out .exit) ≡ outAfter (now (image .entry)) (readAtCall (entry .0) position (now (out .entry)) (now (work .entry))) ⌝ }
+{
+    read_at_in(image, work, v, entry, position, out)
 }
 
 // Puts bytes into the stream that a path leads to, from an offset on. They have to end within the stream.

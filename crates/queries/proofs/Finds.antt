@@ -27,7 +27,7 @@ use Rattle.paths.specs.Found.{foundOf, Inside}
 use Rattle.paths.specs.declared.Found.{Found as Way}
 use Rattle.paths.specs.declared.Found.the-variants.{At, Refused as Stopped}
 use Rattle.volume.specs.declared.Volume.{Volume as Opened}
-use Rattle.queries.specs.Inside.{Open, replyIn, FindRight}
+use Rattle.queries.specs.Inside.{Open, replyIn, ObjectOf, FindRight}
 use Rattle.queries.specs.Replies.{findReply}
 use Rattle.queries.proofs.Answers.{refused-in}
 use Rattle.queries.specs.declared.find.Object.{Object}
@@ -61,18 +61,23 @@ module _ {v : Opened} {img : Bytes} {w : List ℕ} (o : Open v img w) where
       let e = sym (same-entries o) in
       (o .ready .lists .mini .directory, (subst (λ d. entryRules d ≡ true) e (o .groups .volume .entries), subst (λ d. treeRules d ≡ true) e (o .groups .volume .trees)))
 
+  -- an entry that was looked up by its number
+  pub looked-up : {x : EntryId} (y : Object) → x .0 < entriesOf (v .directory) img .count
+      → (y .id ≡ x) × ((y .«entry_type» .0 ≡ kind (entriesOf (v .directory) img .entry (x .0))) × (y .size ≡ sizeOf (entriesOf (v .directory) img) (x .0)))
+      → ObjectOf (volume g img) y
+  looked-up {x} y l z =
+      let q = same-entries o in
+      let i : y .id .0 ≡ x .0 = ap (λ (u : EntryId). u .0) (z .0) in
+      rw i (subst (λ d. x .0 < d .count) q l, (z .1 .0 ∙ ap (λ d. kind (d .entry (x .0))) q, z .1 .1 ∙ ap (λ d. sizeOf d (x .0)) q))
+
   module _ (path : Path) (r : Way) (e : foundOf (entriesOf (v .directory) img) r ≡ resolve (entriesOf (v .directory) img) path) where
     says : foundOf (volume g img .directory) r ≡ resolve (volume g img .directory) path
     says = subst (λ d. foundOf d r ≡ resolve d path) (same-entries o) e
 
-    pub find-found : {x : EntryId} (y : Object) → r ≡ At x → x .0 < entriesOf (v .directory) img .count
-        → (y .id ≡ x) × ((y .«entry_type» .0 ≡ kind (entriesOf (v .directory) img .entry (x .0))) × (y .size ≡ sizeOf (entriesOf (v .directory) img) (x .0)))
-        → FindRight (volume g img) path (Entry y)
-    find-found {x} y k l z =
-        let q = same-entries o in
-        let i : y .id .0 ≡ x .0 = ap (λ (u : EntryId). u .0) (z .0) in
-        rw i
-        (subst (λ u. foundOf (volume g img .directory) u ≡ resolve (volume g img .directory) path) k says, (subst (λ d. x .0 < d .count) q l, (z .1 .0 ∙ ap (λ d. kind (d .entry (x .0))) q, z .1 .1 ∙ ap (λ d. sizeOf d (x .0)) q)))
+    pub find-found : {x : EntryId} (y : Object) → r ≡ At x → y .id ≡ x → ObjectOf (volume g img) y → FindRight (volume g img) path (Entry y)
+    find-found {x} y k z h =
+        let i : y .id .0 ≡ x .0 = ap (λ (u : EntryId). u .0) z in
+        (rw i (subst (λ u. foundOf (volume g img .directory) u ≡ resolve (volume g img .directory) path) k says), h)
 
     pub find-refused : {a : Refusal} → r ≡ Stopped a → FindRight (volume g img) path (Refused a)
     find-refused {a} k = subst (λ u. foundOf (volume g img .directory) u ≡ resolve (volume g img .directory) path) k says

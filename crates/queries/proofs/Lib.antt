@@ -4,5 +4,6 @@ pub mod Finds
 pub mod Streams
 pub mod StreamBytes
 pub mod ReadAnswers
+pub mod AtEntry
 pub mod ReadSteps
 pub mod Lists

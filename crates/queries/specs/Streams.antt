@@ -1,4 +1,4 @@
--- A stream of a volume that a find found.
+-- A stream of a volume, looked up by a path or by its number.
 use Prim.Native.Nat.{_<_}
 use mathlib.Core.Path.{_≡_}
 use mathlib.Core.Bool.{true}
