@@ -57,6 +57,7 @@ extern "C" {
 #define CFB_NO_BLANK_ENTRY 30u     /* no entry of the directory is blank */
 #define CFB_ROOT_REMOVED 31u       /* the root cannot be removed */
 #define CFB_PLAN_DOES_NOT_FIT 32u  /* a fresh image cannot have the version or the parts that are asked for */
+#define CFB_BAD_ENTRY 33u          /* the entry number is beyond the directory, or of an entry that is no stream */
 
 /* Types of an entry. */
 #define CFB_STORAGE 1u
@@ -85,6 +86,14 @@ uint32_t cfb_find(const uint8_t *image, size_t image_len, uint32_t *work, size_t
  * gives 0 bytes. Answers 20 to 24. */
 uint32_t cfb_read(const uint8_t *image, size_t image_len, uint32_t *work, size_t work_len, const uint16_t *path,
                   size_t path_len, uint64_t offset, uint8_t *out, size_t out_len, uint64_t *count);
+
+/* cfb_read of the stream that has an entry number, as cfb_find gives it, from a position on. To page through a stream, keep
+ * the two numbers and add the count to the position after each call: a refusal counts 0, and so leaves it. Read so to its end,
+ * where the count is 0, in any pieces of a byte and more, the stream gives its bytes in order, each once, if the image stays
+ * as it is meanwhile. Answers 33 where the entry is blank, a storage or the root, or the directory has none of that number;
+ * then 24. */
+uint32_t cfb_read_at(const uint8_t *image, size_t image_len, uint32_t *work, size_t work_len, uint32_t entry,
+                     uint64_t position, uint8_t *out, size_t out_len, uint64_t *count);
 
 /* Puts bytes into a stream from an offset on. They have to end within it: offset + bytes_len, however large, is at most its
  * length. Nothing else of the image changes. Answers 20 to 24. */

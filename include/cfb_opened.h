@@ -7,8 +7,8 @@
  * buffer; only the work buffer differs, which stays the volume's. Answers 1, 2 and 10 to 18 come from cfb_open alone.
  * Two have no such form, as they do not begin with a validation: cfb_format and cfb_repair, after which an image is opened.
  *
- * Of pointers the same is asked as in cfb.h. No pointer is kept, and nothing is allocated. cfb_opened_find and cfb_opened_read
- * write to none of the three.
+ * Of pointers the same is asked as in cfb.h. No pointer is kept, and nothing is allocated. cfb_opened_find, cfb_opened_read and
+ * cfb_opened_read_at write to none of the three.
  */
 #ifndef CFB_OPENED_H
 #define CFB_OPENED_H
@@ -43,6 +43,11 @@ uint32_t cfb_opened_find(const uint8_t *image, size_t image_len, const uint32_t 
 uint32_t cfb_opened_read(const uint8_t *image, size_t image_len, const uint32_t *work, size_t work_len,
                          const cfb_volume *volume, const uint16_t *path, size_t path_len, uint64_t offset, uint8_t *out,
                          size_t out_len, uint64_t *count);
+
+/* cfb_read_at. Only the out buffer and the count are written. Answers 33 and 24. */
+uint32_t cfb_opened_read_at(const uint8_t *image, size_t image_len, const uint32_t *work, size_t work_len,
+                            const cfb_volume *volume, uint32_t entry, uint64_t position, uint8_t *out, size_t out_len,
+                            uint64_t *count);
 
 /* cfb_overwrite. Answers 20 to 24. */
 uint32_t cfb_opened_overwrite(uint8_t *image, size_t image_len, uint32_t *work, size_t work_len, const cfb_volume *volume,

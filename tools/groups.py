@@ -1,11 +1,12 @@
 """Calls on one image, each with the line that the program `calls_run` must print of it.
 
 What the program reads, all numbers little-endian: groups of an image's length and its number of calls (4 bytes each), the image, the calls. A
-call is its kind, the units of its path, the numbers of its work buffer, the bytes of its buffer, how many of those are given (4 bytes each), and
-an offset or a length (8 bytes); then the path's units and the given bytes. Kinds: 0 validate, 1 find, 2 read, 3 list, 4 overwrite, 5 set length, 6 create
-stream, 7 create storage, 8 remove, 9 format, 10 repair. 4 writes all bytes of its buffer, all given, and 5 to 8 have none. The buffer of 9 has the plan, all given: the
-version (4 bytes), N, the sectors of directory and mini FAT, and K (8 bytes each); with fewer bytes it is no call. It leaves buffer and work buffer as they
-are. The buffer of 10 is the spare buffer. The other bytes of a buffer are 90, and a work buffer is all 7.
+call is its kind, the units of its path, the numbers of its work buffer, the bytes of its buffer, how many of those are given (4 bytes each), an offset,
+a length or a position (8 bytes), and an entry number (4 bytes); then the path's units and the given bytes. Kinds: 0 validate, 1 find, 2 read, 3 list,
+4 overwrite, 5 set length, 6 create stream, 7 create storage, 8 remove, 9 format, 10 repair, 11 read at an entry and a position. 4 writes all bytes of its
+buffer, all given, and 5 to 8 have none. The buffer of 9 has the plan, all given: the version (4 bytes), N, the sectors of directory and mini FAT, and K
+(8 bytes each); with fewer bytes it is no call. It leaves buffer and work buffer as they are. The buffer of 10 is the spare buffer. The other bytes of a
+buffer are 90, and a work buffer is all 7. What a kind does not look at is 0.
 
 What it prints for each call: number, entry, type, size, count (of a repair how many cells and colours differ), how many numbers of the work buffer are 0, and digests of the buffer and of the image.
 Of what is no call it prints `unknown`, and ends."""
@@ -20,7 +21,7 @@ from plain import Reader
 from plans import printed
 from repairs import repaired
 
-VALIDATE, FIND, READ, LIST, OVERWRITE, SET_LENGTH, CREATE_STREAM, CREATE_STORAGE, REMOVE, FORMAT, REPAIR = range(11)
+VALIDATE, FIND, READ, LIST, OVERWRITE, SET_LENGTH, CREATE_STREAM, CREATE_STORAGE, REMOVE, FORMAT, REPAIR, READ_AT = range(12)
 STORAGE, STREAM, ROOT = 1, 2, 5
 
 
@@ -57,13 +58,13 @@ class Group:
         self.root_size = plan.g.size(plan.root) if plan else 0
         self.calls, self.lines = [], []
 
-    def call(self, kind, number, path="", place=0, room=0, given=b"", work=None, entry=0, type=0, size=0, count=0, left=b""):
-        """One call, its answer and values, and the bytes at the front of its buffer after it (else they stay)."""
+    def call(self, kind, number, path="", place=0, at=0, room=0, given=b"", work=None, entry=0, type=0, size=0, count=0, left=b""):
+        """One call, at an entry where it is one of those, its answer and values, and the bytes at the front of its buffer after it (else they stay)."""
         need = 13 * (len(self.image) // 512)
         work = need + 3 if work is None else work
         text = units(path)
         assert len(self.image) <= 65536 and work <= 2048 and len(text) // 2 <= 256 and len(given) <= room <= 65536
-        self.calls.append(struct.pack("<IIIIIQ", kind, len(text) // 2, work, room, len(given), place) + text + given)
+        self.calls.append(struct.pack("<IIIIIQI", kind, len(text) // 2, work, room, len(given), place, at) + text + given)
         before = given + bytes([90]) * (room - len(given))
         after = left + before[len(left):]
         zeros = 0 if number in (1, 2) or kind == FORMAT else need
@@ -80,6 +81,22 @@ class Group:
     def reads(self, path, place, room, spelled=None):
         got = self.rows[spelled or path][place:place + room]
         self.call(READ, 0, path, place=place, room=room, count=len(got), left=got)
+
+    def reads_at(self, path, place, room):
+        """The stream at this path, by its entry number."""
+        got = self.rows[path][place:place + room]
+        self.call(READ_AT, 0, at=self.entries[path], place=place, room=room, count=len(got), left=got)
+        return len(got)
+
+    def pages(self, path, rooms):
+        """The same from its start to its end, in pieces of these lengths over and over, and one piece more, which has no bytes."""
+        place = 0
+        for room in itertools.cycle(rooms):
+            count = self.reads_at(path, place, room)
+            if count == 0:
+                break
+            place += count
+        assert place == len(self.rows[path])
 
     def lists(self, room):
         listing = self.listed()
@@ -100,6 +117,9 @@ class Group:
 
     def read(self, path, place, number, room=16, **more):
         self.call(READ, number, path, place=place, room=room, **more)
+
+    def read_at(self, entry, place, number, room=16, **more):
+        self.call(READ_AT, number, at=entry, place=place, room=room, **more)
 
     def list(self, room, number, **more):
         self.call(LIST, number, room=room, **more)

@@ -100,14 +100,16 @@ impl Tally {
             println!("not compared with the library: every call");
         } else if cfg!(not(feature = "edits")) {
             println!(
-                "not compared with the library: overwrite, set_len, create_*, remove, format, repair, opened calls"
+                "not compared with the library: overwrite, set_len, create_*, remove, format, repair, read_at, opened calls"
             );
         } else if cfg!(not(feature = "objects")) {
-            println!("not compared with the library: create_stream, create_storage, remove, format, repair");
+            println!("not compared with the library: create_stream, create_storage, remove, format, repair, read_at");
         } else if cfg!(not(feature = "fresh")) {
-            println!("not compared with the library: format, repair");
+            println!("not compared with the library: format, repair, read_at");
         } else if cfg!(not(feature = "repair")) {
-            println!("not compared with the library: repair");
+            println!("not compared with the library: repair, read_at");
+        } else if cfg!(not(feature = "paging")) {
+            println!("not compared with the library: read_at");
         }
         let opened = if cfg!(feature = "edits") { OPENED_ANSWERS } else { &[] };
         let rows = || ANSWERS.iter().chain(&CROSSINGS).chain(opened);

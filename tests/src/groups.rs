@@ -40,6 +40,7 @@ impl<'a> Rest<'a> {
     fn call(&mut self) -> Option<(Call, Vec<u8>, usize)> {
         let [kind, units, work_len, room, given] = [(); 5].map(|()| self.number());
         let place = u64_at(self.bytes(8), 0);
+        let entry = u32_at(self.bytes(4), 0);
         let path = self.bytes(2 * units).chunks(2).map(|unit| u16::from_le_bytes([unit[0], unit[1]])).collect();
         let mut buffer = self.bytes(given).to_vec();
         buffer.resize(room, 90);
@@ -55,6 +56,7 @@ impl<'a> Rest<'a> {
             8 => Call::Remove { path },
             9 => Call::Format(plan(&buffer)?),
             10 => Call::Repair { spare: buffer.clone() },
+            11 => Call::ReadAt { entry, position: place, out: buffer.clone() },
             _ => return None,
         };
         Some((call, buffer, work_len))
@@ -75,8 +77,8 @@ fn plan(buffer: &[u8]) -> Option<Fresh> {
 fn line(call: &Call, buffer: &[u8], image: &mut [u8], work_len: usize) -> String {
     let Outcome { answer, values, out } = perform(call, image, work_len);
     let (found, count) = if matches!(call, Call::Find { .. }) { (values, 0) } else { ([0; 3], values[0]) };
-    let buffer =
-        if matches!(call, Call::Read { .. } | Call::List { .. } | Call::Repair { .. }) { &out } else { buffer };
+    let lent = matches!(call, Call::Read { .. } | Call::List { .. } | Call::Repair { .. } | Call::ReadAt { .. });
+    let buffer = if lent { &out } else { buffer };
     let untouched = !call.has_work() || answer == 1 || answer == 2;
     let zeros = if untouched { 0 } else { work_needed(image.len()) };
     let [entry, kind, size] = found;

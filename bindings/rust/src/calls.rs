@@ -37,6 +37,17 @@ extern "C" {
         out_len: usize,
         count: *mut u64,
     ) -> u32;
+    fn cfb_read_at(
+        image: *const u8,
+        image_len: usize,
+        work: *mut u32,
+        work_len: usize,
+        entry: u32,
+        position: u64,
+        out: *mut u8,
+        out_len: usize,
+        count: *mut u64,
+    ) -> u32;
     fn cfb_overwrite(
         image: *mut u8,
         image_len: usize,
@@ -138,6 +149,17 @@ pub fn read(image: &[u8], work: &mut [u32], path: &[u16], offset: u64, out: &mut
     // SAFETY: slices, and a variable of this function for the count. Image and path are only read. Any offset may be given.
     let answer =
         unsafe { cfb_read(image, image_len, work, work_len, path, path_len, offset, out, out_len, &mut count) };
+    (answer, count)
+}
+
+/// The answer, and how many bytes were copied.
+pub fn read_at(image: &[u8], work: &mut [u32], entry: u32, position: u64, out: &mut [u8]) -> (u32, u64) {
+    let (image, image_len) = (image.as_ptr(), image.len());
+    let (work, work_len) = (work.as_mut_ptr(), work.len());
+    let (out, out_len) = (out.as_mut_ptr(), out.len());
+    let mut count = 0;
+    // SAFETY: slices, and a variable of this function for the count. The image is only read. Any numbers may be given.
+    let answer = unsafe { cfb_read_at(image, image_len, work, work_len, entry, position, out, out_len, &mut count) };
     (answer, count)
 }
 

@@ -5,7 +5,7 @@
 /// What a path leads to.
 #[derive(Clone, Copy, PartialEq, Eq, Debug)]
 pub struct Entry {
-    /// Its number in the directory. The root is 0.
+    /// Its number in the directory. The root is 0. An object keeps it as long as it is there, whatever is done to others.
     pub number: u32,
     /// What it is.
     pub kind: Kind,

@@ -26,27 +26,33 @@
 //! ```
 //!
 //! For many calls on one image, open it once: a [`Volume`] has the same calls, and validates when it is opened. A
-//! [`ReadOnlyVolume`] does so with an image that is not to be changed.
+//! [`ReadOnlyVolume`] does so with an image that is not to be changed. A [`View`] holds an image and validates nothing when it is
+//! opened; a [`Cursor`] pages through one of its streams.
 
 #![deny(unsafe_code, missing_docs)]
 
 mod answers;
 mod calls;
+mod cursor;
 mod entry;
 mod objects;
 mod opened;
 mod plan;
 mod read_only;
 mod refusal;
+mod seek;
 mod stream;
+mod view;
 mod volume;
 
+pub use cursor::Cursor;
 pub use entry::{Entry, Kind};
 pub use objects::{Object, Objects};
 pub use plan::Plan;
 pub use read_only::ReadOnlyVolume;
 pub use refusal::Refusal;
 pub use stream::Stream;
+pub use view::View;
 pub use volume::Volume;
 
 use answers::{answered, counted, found};
@@ -82,6 +88,32 @@ pub fn find(image: &[u8], work: &mut [u32], path: &[u16]) -> Result<Entry, Refus
 /// Refusals: 20 to 24.
 pub fn read(image: &[u8], work: &mut [u32], path: &[u16], offset: u64, out: &mut [u8]) -> Result<usize, Refusal> {
     counted(calls::read(image, work, path, offset, out))
+}
+
+/// Copies bytes of the stream that has an entry number, as [`find`] gives it ([`Entry::number`]), from a position on to the
+/// out buffer, and gives their number: as many as are left of the stream, and as the buffer holds. The out buffer's bytes
+/// behind them stay. A position equal to the stream's length gives 0 bytes.
+///
+/// To page through a stream, keep the two numbers and add the count to the position, as a [`Cursor`] does. Read so to its end
+/// in any pieces of a byte and more, the stream gives its bytes in order, each once, if the image stays as it is meanwhile.
+///
+/// Refusals: 33, where the entry is blank, a storage or the root, or the directory has none of that number; then 24.
+///
+/// ```
+/// use gyomrelas::{find, path, read_at, work_need, Refusal};
+///
+/// let image = std::fs::read("../../samples/site.cfb").expect("the sample is there");
+/// let mut work = vec![0; work_need(image.len())];
+/// let jets = find(&image, &mut work, &path("Site/Jets"))?;
+/// let mut page = [0; 26];
+/// assert_eq!(read_at(&image, &mut work, jets.number, 13, &mut page), Ok(26));
+/// assert_eq!(&page, b"jet 12 opens\njet 12 opens\n");
+/// assert_eq!(read_at(&image, &mut work, jets.number, 71, &mut page), Err(Refusal::Beyond));
+/// assert_eq!(read_at(&image, &mut work, 0, 71, &mut page), Err(Refusal::BadEntry));
+/// # Ok::<(), Refusal>(())
+/// ```
+pub fn read_at(image: &[u8], work: &mut [u32], entry: u32, position: u64, out: &mut [u8]) -> Result<usize, Refusal> {
+    counted(calls::read_at(image, work, entry, position, out))
 }
 
 /// Puts bytes into a stream from an offset on. They have to end within it. Nothing else of the image changes.

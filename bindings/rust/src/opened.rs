@@ -55,6 +55,18 @@ extern "C" {
         out_len: usize,
         count: *mut u64,
     ) -> u32;
+    fn cfb_opened_read_at(
+        image: *const u8,
+        image_len: usize,
+        work: *const u32,
+        work_len: usize,
+        volume: *const Found,
+        entry: u32,
+        position: u64,
+        out: *mut u8,
+        out_len: usize,
+        count: *mut u64,
+    ) -> u32;
     fn cfb_opened_overwrite(
         image: *mut u8,
         image_len: usize,
@@ -262,6 +274,20 @@ impl Shared<'_> {
         // is a variable of this function. Any offset may be given.
         let answer = unsafe {
             cfb_opened_read(image, image_len, work, work_len, volume, path, path_len, offset, out, out_len, &mut count)
+        };
+        counted((answer, count))
+    }
+
+    pub fn read_at(&self, entry: u32, position: u64, out: &mut [u8]) -> Result<usize, Refusal> {
+        let (image, image_len) = (self.image.as_ptr(), self.image.len());
+        let (work, work_len) = (self.work.as_ptr(), self.work.len());
+        let (out, out_len) = (out.as_mut_ptr(), out.len());
+        let mut count = 0;
+        let volume = self.found;
+        // SAFETY: the volume is open, as its type keeps it, and only read. The out buffer is a slice, and the count is a
+        // variable of this function. Any numbers may be given.
+        let answer = unsafe {
+            cfb_opened_read_at(image, image_len, work, work_len, volume, entry, position, out, out_len, &mut count)
         };
         counted((answer, count))
     }

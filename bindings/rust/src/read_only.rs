@@ -58,6 +58,14 @@ impl<'a> ReadOnlyVolume<'a> {
         self.0.shared().read(path, offset, out)
     }
 
+    /// Copies bytes of the stream that has an entry number from a position on, as [`read_at`](crate::read_at) does, and gives
+    /// their number.
+    ///
+    /// Refusals: 33, then 24.
+    pub fn read_at(&self, entry: u32, position: u64, out: &mut [u8]) -> Result<usize, Refusal> {
+        self.0.shared().read_at(entry, position, out)
+    }
+
     /// Writes a listing to the out buffer, as [`list`](crate::list) does, and gives its length. The walk over the objects
     /// needs the work buffer, hence `&mut self`.
     ///

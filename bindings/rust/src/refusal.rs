@@ -10,7 +10,7 @@ use std::io;
 macro_rules! refusals {
     ($($number:literal $name:ident $text:literal)*) => {
         /// Why a call was refused. Of all refusals that apply, a call gives the one of the lowest number, but of 21 and
-        /// 22 the one of the first name that fails. Later versions of the library may add some.
+        /// 22 the one of the first name that fails, and 33 before 24. Later versions of the library may add some.
         #[derive(Clone, Copy, PartialEq, Eq, Hash, Debug)]
         #[non_exhaustive]
         #[repr(u32)]
@@ -55,6 +55,7 @@ refusals! {
     30 NoBlankEntry "no entry of the directory is blank"
     31 RootRemoved "the root cannot be removed"
     32 PlanDoesNotFit "the plan has an unknown version, no directory, too small a mini FAT, or more than its sectors hold"
+    33 BadEntry "the entry number is beyond the directory, or of an entry that is no stream"
 }
 
 impl Refusal {

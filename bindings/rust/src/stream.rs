@@ -6,6 +6,7 @@ use std::fmt;
 use std::io::{self, Read, Seek, SeekFrom};
 
 use crate::opened::Shared;
+use crate::seek::sought;
 use crate::{Kind, Refusal};
 
 /// A stream of a volume with a position to read from, at first its start. It borrows the volume, so the stream's bytes and
@@ -51,14 +52,7 @@ impl Read for Stream<'_> {
 /// ([`InvalidInput`](io::ErrorKind::InvalidInput)), as is one above [`u64::MAX`]: then it stays as it was.
 impl Seek for Stream<'_> {
     fn seek(&mut self, to: SeekFrom) -> io::Result<u64> {
-        let position = match to {
-            SeekFrom::Start(offset) => Some(offset),
-            SeekFrom::End(offset) => self.size.checked_add_signed(offset),
-            SeekFrom::Current(offset) => self.position.checked_add_signed(offset),
-        };
-        self.position = position.ok_or_else(|| {
-            io::Error::new(io::ErrorKind::InvalidInput, "the position is before the stream's start, or too large")
-        })?;
+        self.position = sought(to, self.position, self.size)?;
         Ok(self.position)
     }
 }

@@ -87,6 +87,14 @@ impl<'a> Volume<'a> {
         self.0.shared().read(path, offset, out)
     }
 
+    /// Copies bytes of the stream that has an entry number from a position on, as [`read_at`](crate::read_at) does, and gives
+    /// their number.
+    ///
+    /// Refusals: 33, then 24.
+    pub fn read_at(&self, entry: u32, position: u64, out: &mut [u8]) -> Result<usize, Refusal> {
+        self.0.shared().read_at(entry, position, out)
+    }
+
     /// Puts bytes into a stream from an offset on, as [`overwrite`](crate::overwrite) does.
     ///
     /// Refusals: 20 to 24.

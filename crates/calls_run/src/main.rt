@@ -9,10 +9,12 @@ use cfb::format_image;
 use cfb::list;
 use cfb::overwrite;
 use cfb::read;
+use cfb::read_at;
 use cfb::remove;
 use cfb::repair;
 use cfb::set_length;
 use cfb::validate;
+use kinds::EntryId;
 use kinds::number;
 use kinds::refusal_number;
 use le::u16_at;
@@ -112,13 +114,14 @@ fn fresh(image: &mut [u8], bytes: &[u8]) -> Outcome {
 }
 
 // The call of a kind: 0 validates, 1 finds, 2 reads, 3 lists, 4 overwrites, 5 sets a length, 6 creates a
-// stream, 7 a storage, 8 removes, 9 writes a fresh image, 10 repairs, with the bytes as spare buffer.
+// stream, 7 a storage, 8 removes, 9 writes a fresh image, 10 repairs, with the bytes as spare buffer, 11 reads at an entry.
 fn make(
     kind: u32,
     image: &mut [u8],
     work: &mut [u32],
     path: &[u16],
     place: u64,
+    entry: u32,
     bytes: &mut [u8],
 ) -> Outcome {
     match kind {
@@ -133,6 +136,7 @@ fn make(
         8 => Outcome::Made(plain(number(remove(image, work, path)))),
         9 => fresh(image, bytes),
         10 => Outcome::Made(repaired(repair(image, work, bytes))),
+        11 => Outcome::Made(copied(read_at(image, work, EntryId(entry), place, bytes))),
         _ => Outcome::Unknown,
     }
 }
@@ -207,14 +211,16 @@ fn read_path(path: &mut [u16]) -> bool {
 
 // Makes the call on the buffers that are lent, and prints its line. Says whether there was one.
 fn run(
-    head: &[u8; 28],
+    head: &[u8; 32],
     image: &mut [u8],
     work: &mut [u32],
     path: &[u16],
     bytes: &mut [u8],
 ) -> bool {
     let kind = u32_at(head, 0);
-    let Outcome::Made(v) = make(kind, image, work, path, u64_at(head, 20), bytes) else {
+    let place = u64_at(head, 20);
+    let entry = u32_at(head, 28);
+    let Outcome::Made(v) = make(kind, image, work, path, place, entry, bytes) else {
         io::write_all(1, b"unknown\n");
         return false;
     };
@@ -226,7 +232,7 @@ fn run(
 }
 
 // Reads the bytes that are given. The work buffer is all 7 before the call.
-fn with_bytes(head: &[u8; 28], image: &mut [u8], path: &[u16], bytes: &mut [u8]) -> bool {
+fn with_bytes(head: &[u8; 32], image: &mut [u8], path: &[u16], bytes: &mut [u8]) -> bool {
     let given = within(u32_at(head, 16), bytes.len());
     if io::read_full(0, &mut bytes[..given]) < given {
         return false;
@@ -237,7 +243,7 @@ fn with_bytes(head: &[u8; 28], image: &mut [u8], path: &[u16], bytes: &mut [u8])
 }
 
 // Reads the path. The bytes that are not given are 90.
-fn with_path(head: &[u8; 28], image: &mut [u8], path: &mut [u16]) -> bool {
+fn with_path(head: &[u8; 32], image: &mut [u8], path: &mut [u16]) -> bool {
     if !read_path(path) {
         return false;
     }
@@ -248,8 +254,8 @@ fn with_path(head: &[u8; 28], image: &mut [u8], path: &mut [u16]) -> bool {
 
 // One call; says whether there was one.
 fn call(image: &mut [u8]) -> bool {
-    let mut head = [0u8; 28];
-    if io::read_full(0, &mut head) < 28 {
+    let mut head = [0u8; 32];
+    if io::read_full(0, &mut head) < 32 {
         return false;
     }
     let units = within(u32_at(&head, 4), 256);

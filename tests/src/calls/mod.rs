@@ -33,13 +33,14 @@ pub enum Call {
     Remove { path: Vec<u16> },
     Format(Fresh),
     Repair { spare: Vec<u8> },
+    ReadAt { entry: u32, position: u64, out: Vec<u8> },
 }
 
 /// What a call hands back.
 #[derive(Clone, PartialEq, Debug)]
 pub struct Outcome {
     pub answer: u32,
-    /// Of a find the entry number, kind and size; of a read, a listing and a repair the count, and zeros.
+    /// Of a find the entry number, kind and size; of both reads, a listing and a repair the count, and zeros.
     pub values: [u64; 3],
     /// The out buffer after the call; of a repair the spare buffer.
     pub out: Vec<u8>,
@@ -66,6 +67,7 @@ impl Call {
             Call::Remove { .. } => "remove",
             Call::Format(_) => "format",
             Call::Repair { .. } => "repair",
+            Call::ReadAt { .. } => "read_at",
         }
     }
 
@@ -84,6 +86,7 @@ impl Call {
             Call::Remove { .. } => "opened remove",
             Call::Format(_) => "format",
             Call::Repair { .. } => "repair",
+            Call::ReadAt { .. } => "opened read_at",
         }
     }
 
@@ -105,7 +108,7 @@ impl Call {
     /// The first content of the out buffer or of the spare buffer; empty where there is none.
     pub fn out(&self) -> &[u8] {
         match self {
-            Call::Read { out, .. } | Call::List { out } | Call::Repair { spare: out } => out,
+            Call::Read { out, .. } | Call::List { out } | Call::Repair { spare: out } | Call::ReadAt { out, .. } => out,
             _ => &[],
         }
     }
@@ -128,6 +131,7 @@ pub const ANSWERS: &Answers = &[
     ("remove", &[0, 1, 2, 10, 11, 12, 13, 14, 15, 16, 17, 18, 20, 21, 22, 28, 31]),
     ("format", &[0, 1, 32]),
     ("repair", &[0, 1, 2, 10, 11, 12, 13, 14, 15, 16, 17, 18]),
+    ("read_at", &[0, 1, 2, 10, 11, 12, 13, 14, 15, 16, 17, 18, 24, 33]),
 ];
 
 /// Changes of length over the cutoff, which are counted by themselves too (W-201).
@@ -144,6 +148,7 @@ pub const OPENED_ANSWERS: &Answers = &[
     ("opened create_stream", &[0, 20, 21, 22, 29, 30]),
     ("opened create_storage", &[0, 20, 21, 22, 29, 30]),
     ("opened remove", &[0, 20, 21, 22, 28, 31]),
+    ("opened read_at", &[0, 24, 33]),
 ];
 
 /// What validating or opening answers where a call answers this: only numbers below 20 are about the image and the work
@@ -180,6 +185,7 @@ fn done(call: &Call, volume: &Volume, out: &mut [u8]) -> Result<([u64; 3], Vec<P
             values = [found.entry as u64, found.kind as u64, found.size];
         }
         Call::Read { path, offset, .. } => values[0] = read::read(volume, path, *offset, out)?,
+        Call::ReadAt { entry, position, .. } => values[0] = read::read_at(volume, *entry, *position, out)?,
         Call::List { .. } => values[0] = list::list(volume, out)?,
         Call::Overwrite { path, offset, bytes } => patches = overwrite::overwrite(volume, path, *offset, bytes)?,
         Call::SetLength { path, length } => patches = set_length::set_length(volume, path, *length)?,
@@ -209,6 +215,7 @@ impl std::fmt::Display for Call {
             }
             Call::Format(asked) => write!(f, "{asked:?}"),
             Call::Repair { spare } => write!(f, "repair, spare {}", spare.len()),
+            Call::ReadAt { entry, position, out } => write!(f, "read_at {entry} from {position}, out {}", out.len()),
         }
     }
 }

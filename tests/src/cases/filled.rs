@@ -1,5 +1,5 @@
-//! A list of calls on the longest image: a stream grown to all its free sectors, overwritten, read back and cut, and taken over the
-//! cutoff. Where the library's edits are linked, the volume is opened once before them and closed behind them.
+//! A list of calls on the longest image: a stream grown to all its free sectors, overwritten, read back, by its entry too, and cut, and
+//! taken over the cutoff. Where the library's edits are linked, the volume is opened once before them and closed behind them.
 
 use super::large::MIB_64;
 use super::lists::{List, OneVolume};
@@ -8,6 +8,7 @@ use crate::compare::Tally;
 use crate::geometry::{Geometry, VERSIONS};
 use crate::images::plan::{Fill, Order, Plan};
 use crate::images::{Sample, names};
+use crate::number::NOSTREAM;
 use crate::random::Random;
 use crate::volume::work_needed;
 
@@ -46,6 +47,11 @@ fn calls(g: Geometry, most: usize, r: &mut Random) -> Vec<(Call, u32)> {
         let out = vec![b'#'; len];
         Call::Read { path: names::of("LOG"), offset: offset as u64, out }
     };
+    // The entries are in the order of the plan: the root, the stream, and two others.
+    let read_at = |entry: u32, position: usize, len: usize| {
+        let out = vec![b'#'; len];
+        Call::ReadAt { entry, position: position as u64, out }
+    };
     let mut overwrite = |offset: usize, len: usize| {
         let mut bytes = vec![0; len];
         r.fill(&mut bytes);
@@ -61,6 +67,14 @@ fn calls(g: Geometry, most: usize, r: &mut Random) -> Vec<(Call, u32)> {
         (overwrite(most - 40_000_001, 1_000), 0),
         (read(most - 40_000_100, 2_000), 0),
         (read(most - 1, 10), 0),
+        (read_at(1, most - 40_000_100, 2_000), 0),
+        (read_at(1, most - 1, 10), 0),
+        (read_at(1, most, 10), 0),
+        (read_at(1, most + 1, 10), 24),
+        (read_at(3, 1_000_001, 10), 24),
+        (read_at(0, most + 1, 10), 33),
+        (read_at(4, 0, 10), 33),
+        (read_at(NOSTREAM, 0, 0), 33),
         (length(most / 2 + 7), 0),
         (Call::Overwrite { path: names::of("Jets"), offset: 0, bytes: vec![b'!'; 70] }, 0),
         (length(4_100), 0),

@@ -1,7 +1,7 @@
 //! Lists of calls on one image, which goes from call to call. The rows are kept from the first image and the list alone.
 
 use super::{Case, small};
-use crate::calls::Call;
+use crate::calls::{Call, Outcome};
 use crate::compare::{After, Tally};
 use crate::draw;
 use crate::images::Sample;
@@ -60,7 +60,7 @@ impl List {
     }
 
     /// Draws a call and has it run with a work buffer of this length; None if it fails.
-    pub fn next(&mut self, work_len: usize, run: impl FnOnce(&str, &Case) -> Option<After>) -> Option<()> {
+    pub fn next(&mut self, work_len: usize, run: impl FnOnce(&str, &Case) -> Option<After>) -> Option<Outcome> {
         let call = draw::call(&self.model, &mut self.r);
         self.make(call, None, work_len, run)
     }
@@ -72,7 +72,7 @@ impl List {
         expected: Option<u32>,
         work_len: usize,
         run: impl FnOnce(&str, &Case) -> Option<After>,
-    ) -> Option<()> {
+    ) -> Option<Outcome> {
         let name = format!("{} call {}", self.name, self.made);
         let model = Some(self.model.clone());
         let case = Case { call, model, ..Case::new("list", std::mem::take(&mut self.image), work_len, expected) };
@@ -86,7 +86,7 @@ impl List {
         self.made += 1;
         self.image = after.image;
         self.model = after.model.expect("a case with rows leaves rows");
-        Some(())
+        Some(after.outcome)
     }
 }
 
@@ -115,13 +115,18 @@ impl OneVolume<'_> {
     }
 
     /// Has this call run; its answer may be known. None if it fails.
-    pub fn make(&mut self, call: Call, expected: Option<u32>) -> Option<()> {
+    pub fn make(&mut self, call: Call, expected: Option<u32>) -> Option<Outcome> {
         let OneVolume { list, work_len, tally, .. } = self;
         #[cfg(feature = "edits")]
         let run = |name: &str, case: &Case| tally.run_opened(name, case, &mut self.opened);
         #[cfg(not(feature = "edits"))]
         let run = |name: &str, case: &Case| tally.run(name, case);
         list.make(call, expected, *work_len, run)
+    }
+
+    /// Counts a check as passed or failed.
+    pub fn pass(&mut self, checked: Result<(), String>) -> Option<()> {
+        self.tally.pass(&self.list.name, checked)
     }
 
     pub fn close(self) {

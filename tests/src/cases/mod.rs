@@ -2,6 +2,7 @@
 
 pub mod calls;
 pub mod crowded;
+pub mod cursor;
 pub mod cutoff;
 pub mod damage;
 pub mod deep;
@@ -21,6 +22,7 @@ pub mod object_lists;
 pub mod objects;
 #[cfg(feature = "edits")]
 pub mod opened;
+pub mod paged;
 pub mod papers;
 pub mod repair;
 pub mod repaired;

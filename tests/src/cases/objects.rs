@@ -150,23 +150,30 @@ const CHANGES: [Change; 9] = [
     (18, |s| s.set_cell(s.layout.free[0], END)),
 ];
 
-/// The image comes before the path, and its length and the work buffer's before both.
+/// The image comes before the path.
 fn refused_images(g: Geometry, cases: &mut Vec<Case>) {
     let sample = site(g, 2);
     for path in ["", "new", "Site", "note", "note/x", "gone/x", "/"] {
         for call in calls(&names::of(path)) {
-            for (group, change) in CHANGES {
-                let mut broken = sample.clone();
-                change(&mut broken);
-                cases.push(on(&broken, call.clone(), group));
-            }
-            let whole = on(&sample, call, 2);
-            cases.push(Case { work_len: whole.work_len - 1, ..whole.clone() });
-            cases.push(Case { work_len: 0, ..whole.clone() });
-            // In version 3 a sector less would be a length that it has.
-            let less = if g == V3 { 1 } else { 512 };
-            let short = whole.image[..whole.image.len() - less].to_vec();
-            cases.push(Case { image: short, expected: Some(1), ..whole });
+            cases.extend(on_refused(&sample, call));
         }
     }
+}
+
+/// The call on this site with each group broken, with a work buffer that is too short, and with a length that is not allowed.
+pub fn on_refused(sample: &Sample, call: Call) -> Vec<Case> {
+    let broken = CHANGES.map(|(group, change)| {
+        let mut broken = sample.clone();
+        change(&mut broken);
+        on(&broken, call.clone(), group)
+    });
+    let whole = on(sample, call, 2);
+    // In version 3 a sector less would be a length that it has.
+    let less = if sample.layout.geometry == V3 { 1 } else { 512 };
+    let short = whole.image[..whole.image.len() - less].to_vec();
+    let mut cases = broken.to_vec();
+    cases.push(Case { work_len: whole.work_len - 1, ..whole.clone() });
+    cases.push(Case { work_len: 0, ..whole.clone() });
+    cases.push(Case { image: short, expected: Some(1), ..whole });
+    cases
 }

@@ -16,11 +16,11 @@ fn calls_of_the_gate() {
 fn what_is_no_call() {
     let input = |kind: u32, plan: &[u8]| {
         let head = [1_536, 1].map(u32::to_le_bytes).concat();
-        let call = [kind, 0, 0, plan.len() as u32, plan.len() as u32, 0, 0].map(u32::to_le_bytes).concat();
+        let call = [kind, 0, 0, plan.len() as u32, plan.len() as u32, 0, 0, 0].map(u32::to_le_bytes).concat();
         [&head[..], &[0; 1_536], &call, plan].concat()
     };
     let plan: Vec<u8> = [3, 2, 0, 1, 0, 0, 0, 0, 0].map(u32::to_le_bytes).concat();
     assert!(lines(&input(9, &plan)).starts_with("0 0 0 0 0 0 "));
     assert_eq!(lines(&input(9, &plan[..35])), "unknown\n");
-    assert_eq!(lines(&input(11, &plan)), "unknown\n");
+    assert_eq!(lines(&input(12, &plan)), "unknown\n");
 }

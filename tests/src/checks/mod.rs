@@ -1,6 +1,7 @@
 //! Checks of the independent parts themselves: the papers' values, and plainer ways to the same answers.
 
 mod calls;
+mod cursor;
 mod cutoff;
 mod fresh;
 mod groups;

@@ -1,5 +1,6 @@
 //! Random calls, most of them close to a line that the papers draw.
 
+mod entries;
 pub mod fresh;
 mod numbers;
 mod paths;
@@ -22,14 +23,23 @@ pub fn call(model: &Model, r: &mut Random) -> Call {
 
 /// One that leaves every object where it is.
 pub fn on_streams(model: &Model, r: &mut Random) -> Call {
-    match r.below(32) {
+    match r.below(36) {
         0 => Call::Validate,
         1..5 => Call::Find { path: paths::path(model, r) },
         5..10 => read(model, r),
         10..13 => list(model, r),
         13..20 => overwrite(model, r),
+        20..24 => read_at(model, r),
         _ => set_length(model, r),
     }
+}
+
+fn read_at(model: &Model, r: &mut Random) -> Call {
+    let entry = entries::entry(model, r);
+    let size = model.stream_at(entry).map_or_else(|| r.below(5_000) as u64, |bytes| bytes.len() as u64);
+    let position = numbers::offset(model.geometry, size, r);
+    let out = numbers::out_len(size.saturating_sub(position), r);
+    Call::ReadAt { entry, position, out: noise(out, r) }
 }
 
 fn read(model: &Model, r: &mut Random) -> Call {
@@ -79,7 +89,7 @@ pub fn spare(needed: usize, r: &mut Random) -> Vec<u8> {
     noise(len, r)
 }
 
-fn noise(len: usize, r: &mut Random) -> Vec<u8> {
+pub fn noise(len: usize, r: &mut Random) -> Vec<u8> {
     let mut bytes = vec![0; len];
     r.fill(&mut bytes);
     bytes

@@ -120,6 +120,21 @@ unsafe extern "C" {
     ) -> u32;
 }
 
+#[cfg(feature = "paging")]
+unsafe extern "C" {
+    fn cfb_read_at(
+        image: *const u8,
+        image_len: usize,
+        work: *mut u32,
+        work_len: usize,
+        entry: u32,
+        position: u64,
+        out: *mut u8,
+        out_len: usize,
+        count: *mut u64,
+    ) -> u32;
+}
+
 /// The library's answer for an image that it may not change.
 pub fn validate(image: &[u8], work: &mut [u32]) -> u32 {
     // A slice's pointer is not null, aligned, and good for its length.
@@ -172,7 +187,11 @@ pub fn call(call: &Call, image: &mut [u8], work: &mut [u32], out: &mut [u8]) -> 
         },
         #[cfg(feature = "repair")]
         Call::Repair { .. } => unsafe { cfb_repair(image, image_len, work, work_len, out, out_len, count) },
-        #[cfg(not(feature = "repair"))]
+        #[cfg(feature = "paging")]
+        Call::ReadAt { entry, position, .. } => unsafe {
+            cfb_read_at(image, image_len, work, work_len, *entry, *position, out, out_len, count)
+        },
+        #[cfg(not(feature = "paging"))]
         _ => return None,
     };
     Some((answer, values.of(call)))

@@ -58,7 +58,7 @@ impl Opened {
         let done = opened_call(&given, self.image.part(), self.work.part(), &mut self.volume.part()[0], out.part());
         let Some(done) = done else { return self.open_again(&due.image) };
         let work_right = match case.call {
-            Call::Find { .. } | Call::Read { .. } => self.work.holds(&work_before),
+            Call::Find { .. } | Call::Read { .. } | Call::ReadAt { .. } => self.work.holds(&work_before),
             _ => self.work.kept_behind(work_needed(due.image.len())),
         };
         let buffers = [

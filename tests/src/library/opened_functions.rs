@@ -99,6 +99,22 @@ unsafe extern "C" {
     ) -> u32;
 }
 
+#[cfg(feature = "paging")]
+unsafe extern "C" {
+    fn cfb_opened_read_at(
+        image: *const u8,
+        image_len: usize,
+        work: *const u32,
+        work_len: usize,
+        volume: *const Volume,
+        entry: u32,
+        position: u64,
+        out: *mut u8,
+        out_len: usize,
+        count: *mut u64,
+    ) -> u32;
+}
+
 // All that is lent could be written to: what a call has to leave alone is compared behind it.
 
 /// The library's answer; after 0 the volume is opened.
@@ -160,7 +176,11 @@ pub fn opened_call(
         Call::Remove { path } => unsafe {
             cfb_opened_remove(image, image_len, work, work_len, volume, path.as_ptr(), path.len())
         },
-        #[cfg(not(feature = "objects"))]
+        #[cfg(feature = "paging")]
+        Call::ReadAt { entry, position, .. } => unsafe {
+            cfb_opened_read_at(image, image_len, work, work_len, volume, *entry, *position, out, out_len, count)
+        },
+        #[cfg(not(feature = "paging"))]
         _ => return None,
     };
     Some((answer, values.of(call)))

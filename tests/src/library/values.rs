@@ -21,7 +21,7 @@ impl Values {
     pub fn of(&self, call: &Call) -> [u64; 3] {
         match call {
             Call::Find { .. } => [self.entry as u64, self.kind as u64, self.size],
-            Call::Read { .. } | Call::List { .. } | Call::Repair { .. } => [self.count, 0, 0],
+            Call::Read { .. } | Call::List { .. } | Call::Repair { .. } | Call::ReadAt { .. } => [self.count, 0, 0],
             _ => [0; 3],
         }
     }

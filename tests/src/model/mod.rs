@@ -25,7 +25,7 @@ pub struct Row {
     pub path: Vec<Vec<u16>>,
     /// The same as they are compared.
     key: Vec<(usize, Vec<u16>)>,
-    entry: u32,
+    pub entry: u32,
     red: bool,
     /// None for a storage and the root.
     pub bytes: Option<Vec<u8>>,
@@ -77,11 +77,7 @@ impl Model {
         match call {
             Call::Validate => Ok([0; 3]),
             Call::Find { path } => self.meant(path).map(|row| self.found(row)),
-            Call::Read { path, offset, .. } => {
-                let stream = self.stream(path)?;
-                let rest = stream.get(usize::try_from(*offset).unwrap_or(usize::MAX)..).ok_or(24u32)?;
-                Ok([put(out, &rest[..rest.len().min(out.len())]), 0, 0])
-            }
+            Call::Read { path, offset, .. } => rest_of(self.stream(path)?, *offset, out),
             Call::List { .. } => {
                 let text = self.listing();
                 if text.len() > out.len() { Err(27) } else { Ok([put(out, &text), 0, 0]) }
@@ -93,6 +89,7 @@ impl Model {
             Call::Remove { path } => self.remove(path),
             Call::Format(asked) => self.format(asked),
             Call::Repair { .. } => self.repair(out),
+            Call::ReadAt { entry, position, .. } => rest_of(self.stream_at(*entry).ok_or(33u32)?, *position, out),
         }
     }
 
@@ -130,6 +127,16 @@ impl Model {
         self.rows[self.meant(path)?].bytes.as_ref().ok_or(23)
     }
 
+    /// The bytes of the stream in an entry; None if no row is there, or that of a storage or the root.
+    pub fn stream_at(&self, entry: u32) -> Option<&Vec<u8>> {
+        self.rows.iter().find(|row| row.entry == entry)?.bytes.as_ref()
+    }
+
+    /// How many entries there are: each holds a row or is blank.
+    pub fn entries(&self) -> u32 {
+        (self.rows.len() + self.blanks.len()) as u32
+    }
+
     fn found(&self, row: usize) -> [u64; 3] {
         let (entry, path) = (self.rows[row].entry as u64, &self.rows[row].path);
         match &self.rows[row].bytes {
@@ -143,6 +150,12 @@ impl Model {
 /// Names as they are compared.
 fn key<T: AsRef<[u16]>>(names: &[T]) -> Vec<(usize, Vec<u16>)> {
     names.iter().map(|name| names::key(name.as_ref())).collect()
+}
+
+/// Puts what is left of a row's bytes into the out buffer, as far as there is room.
+fn rest_of(bytes: &[u8], from: u64, out: &mut [u8]) -> Result<[u64; 3], u32> {
+    let rest = bytes.get(usize::try_from(from).unwrap_or(usize::MAX)..).ok_or(24u32)?;
+    Ok([put(out, &rest[..rest.len().min(out.len())]), 0, 0])
 }
 
 /// Puts bytes at the front of the out buffer, and counts them.

@@ -8,6 +8,7 @@ mod fresh;
 mod letters;
 mod objects;
 mod opened;
+mod paging;
 mod plans;
 mod queries;
 mod readme;

@@ -17,6 +17,7 @@ fn the_uses_from_rust_are_the_examples() {
     let examples = [
         include_str!("../../examples/first.rs"),
         include_str!("../../examples/volume.rs"),
+        include_str!("../../examples/paging.rs"),
         include_str!("../../examples/fresh.rs"),
         include_str!("../../examples/repair.rs"),
     ];

@@ -14,9 +14,9 @@ pub const JETS: usize = ROOT + 3 * 128;
 #[test]
 fn numbers_and_refusals_belong_together() {
     let numbers: Vec<u32> = Refusal::ALL.iter().map(|refusal| refusal.number()).collect();
-    assert_eq!(numbers, [1, 2, 10, 11, 12, 13, 14, 15, 16, 17, 18, 20, 21, 22, 23, 24, 26, 27, 28, 29, 30, 31, 32]);
+    assert_eq!(numbers, [1, 2, 10, 11, 12, 13, 14, 15, 16, 17, 18, 20, 21, 22, 23, 24, 26, 27, 28, 29, 30, 31, 32, 33]);
     assert!(Refusal::ALL.iter().all(|&refusal| Refusal::from_number(refusal.number()) == Some(refusal)));
-    assert!([0, 3, 9, 19, 25, 33, u32::MAX].iter().all(|&number| Refusal::from_number(number).is_none()));
+    assert!([0, 3, 9, 19, 25, 34, u32::MAX].iter().all(|&number| Refusal::from_number(number).is_none()));
     assert_eq!(Refusal::TooFewFree.to_string(), "refused 26: there are too few free sectors or mini sectors");
 }
 

@@ -134,6 +134,7 @@ fn a_refusal_is_an_error_of_io() {
         (Refusal::NotFound, ErrorKind::NotFound),
         (Refusal::NotAStream, ErrorKind::InvalidInput),
         (Refusal::TooFewFree, ErrorKind::StorageFull),
+        (Refusal::BadEntry, ErrorKind::InvalidInput),
     ] {
         let error = io::Error::from(refusal);
         assert_eq!(error.kind(), kind);
