@@ -1,4 +1,4 @@
-//! An image that is looked at, without judging it first.
+//! An image that is looked at, without validating it first.
 
 #![forbid(unsafe_code)]
 
