@@ -5,7 +5,7 @@ fn main() -> Result<(), Box<dyn std::error::Error>> {
     let image = std::fs::read("samples/site.cfb")?;
     let mut work = vec![0; work_need(image.len())];
 
-    // judges nothing: every call of a view validates the image, as the plain call does
+    // validates nothing; every call of a view does, as the plain call does
     let view = View::open(&image);
     let log = view.find(&mut work, &path("Site/log"))?;
 
