@@ -32,6 +32,7 @@ use queries::read::Read;
 use repair::Repair;
 
 pub mod opened_calls;
+pub mod pulse_calls;
 
 #[no_mangle]
 pub extern "C" fn cfb_validate(image: &[u8], work: &mut [u32]) -> u32

@@ -40,14 +40,14 @@ use Rattle.opened.proofs.Validated.{left-is, ready-is}
 
 -- ---- answers after validation
 
-abbrev Late : ℕ → Type 0
+abbrev pub Late : ℕ → Type 0
 Late n = (n ≡ 0) ⊎ (20 ≤ n)
 
-late-either : (b : Bool) (m n : ℕ) → Late m → Late n → Late (cond b m n)
+pub late-either : (b : Bool) (m n : ℕ) → Late m → Late n → Late (cond b m n)
 late-either true m n h k = h
 late-either false m n h k = k
 
-late-first : (m n : ℕ) → Late m → Late n → Late (firstOf m n)
+pub late-first : (m n : ℕ) → Late m → Late n → Late (firstOf m n)
 unfolding firstOf
 late-first zero n h k = k
 late-first (suc m) n h k = h
@@ -85,7 +85,7 @@ late-stream : (v : Volume) (e : ℕ) → Late (streamAnswer v e)
 unfolding streamAnswer
 late-stream v e = late-either (ltb e (v .directory .count) && isStream (v .directory .entry e)) 0 33 (inl refl) (inr (omega arith))
 
-late : (g : Geometry) (v : Volume) (c : Call) → Late (answerIn g v c)
+pub late : (g : Geometry) (v : Volume) (c : Call) → Late (answerIn g v c)
 unfolding answerIn
 late g v (validate work) = inl refl
 late g v (find path work) = late-found (resolve (v .directory) path) (resolve-low (v .directory) path)
@@ -102,7 +102,7 @@ late g v (readAt entry position out work) =
 -- ---- the call, where the verdict is 0
 
 module _ (g : Geometry) (img : Bytes) (c : Call) (h : verdict g img (length (workOf c)) ≡ 0) where
-  answer-in : answer g img c ≡ answerIn g (volume g img) c
+  pub answer-in : answer g img c ≡ answerIn g (volume g img) c
   unfolding answer firstOf
   answer-in = rw h
 

@@ -1,0 +1,10 @@
+-- Laws for the calls on pulse streams.
+pub mod Pieces
+pub mod Listed
+pub mod Judging
+pub mod Outcomes
+pub mod WorkLengths
+pub mod Finding
+pub mod PulsesAt
+pub mod Adding
+pub mod Opening
