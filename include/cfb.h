@@ -19,6 +19,7 @@
  * U+00E0 to U+00FF but U+00F7, U+03B1 to U+03C9 but U+03C2, U+0430 to U+045F, and their capitals. No other units are.
  *
  * cfb_opened.h has the same calls on an image that is validated once for all of them, and asks something of the caller for it.
+ * pulse.h has calls on streams that keep pulses of valves, and add them up.
  */
 #ifndef CFB_H
 #define CFB_H

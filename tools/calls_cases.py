@@ -12,11 +12,12 @@ import edit_cases
 import fresh_cases
 import letter_cases
 import object_cases
+import pulse_cases
 import repair_cases
 import size_cases
 import version4_cases
 import version4_images
-from groups import CREATE_STORAGE, CREATE_STREAM, FIND, FORMAT, LIST, OVERWRITE, READ, READ_AT, REMOVE, REPAIR, SET_LENGTH, VALIDATE, Group
+from groups import CREATE_STORAGE, CREATE_STREAM, FIND, FORMAT, LIST, OVERWRITE, PULSE_ADD, PULSE_RECORD, PULSE_SUMMARY, READ, READ_AT, REMOVE, REPAIR, SET_LENGTH, VALIDATE, Group
 from images import END, byte, entry, image, put, root
 from plans import Plan, text
 
@@ -116,7 +117,7 @@ broken += [(image(3, [0], [], [1], [root(1), entry("!", 2)]), 14), (image(3, [0]
 above = image(3, [0], [], [1], [root(1, size=1 << 32), entry("s", 2, right=2, size=1 << 63), entry("Site", 1)])
 broken += [(byte(above, 1024 + 128 * i + at, value), 14) for i in (2, 3) for at, value in [(124, 1), (127, 0x80)]]
 groups = [g, s] + edit_cases.groups() + letter_cases.groups() + size_cases.groups() + version4_cases.groups() + cutoff_cases.groups() + object_cases.groups()
-groups += fresh_cases.groups() + repair_cases.groups() + cursor_cases.groups()
+groups += fresh_cases.groups() + repair_cases.groups() + cursor_cases.groups() + pulse_cases.groups()
 for img, number in broken + version4_images.REFUSED:
     b = Group(img=img)
     b.call(VALIDATE, number)
@@ -133,6 +134,11 @@ for img, number in broken + version4_images.REFUSED:
     for e in [0, 1, 2 ** 32 - 1]:
         b.read_at(e, most, number)
         b.read_at(e, 0, 1 if number == 1 else 2, work=0)
+    for path in ["", "s", "gone", "a//b"]:
+        b.summary(path, number)
+        b.record(path, 2 ** 32 - 1, number)
+        b.add(path, 1, 0, number)
+        b.add(path, 1, 0, 1 if number == 1 else 2, work=0)
     for path in ["", "s"]:
         b.find(path, 1 if number == 1 else 2, work=0)
         b.overwrite(path, 0, b"", 1 if number == 1 else 2, work=0)
@@ -144,19 +150,19 @@ for img, number in broken + version4_images.REFUSED:
 # ---- every answer that a call can give is given
 every = {0, 1, 2} | set(range(10, 19))
 paths = every | {20, 21, 22}
-counts = {kind: {} for kind in range(12)}
+counts = {kind: {} for kind in range(15)}
 for x in groups:
     for c, line in zip(x.calls, x.lines):
         number, of_kind = int(line.split()[0]), counts[c[0]]
         of_kind[number] = of_kind.get(number, 0) + 1
 for kind, numbers in [(VALIDATE, every), (FIND, paths), (READ, paths | {23, 24}), (LIST, every | {27}), (OVERWRITE, paths | {23, 24}), (SET_LENGTH, paths | {23, 26}),
                       (CREATE_STREAM, paths | {29, 30}), (CREATE_STORAGE, paths | {29, 30}), (REMOVE, paths | {28, 31}), (FORMAT, {0, 1, 32}), (REPAIR, every),
-                      (READ_AT, every | {24, 33})]:
+                      (READ_AT, every | {24, 33}), (PULSE_SUMMARY, paths | {23, 40}), (PULSE_RECORD, paths | {23, 40, 42}), (PULSE_ADD, paths | {23, 26, 40, 41})]:
     assert set(counts[kind]) == numbers, (kind, counts[kind])
 
 # ---- a kind that there is not: the program says so, and makes no other call
 last = Group(least)
-last.call(12, 0)
+last.call(15, 0)
 last.call(VALIDATE, 0)
 last.lines = ["unknown\n"]
 groups.append(last)
@@ -169,5 +175,5 @@ with open(os.path.join(out, "stdout"), "w") as f:
     for x in groups:
         f.write("".join(x.lines))
 print(len(groups), "images,", sum(len(x.calls) for x in groups), "calls,", os.path.getsize(os.path.join(out, "stdin")), "bytes")
-for kind, name in enumerate(["validate", "find", "read", "list", "overwrite", "set length", "create stream", "create storage", "remove", "format", "repair", "read at"]):
+for kind, name in enumerate(["validate", "find", "read", "list", "overwrite", "set length", "create stream", "create storage", "remove", "format", "repair", "read at", "pulse summary", "pulse record", "pulse add"]):
     print(name + ":", ", ".join("%d x %d" % (number, n) for number, n in sorted(counts[kind].items())))

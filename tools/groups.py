@@ -2,26 +2,29 @@
 
 What the program reads, all numbers little-endian: groups of an image's length and its number of calls (4 bytes each), the image, the calls. A
 call is its kind, the units of its path, the numbers of its work buffer, the bytes of its buffer, how many of those are given (4 bytes each), an offset,
-a length or a position (8 bytes), and an entry number (4 bytes); then the path's units and the given bytes. Kinds: 0 validate, 1 find, 2 read, 3 list,
-4 overwrite, 5 set length, 6 create stream, 7 create storage, 8 remove, 9 format, 10 repair, 11 read at an entry and a position. 4 writes all bytes of its
-buffer, all given, and 5 to 8 have none. The buffer of 9 has the plan, all given: the version (4 bytes), N, the sectors of directory and mini FAT, and K
+a length, a position or a valve (8 bytes), and an entry number, a record's number or ticks (4 bytes); then the path's units and the given bytes. Kinds:
+0 validate, 1 find, 2 read, 3 list, 4 overwrite, 5 set length, 6 create stream, 7 create storage, 8 remove, 9 format, 10 repair, 11 read at an entry and a
+position, 12 summary of a pulse stream, 13 its record of a number, 14 add a valve and ticks to it. 4 writes all bytes of its buffer, all given, and 5 to 8
+and 12 to 14 have none. The buffer of 9 has the plan, all given: the version (4 bytes), N, the sectors of directory and mini FAT, and K
 (8 bytes each); with fewer bytes it is no call. It leaves buffer and work buffer as they are. The buffer of 10 is the spare buffer. The other bytes of a
 buffer are 90, and a work buffer is all 7. What a kind does not look at is 0.
 
 What it prints for each call: number, entry, type, size, count (of a repair how many cells and colours differ), how many numbers of the work buffer are 0, and digests of the buffer and of the image.
+A summary's total stands with the sizes, a record's valve with the entries and its ticks with the sizes.
 Of what is no call it prints `unknown`, and ends."""
 import functools
 import itertools
 import operator
 import struct
 import fresh
+import pulses
 from edits import Edited
 from letters import order
 from plain import Reader
 from plans import printed
 from repairs import repaired
 
-VALIDATE, FIND, READ, LIST, OVERWRITE, SET_LENGTH, CREATE_STREAM, CREATE_STORAGE, REMOVE, FORMAT, REPAIR, READ_AT = range(12)
+VALIDATE, FIND, READ, LIST, OVERWRITE, SET_LENGTH, CREATE_STREAM, CREATE_STORAGE, REMOVE, FORMAT, REPAIR, READ_AT, PULSE_SUMMARY, PULSE_RECORD, PULSE_ADD = range(15)
 STORAGE, STREAM, ROOT = 1, 2, 5
 
 
@@ -124,6 +127,14 @@ class Group:
     def list(self, room, number, **more):
         self.call(LIST, number, room=room, **more)
 
+    # ---- pulse streams: values that are not given are those of a refusal
+
+    def summary(self, path, number, count=0, total=0, **more):
+        self.call(PULSE_SUMMARY, number, path, count=count, size=total, **more)
+
+    def record(self, path, k, number, valve=0, ticks=0, **more):
+        self.call(PULSE_RECORD, number, path, at=k, entry=valve, size=ticks, **more)
+
     # ---- edits: the number is what 01 gives for the case, and what the rules for 24 and 26 give must be the same
 
     def overwrite(self, path, place, given, number, spelled=None, **more):
@@ -143,6 +154,18 @@ class Group:
             row = self.rows[spelled]
             self.became(spelled, row[:length] + bytes(max(0, length - len(row))))
         self.call(SET_LENGTH, number, path, place=length, **more)
+
+    def add(self, path, valve, ticks, number, spelled=None, **more):
+        """A change of length and an overwrite of the last 24 bytes."""
+        spelled = spelled or path
+        if number in (0, 26):
+            row = self.rows[spelled]
+            assert number == self.edited.set_length(self.entries[spelled], len(row) + 8), path
+        if number == 0:
+            tail = pulses.added(row, valve, ticks)
+            assert 0 == self.edited.overwrite(self.entries[spelled], len(row) - 16, tail)
+            self.became(spelled, row[:-16] + tail)
+        self.call(PULSE_ADD, number, path, place=valve, at=ticks, **more)
 
     def create(self, kind, path, number, **more):
         """A stream or a storage of this path; the names before the last may be spelled otherwise. Their spelling is kept, and that of the last."""

@@ -33,7 +33,7 @@ impl Tally {
         self.announce(name, case);
         let after = self.judged(name, case, check(case))?;
         self.count(case.call.name(), case, after.outcome.answer);
-        if case.call.validates() {
+        if case.call.has_opened_form() {
             self.count("open", case, of_image(after.outcome.answer));
         }
         self.count_crossing(case, after.outcome.answer);
@@ -67,9 +67,8 @@ impl Tally {
 
     /// Counts a change of length over the cutoff, where the rows tell that it is one.
     fn count_crossing(&mut self, case: &Case, answer: u32) {
-        if let Some(upward) = case.model.as_ref().and_then(|rows| rows.crosses_upward(&case.call)) {
-            let [(up, _), (down, _)] = CROSSINGS;
-            self.count(if upward { up } else { down }, case, answer);
+        if let Some(crossing) = case.model.as_ref().and_then(|rows| rows.crossing(&case.call)) {
+            self.count(crossing, case, answer);
         }
     }
 
@@ -100,16 +99,20 @@ impl Tally {
             println!("not compared with the library: every call");
         } else if cfg!(not(feature = "edits")) {
             println!(
-                "not compared with the library: overwrite, set_len, create_*, remove, format, repair, read_at, opened calls"
+                "not compared with the library: overwrite, set_len, create_*, remove, format, repair, read_at, pulse_*, opened calls"
             );
         } else if cfg!(not(feature = "objects")) {
-            println!("not compared with the library: create_stream, create_storage, remove, format, repair, read_at");
+            println!(
+                "not compared with the library: create_stream, create_storage, remove, format, repair, read_at, pulse_*"
+            );
         } else if cfg!(not(feature = "fresh")) {
-            println!("not compared with the library: format, repair, read_at");
+            println!("not compared with the library: format, repair, read_at, pulse_*");
         } else if cfg!(not(feature = "repair")) {
-            println!("not compared with the library: repair, read_at");
+            println!("not compared with the library: repair, read_at, pulse_*");
         } else if cfg!(not(feature = "paging")) {
-            println!("not compared with the library: read_at");
+            println!("not compared with the library: read_at, pulse_*");
+        } else if cfg!(not(feature = "pulse")) {
+            println!("not compared with the library: pulse_summary, pulse_record, pulse_add");
         }
         let opened = if cfg!(feature = "edits") { OPENED_ANSWERS } else { &[] };
         let rows = || ANSWERS.iter().chain(&CROSSINGS).chain(opened);
@@ -143,7 +146,7 @@ pub struct After {
 fn check(case: &Case) -> Result<After, String> {
     let after = check_plain(case)?;
     #[cfg(feature = "edits")]
-    if case.call.validates() {
+    if case.call.has_opened_form() {
         library::check_once(case, &after)?;
     }
     Ok(after)

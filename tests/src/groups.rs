@@ -2,6 +2,7 @@
 //! and what is printed of each.
 
 use crate::calls::format::Fresh;
+use crate::calls::pulse::Pulse;
 use crate::calls::{Call, Outcome, perform};
 use crate::number::{u32_at, u64_at};
 use crate::volume::work_needed;
@@ -40,7 +41,7 @@ impl<'a> Rest<'a> {
     fn call(&mut self) -> Option<(Call, Vec<u8>, usize)> {
         let [kind, units, work_len, room, given] = [(); 5].map(|()| self.number());
         let place = u64_at(self.bytes(8), 0);
-        let entry = u32_at(self.bytes(4), 0);
+        let number = u32_at(self.bytes(4), 0);
         let path = self.bytes(2 * units).chunks(2).map(|unit| u16::from_le_bytes([unit[0], unit[1]])).collect();
         let mut buffer = self.bytes(given).to_vec();
         buffer.resize(room, 90);
@@ -56,7 +57,10 @@ impl<'a> Rest<'a> {
             8 => Call::Remove { path },
             9 => Call::Format(plan(&buffer)?),
             10 => Call::Repair { spare: buffer.clone() },
-            11 => Call::ReadAt { entry, position: place, out: buffer.clone() },
+            11 => Call::ReadAt { entry: number, position: place, out: buffer.clone() },
+            12 => Call::PulseSummary { path },
+            13 => Call::PulseRecord { path, number },
+            14 => Call::PulseAdd { path, pulse: Pulse { valve: place as u16, ticks: number } },
             _ => return None,
         };
         Some((call, buffer, work_len))
@@ -76,13 +80,23 @@ fn plan(buffer: &[u8]) -> Option<Fresh> {
 
 fn line(call: &Call, buffer: &[u8], image: &mut [u8], work_len: usize) -> String {
     let Outcome { answer, values, out } = perform(call, image, work_len);
-    let (found, count) = if matches!(call, Call::Find { .. }) { (values, 0) } else { ([0; 3], values[0]) };
+    let [entry, kind, size, count] = columns(call, values);
     let lent = matches!(call, Call::Read { .. } | Call::List { .. } | Call::Repair { .. } | Call::ReadAt { .. });
     let buffer = if lent { &out } else { buffer };
     let untouched = !call.has_work() || answer == 1 || answer == 2;
     let zeros = if untouched { 0 } else { work_needed(image.len()) };
-    let [entry, kind, size] = found;
     format!("{answer} {entry} {kind} {size} {count} {zeros} {} {}\n", digest(buffer), digest(image))
+}
+
+/// A call's values as entry, type, size and count. A record's valve stands with the entries, and ticks with the sizes.
+fn columns(call: &Call, values: [u64; 3]) -> [u64; 4] {
+    let [first, second, third] = values;
+    match call {
+        Call::Find { .. } => [first, second, third, 0],
+        Call::PulseSummary { .. } => [0, 0, second, first],
+        Call::PulseRecord { .. } => [first, 0, second, 0],
+        _ => [0, 0, 0, first],
+    }
 }
 
 fn digest(bytes: &[u8]) -> u32 {

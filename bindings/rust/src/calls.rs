@@ -1,4 +1,4 @@
-//! The C interface (include/cfb.h), called with slices. Only this module and `opened` have unsafe code.
+//! The C interface (include/cfb.h), called with slices. Only this module, `opened` and `pulse_calls` have unsafe code.
 //!
 //! The interface asks nothing of what a buffer holds. It asks three things of the pointers, and slices and references have
 //! them all:

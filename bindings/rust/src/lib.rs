@@ -10,9 +10,9 @@
 //! U+03C2, U+0430 to U+045F, and their capitals. No other units are.
 //!
 //! Every call but [`format()`] and [`repair`] validates the whole image first, and refuses it as [`validate`] does. Only
-//! [`overwrite`], [`set_len`], [`create_stream`], [`create_storage`], [`remove`], [`format()`] and [`repair`] change it.
-//! After a refusal the image and an out buffer are as they were. The work buffer is as it was after [`Refusal::BadLength`]
-//! and [`Refusal::ShortWork`]; else its first [`work_need`] numbers are zero, and the rest is as it was.
+//! [`overwrite`], [`set_len`], [`create_stream`], [`create_storage`], [`remove`], [`format()`], [`repair`] and [`pulse::add`]
+//! change it. After a refusal the image and an out buffer are as they were. The work buffer is as it was after
+//! [`Refusal::BadLength`] and [`Refusal::ShortWork`]; else its first [`work_need`] numbers are zero, and the rest is as it was.
 //!
 //! ```
 //! use gyomrelas::{find, path, work_need, Kind, Refusal};
@@ -28,6 +28,8 @@
 //! For many calls on one image, open it once: a [`Volume`] has the same calls, and validates when it is opened. A
 //! [`ReadOnlyVolume`] does so with an image that is not to be changed. A [`View`] holds an image and validates nothing when it is
 //! opened; a [`Cursor`] pages through one of its streams.
+//!
+//! The module [`pulse`] has calls on streams that keep pulses of valves, and add them up.
 
 #![deny(unsafe_code, missing_docs)]
 
@@ -38,6 +40,8 @@ mod entry;
 mod objects;
 mod opened;
 mod plan;
+pub mod pulse;
+mod pulse_calls;
 mod read_only;
 mod refusal;
 mod seek;

@@ -1,4 +1,5 @@
-//! The calls on an opened volume (include/cfb_opened.h), called with slices. Beside `calls`, only this module has unsafe code.
+//! The calls on an opened volume (include/cfb_opened.h), called with slices. Beside this module only `calls` and
+//! `pulse_calls` have unsafe code.
 //!
 //! Of the pointers the interface asks what `calls` says. Beyond that it has a duty: from `cfb_open` to `cfb_close` nobody else
 //! writes to the image, to the work buffer or to what opening found, and every call is given these three. The types of this

@@ -20,6 +20,16 @@ use kinds::refusal_number;
 use le::u16_at;
 use le::u32_at;
 use le::u64_at;
+use pulse::add;
+use pulse::answers::Added;
+use pulse::answers::Record;
+use pulse::answers::Summary;
+use pulse::answers::pulse_number;
+use pulse::record;
+use pulse::summary;
+use pulse_records::Records;
+use pulse_records::Ticks;
+use pulse_records::Valve;
 use queries::find::Find;
 use queries::list::List;
 use queries::read::Read;
@@ -93,6 +103,49 @@ fn repaired(r: Repair) -> Values {
     }
 }
 
+// The total of a summary stands with the sizes.
+fn summed(r: Summary) -> Values {
+    match r {
+        Summary::Done(t) => {
+            let count = t.count;
+            let total = t.total;
+            Values {
+                number: 0,
+                entry: 0,
+                kind: 0,
+                size: total.0,
+                count: count.0 as u64,
+            }
+        }
+        Summary::Refused(a) => plain(pulse_number(a)),
+    }
+}
+
+// The valve of a record stands with the entries, its ticks with the sizes.
+fn recorded(r: Record) -> Values {
+    match r {
+        Record::Done(p) => {
+            let valve = p.valve;
+            let ticks = p.ticks;
+            Values {
+                number: 0,
+                entry: valve.0 as u32,
+                kind: 0,
+                size: ticks.0 as u64,
+                count: 0,
+            }
+        }
+        Record::Refused(a) => plain(pulse_number(a)),
+    }
+}
+
+fn added(r: Added) -> Values {
+    match r {
+        Added::Done => plain(0),
+        Added::Refused(a) => plain(pulse_number(a)),
+    }
+}
+
 // What came of a call. A kind that there is not, and a fresh image with too little of a plan, is no call.
 enum Outcome {
     Made(Values),
@@ -114,14 +167,15 @@ fn fresh(image: &mut [u8], bytes: &[u8]) -> Outcome {
 }
 
 // The call of a kind: 0 validates, 1 finds, 2 reads, 3 lists, 4 overwrites, 5 sets a length, 6 creates a
-// stream, 7 a storage, 8 removes, 9 writes a fresh image, 10 repairs, with the bytes as spare buffer, 11 reads at an entry.
+// stream, 7 a storage, 8 removes, 9 writes a fresh image, 10 repairs, with the bytes as spare buffer, 11 reads at an entry, 12 sums up a
+// pulse stream, 13 gives its record of a number, 14 adds ticks of a valve to it, whose number is the place.
 fn make(
     kind: u32,
     image: &mut [u8],
     work: &mut [u32],
     path: &[u16],
     place: u64,
-    entry: u32,
+    last: u32,
     bytes: &mut [u8],
 ) -> Outcome {
     match kind {
@@ -136,7 +190,16 @@ fn make(
         8 => Outcome::Made(plain(number(remove(image, work, path)))),
         9 => fresh(image, bytes),
         10 => Outcome::Made(repaired(repair(image, work, bytes))),
-        11 => Outcome::Made(copied(read_at(image, work, EntryId(entry), place, bytes))),
+        11 => Outcome::Made(copied(read_at(image, work, EntryId(last), place, bytes))),
+        12 => Outcome::Made(summed(summary(image, work, path))),
+        13 => Outcome::Made(recorded(record(image, work, path, Records(last)))),
+        14 => Outcome::Made(added(add(
+            image,
+            work,
+            path,
+            Valve((place % 65536) as u16),
+            Ticks(last),
+        ))),
         _ => Outcome::Unknown,
     }
 }
@@ -219,8 +282,8 @@ fn run(
 ) -> bool {
     let kind = u32_at(head, 0);
     let place = u64_at(head, 20);
-    let entry = u32_at(head, 28);
-    let Outcome::Made(v) = make(kind, image, work, path, place, entry, bytes) else {
+    let last = u32_at(head, 28);
+    let Outcome::Made(v) = make(kind, image, work, path, place, last, bytes) else {
         io::write_all(1, b"unknown\n");
         return false;
     };

@@ -1,8 +1,10 @@
-//! The images of the benchmark: many makes of them for validators, at two lengths, and one image for lists of calls.
+//! The images of the benchmark: many makes of them for validators, at two lengths, one image for lists of calls, and some with a long
+//! pulse stream.
 
 pub mod broken;
 pub mod good;
 pub mod many;
+pub mod pulses;
 pub mod version4;
 pub mod worst;
 

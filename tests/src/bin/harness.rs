@@ -1,16 +1,16 @@
 //! harness SEED [IMAGES [CALLS [LISTS]]]   all cases: random images to validate, random calls, random lists of calls, as
 //!                                         many lists on opened volumes, on fresh images and on repaired ones, and listings
-//!                                         read back and streams read in pieces, one image each for ten lists
+//!                                         read back, streams read in pieces and pulses added, one image each for ten lists
 //! harness SEED only KIND NUMBER           one case again: KIND is fixed, samples, small, large, tables, calls, deep, filled,
-//!                                         crowded, lists, opened, formatted, repaired, paged, listed
+//!                                         crowded, lists, opened, formatted, repaired, paged, pulsed, listed
 
 use cfb_tests::breaks::uses::Uses;
 use cfb_tests::calls::{ANSWERS, CROSSINGS, OPENED_ANSWERS};
 #[cfg(feature = "edits")]
 use cfb_tests::cases::opened;
 use cfb_tests::cases::{
-    Case, calls::Calls, crowded, deep, filled, fixed, formatted, large, listed, lists, paged, repaired, samples,
-    small::Cases, tables,
+    Case, calls::Calls, crowded, deep, filled, fixed, formatted, large, listed, lists, paged, pulsed, repaired,
+    samples, small::Cases, tables,
 };
 use cfb_tests::compare::Tally;
 
@@ -24,6 +24,8 @@ const ENOUGH_LISTS: u64 = 1_000;
 const LISTS_FOR_A_LISTING: u64 = 10;
 /// For so many lists the streams of one image are read in pieces.
 const LISTS_FOR_PAGES: u64 = 10;
+/// For so many lists pulses are added to one stream, in a list of fifty steps.
+const LISTS_FOR_PULSES: u64 = 10;
 
 fn main() {
     let words: Vec<String> = std::env::args().skip(1).collect();
@@ -85,6 +87,9 @@ fn all(seed: u64, images: u64, calls: u64, list_count: u64) -> Tally {
     for number in 0..list_count / LISTS_FOR_PAGES {
         paged::run(seed, number, false, &mut tally);
     }
+    for number in 0..list_count / LISTS_FOR_PULSES {
+        pulsed::run(seed, number, false, &mut tally);
+    }
     for number in 0..list_count / LISTS_FOR_A_LISTING {
         listed::run(seed, number, false, &mut tally);
     }
@@ -132,6 +137,10 @@ fn one(seed: u64, kind: &str, number: u64) -> Tally {
     }
     if kind == "paged" {
         paged::run(seed, number, true, &mut tally);
+        return tally;
+    }
+    if kind == "pulsed" {
+        pulsed::run(seed, number, true, &mut tally);
         return tally;
     }
     if kind == "listed" {

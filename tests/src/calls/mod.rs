@@ -7,6 +7,7 @@ pub mod list;
 pub mod overwrite;
 pub mod patch;
 pub mod path;
+pub mod pulse;
 pub mod read;
 pub mod remove;
 pub mod repair;
@@ -18,6 +19,7 @@ use crate::volume::entry::{STORAGE, STREAM};
 use crate::volume::{Volume, admit, version};
 use format::Fresh;
 use patch::Patch;
+use pulse::Pulse;
 
 /// A call with its path, numbers and bytes to be written, and the first content of its out buffer or spare buffer.
 #[derive(Clone, PartialEq, Debug)]
@@ -34,13 +36,17 @@ pub enum Call {
     Format(Fresh),
     Repair { spare: Vec<u8> },
     ReadAt { entry: u32, position: u64, out: Vec<u8> },
+    PulseSummary { path: Vec<u16> },
+    PulseRecord { path: Vec<u16>, number: u32 },
+    PulseAdd { path: Vec<u16>, pulse: Pulse },
 }
 
 /// What a call hands back.
 #[derive(Clone, PartialEq, Debug)]
 pub struct Outcome {
     pub answer: u32,
-    /// Of a find the entry number, kind and size; of both reads, a listing and a repair the count, and zeros.
+    /// Of a find the entry number, kind and size; of both reads, a listing and a repair the count; of a pulse stream's summary the count
+    /// of records and the total of their ticks, and of a record its valve and its ticks. Then zeros.
     pub values: [u64; 3],
     /// The out buffer after the call; of a repair the spare buffer.
     pub out: Vec<u8>,
@@ -68,11 +74,13 @@ impl Call {
             Call::Format(_) => "format",
             Call::Repair { .. } => "repair",
             Call::ReadAt { .. } => "read_at",
+            Call::PulseSummary { .. } => "pulse_summary",
+            Call::PulseRecord { .. } => "pulse_record",
+            Call::PulseAdd { .. } => "pulse_add",
         }
     }
 
-    /// The name of the call on an opened volume; to open is to validate, and a fresh image is written and an image repaired when it is
-    /// closed.
+    /// The name of the call on an opened volume; to open is to validate, and what has no such form is done when it is closed.
     pub fn opened_name(&self) -> &'static str {
         match self {
             Call::Validate => "open",
@@ -84,15 +92,20 @@ impl Call {
             Call::CreateStream { .. } => "opened create_stream",
             Call::CreateStorage { .. } => "opened create_storage",
             Call::Remove { .. } => "opened remove",
-            Call::Format(_) => "format",
-            Call::Repair { .. } => "repair",
             Call::ReadAt { .. } => "opened read_at",
+            _ => self.name(),
         }
     }
 
-    /// Whether the call validates the image before all else. Then it has a form on an opened volume.
+    /// Whether the call validates the image before all else.
     pub fn validates(&self) -> bool {
         !matches!(self, Call::Format(_) | Call::Repair { .. })
+    }
+
+    /// Whether it has a form on an opened volume, or is answered by opening one: what validates, but for the calls on pulse streams.
+    pub fn has_opened_form(&self) -> bool {
+        let on_pulses = matches!(self, Call::PulseSummary { .. } | Call::PulseRecord { .. } | Call::PulseAdd { .. });
+        self.validates() && !on_pulses
     }
 
     /// Whether it is lent a work buffer.
@@ -132,10 +145,14 @@ pub const ANSWERS: &Answers = &[
     ("format", &[0, 1, 32]),
     ("repair", &[0, 1, 2, 10, 11, 12, 13, 14, 15, 16, 17, 18]),
     ("read_at", &[0, 1, 2, 10, 11, 12, 13, 14, 15, 16, 17, 18, 24, 33]),
+    ("pulse_summary", &[0, 1, 2, 10, 11, 12, 13, 14, 15, 16, 17, 18, 20, 21, 22, 23, 40]),
+    ("pulse_record", &[0, 1, 2, 10, 11, 12, 13, 14, 15, 16, 17, 18, 20, 21, 22, 23, 40, 42]),
+    ("pulse_add", &[0, 1, 2, 10, 11, 12, 13, 14, 15, 16, 17, 18, 20, 21, 22, 23, 26, 40, 41]),
 ];
 
-/// Changes of length over the cutoff, which are counted by themselves too (W-201).
-pub const CROSSINGS: [CallAnswers; 2] = [("set_len up", &[0, 26]), ("set_len down", &[0, 26])];
+/// Changes of length over the cutoff, which are counted by themselves too (W-201), and additions to a pulse stream that make one.
+pub const CROSSINGS: [CallAnswers; 3] =
+    [("set_len up", &[0, 26]), ("set_len down", &[0, 26]), ("pulse_add up", &[0, 26])];
 
 /// Opening, and every call on an opened volume, which is not refused for its image.
 pub const OPENED_ANSWERS: &Answers = &[
@@ -168,7 +185,7 @@ pub fn perform(call: &Call, image: &mut [u8], work_len: usize) -> Outcome {
     }
     let result = admit(image, work_len).and_then(|volume| done(call, &volume, &mut out));
     let result = result.map(|(values, patches)| {
-        patch::apply(image, patches);
+        patch::apply(image, &patches);
         values
     });
     Outcome::of(result, out)
@@ -192,6 +209,9 @@ fn done(call: &Call, volume: &Volume, out: &mut [u8]) -> Result<([u64; 3], Vec<P
         Call::CreateStream { path } => patches = create::create(volume, path, STREAM)?,
         Call::CreateStorage { path } => patches = create::create(volume, path, STORAGE)?,
         Call::Remove { path } => patches = remove::remove(volume, path)?,
+        Call::PulseSummary { path } => values = pulse::summary(volume, path)?,
+        Call::PulseRecord { path, number } => values = pulse::record(volume, path, *number)?,
+        Call::PulseAdd { path, pulse } => patches = pulse::add(volume, path, *pulse)?,
         Call::Format(_) | Call::Repair { .. } => panic!("no call on a valid image"),
     }
     Ok((values, patches))
@@ -216,6 +236,9 @@ impl std::fmt::Display for Call {
             Call::Format(asked) => write!(f, "{asked:?}"),
             Call::Repair { spare } => write!(f, "repair, spare {}", spare.len()),
             Call::ReadAt { entry, position, out } => write!(f, "read_at {entry} from {position}, out {}", out.len()),
+            Call::PulseSummary { path } => write!(f, "{} {:?}", self.name(), text(path)),
+            Call::PulseRecord { path, number } => write!(f, "{} {:?}, number {number}", self.name(), text(path)),
+            Call::PulseAdd { path, pulse } => write!(f, "{} {:?}, {pulse:?}", self.name(), text(path)),
         }
     }
 }

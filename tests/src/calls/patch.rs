@@ -10,7 +10,7 @@ pub struct Patch {
     pub bytes: Vec<u8>,
 }
 
-pub fn apply(image: &mut [u8], patches: Vec<Patch>) {
+pub fn apply(image: &mut [u8], patches: &[Patch]) {
     for patch in patches {
         image[patch.at..patch.at + patch.bytes.len()].copy_from_slice(&patch.bytes);
     }

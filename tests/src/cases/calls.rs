@@ -47,11 +47,15 @@ impl Calls {
     }
 }
 
-/// Noise in the streams shows which bytes were read.
+/// Noise in the streams shows which bytes were read. In every other image some of them are pulse streams.
 fn sample(r: &mut Random) -> Sample {
     let mut plan = random_plan::plan(r);
     if !r.one_in(8) {
         plan.fill = Fill::Noise;
     }
-    Sample::build(&plan, r)
+    let mut sample = Sample::build(&plan, r);
+    if r.one_in(2) {
+        sample.lay_pulses(r);
+    }
+    sample
 }

@@ -1,12 +1,14 @@
-//! A list of calls on the longest image: a stream grown to all its free sectors, overwritten, read back, by its entry too, and cut, and
-//! taken over the cutoff. Where the library's edits are linked, the volume is opened once before them and closed behind them.
+//! A list of calls on the longest image: a stream grown to all its free sectors, overwritten, read back, by its entry too, cut, taken
+//! over the cutoff, and filled with pulses to the last that there is room for. Where the library's edits are linked, the volume is opened once before them and closed behind them.
 
 use super::large::MIB_64;
 use super::lists::{List, OneVolume};
 use crate::calls::Call;
+use crate::calls::pulse::Pulse;
 use crate::compare::Tally;
 use crate::geometry::{Geometry, VERSIONS};
 use crate::images::plan::{Fill, Order, Plan};
+use crate::images::pulses::{some, written};
 use crate::images::{Sample, names};
 use crate::number::NOSTREAM;
 use crate::random::Random;
@@ -21,7 +23,8 @@ pub fn run(seed: u64, number: u64, shown: bool, tally: &mut Tally) {
     let g = VERSIONS[number as usize];
     let sample = sample(g, &mut r);
     let work_len = work_needed(sample.image.len());
-    let calls = calls(g, sample.layout.free.len() * g.sector, &mut r);
+    let most = sample.layout.free.len() * g.sector;
+    let calls = [calls(g, most, &mut r), pulses(most, &mut r)].concat();
     let list = List::on(sample, format!("seed {seed} filled {number}"), r, shown);
     let Some(mut volume) = OneVolume::open(list, work_len, tally) else { return };
     if calls.into_iter().all(|(call, answer)| volume.make(call, Some(answer)).is_some()) {
@@ -89,5 +92,28 @@ fn calls(g: Geometry, most: usize, r: &mut Random) -> Vec<(Call, u32)> {
         (Call::List { out: vec![b'#'; 100] }, 0),
         (length(0), 0),
         (Call::Validate, 0),
+    ]
+}
+
+/// As many records as there is room for but one, behind a preamble; then the last, and one too many.
+fn pulses(most: usize, r: &mut Random) -> Vec<(Call, u32)> {
+    let path = || names::of("log");
+    let (preamble, count) = (5, (most - 5 - 16) / 8 - 1);
+    let bytes = written(&(0..count).map(|_| some(r)).collect::<Vec<Pulse>>());
+    let (length, last) = ((preamble + bytes.len()) as u64, count as u32);
+    let add = |ticks| Call::PulseAdd { path: path(), pulse: Pulse { valve: 9, ticks } };
+    vec![
+        (Call::SetLength { path: path(), length }, 0),
+        (Call::PulseSummary { path: path() }, 40),
+        (Call::Overwrite { path: path(), offset: preamble as u64, bytes }, 0),
+        (Call::PulseSummary { path: path() }, 0),
+        (Call::PulseRecord { path: path(), number: last - 1 }, 0),
+        (Call::PulseRecord { path: path(), number: last }, 42),
+        (add(0), 41),
+        (add(u32::MAX), 0),
+        (Call::PulseSummary { path: path() }, 0),
+        (Call::PulseRecord { path: path(), number: last }, 0),
+        (add(1), 26),
+        (add(0), 41),
     ]
 }

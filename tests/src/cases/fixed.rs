@@ -1,10 +1,10 @@
 //! Cases on each side of the lines that the papers draw for lengths, the papers' own, and those of names, sizes, sectors, the
-//! cutoff, objects, fresh images, repairs, entries read by their numbers, and versions.
+//! cutoff, objects, fresh images, repairs, entries read by their numbers, pulse streams, and versions.
 
 use super::large::{MIB_8, MIB_64};
 use super::{
-    Case, cursor, cutoff, folding, fresh, names, new_names, object_lists, objects, papers, repair, sectors, siblings,
-    sizes, versions,
+    Case, cursor, cutoff, folding, fresh, names, new_names, object_lists, objects, papers, pulse, repair, sectors,
+    siblings, sizes, versions,
 };
 use crate::geometry::{GREATEST_IMAGE, Geometry, V3, VERSIONS};
 use crate::images::Sample;
@@ -35,6 +35,7 @@ pub fn run(then: &mut dyn FnMut(u64, Case)) {
         fresh::run(g, &mut next);
         repair::cases(g).into_iter().for_each(&mut next);
         cursor::run(g, &mut next);
+        pulse::run(g, &mut next);
     }
     folding::cases().into_iter().for_each(&mut next);
     versions::cases().into_iter().for_each(&mut next);

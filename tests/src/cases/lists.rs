@@ -29,7 +29,7 @@ pub fn run(seed: u64, number: u64, shown: bool, tally: &mut Tally) {
 
 /// A list before its next call.
 pub struct List {
-    name: String,
+    pub name: String,
     r: Random,
     shown: bool,
     made: usize,
@@ -40,7 +40,10 @@ pub struct List {
 impl List {
     pub fn new(name: String, mut r: Random, shown: bool) -> List {
         let plan = if r.one_in(5) { random_plan::plan(&mut r) } else { random_plan::scarce(&mut r) };
-        let sample = Sample::build(&plan, &mut r);
+        let mut sample = Sample::build(&plan, &mut r);
+        if r.one_in(2) {
+            sample.lay_pulses(&mut r);
+        }
         List::on(sample, name, r, shown)
     }
 

@@ -24,6 +24,8 @@ pub mod objects;
 pub mod opened;
 pub mod paged;
 pub mod papers;
+pub mod pulse;
+pub mod pulsed;
 pub mod repair;
 pub mod repaired;
 pub mod samples;

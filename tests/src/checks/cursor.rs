@@ -16,7 +16,7 @@ use crate::volume::work_needed;
 fn cases_of_reads_at_entries() {
     let mut tally = Tally::new();
     VERSIONS.into_iter().for_each(|g| cursor::run(g, &mut |case| assert!(tally.run("cursor", &case).is_some())));
-    tally.ask_for_every_answer(&ANSWERS[11..]);
+    tally.ask_for_every_answer(&ANSWERS[11..12]);
     assert!(tally.passed > 3_000 && tally.failed == 0, "{}", tally.passed);
 }
 
@@ -25,7 +25,7 @@ fn cases_of_reads_at_entries() {
 fn a_missing_version_is_a_failure() {
     let mut tally = Tally::new();
     cursor::run(V4, &mut |case| drop(tally.run("version 4", &case)));
-    tally.ask_for_every_answer(&ANSWERS[11..]);
+    tally.ask_for_every_answer(&ANSWERS[11..12]);
     assert_eq!(tally.failed as usize, ANSWERS[11].1.len());
 }
 

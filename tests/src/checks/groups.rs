@@ -22,5 +22,5 @@ fn what_is_no_call() {
     let plan: Vec<u8> = [3, 2, 0, 1, 0, 0, 0, 0, 0].map(u32::to_le_bytes).concat();
     assert!(lines(&input(9, &plan)).starts_with("0 0 0 0 0 0 "));
     assert_eq!(lines(&input(9, &plan[..35])), "unknown\n");
-    assert_eq!(lines(&input(12, &plan)), "unknown\n");
+    assert_eq!(lines(&input(15, &plan)), "unknown\n");
 }

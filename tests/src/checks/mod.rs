@@ -9,6 +9,7 @@ mod objects;
 mod plain_owners;
 mod plain_siblings;
 mod plain_tree;
+mod pulse;
 mod repair;
 mod samples;
 mod sizes;

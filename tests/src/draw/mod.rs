@@ -4,8 +4,10 @@ mod entries;
 pub mod fresh;
 mod numbers;
 mod paths;
+pub mod pulses;
 
 use crate::calls::Call;
+use crate::images;
 use crate::model::Model;
 use crate::random::Random;
 
@@ -23,13 +25,14 @@ pub fn call(model: &Model, r: &mut Random) -> Call {
 
 /// One that leaves every object where it is.
 pub fn on_streams(model: &Model, r: &mut Random) -> Call {
-    match r.below(36) {
+    match r.below(44) {
         0 => Call::Validate,
         1..5 => Call::Find { path: paths::path(model, r) },
         5..10 => read(model, r),
         10..13 => list(model, r),
         13..20 => overwrite(model, r),
         20..24 => read_at(model, r),
+        24..32 => pulses::call(model, r),
         _ => set_length(model, r),
     }
 }
@@ -59,6 +62,10 @@ fn list(model: &Model, r: &mut Random) -> Call {
 fn overwrite(model: &Model, r: &mut Random) -> Call {
     let path = paths::path(model, r);
     let size = size(model, &path, r);
+    // Now and then it is a pulse stream then.
+    if let Some(bytes) = images::pulses::end_of(size as usize, r).filter(|_| r.one_in(10)) {
+        return Call::Overwrite { path, offset: size - bytes.len() as u64, bytes };
+    }
     let offset = numbers::offset(model.geometry, size, r);
     let count = numbers::write_len(size, offset, r);
     Call::Overwrite { path, offset, bytes: noise(count, r) }

@@ -19,6 +19,17 @@ pub fn path(model: &Model, r: &mut Random) -> Vec<u16> {
     }
 }
 
+/// Mostly a pulse stream's, if there is one, also in other letters.
+pub fn to_pulses(model: &Model, r: &mut Random) -> Vec<u16> {
+    let names = of_some(&model.rows, r, |row| row.pulses().is_some());
+    match r.below(8) {
+        0..2 => path(model, r),
+        _ if names.is_empty() => path(model, r),
+        2..4 => recased(&of(&names), r),
+        _ => of(&names),
+    }
+}
+
 /// A path for an object to be created.
 pub fn new(model: &Model, r: &mut Random) -> Vec<u16> {
     match r.below(32) {

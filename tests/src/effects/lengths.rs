@@ -12,7 +12,7 @@ use std::ops::Range;
 pub struct Seen<'a> {
     volume: Volume<'a>,
     entry: usize,
-    size: u64,
+    pub size: u64,
     pub chain: Vec<u32>,
 }
 
@@ -40,8 +40,13 @@ impl Seen<'_> {
         if small { &self.volume.mini.chains.cells } else { &self.volume.sectors.cells }
     }
 
+    /// All its bytes.
+    pub fn bytes(&self) -> Vec<u8> {
+        self.stream().bytes(self.volume.image, 0, self.size)
+    }
+
     /// All eight bytes of its size.
-    fn size_field(&self) -> &[u8] {
+    pub fn size_field(&self) -> &[u8] {
         &self.volume.directory.entry(self.entry).bytes[120..]
     }
 
@@ -63,23 +68,38 @@ pub fn changed(before: &[u8], after: &[u8], path: &[u16], length: u64) -> Result
     }
     held(new.size_field() == length.to_le_bytes(), "the upper half of the size is not zero")?;
     let mut places: Vec<Range<usize>> = old.fields().chain(new.fields()).collect();
-    if old.size.min(new.size) > 0 && old.is_small() != new.is_small() {
+    if crosses(&old, &new) {
         places.extend(moved(&old, &new)?);
     } else if new.size < old.size {
         held(old.chain.starts_with(&new.chain), "a cut chain is not the front of the old one")?;
     } else {
-        let added = new.chain.strip_prefix(&old.chain[..]).ok_or("a longer chain does not start with the old one")?;
-        lowest_free(&old, &new, added)?;
+        longer_chain(&old, &new)?;
         places.extend(zero_from(&new, old.size)?);
     }
     Ok(places)
 }
 
+/// Whether the stream is on the other side of the cutoff.
+pub fn crosses(old: &Seen, new: &Seen) -> bool {
+    old.size.min(new.size) > 0 && old.is_small() != new.is_small()
+}
+
+/// The old chain, and behind it the lowest free units.
+pub fn longer_chain(old: &Seen, new: &Seen) -> Result<(), &'static str> {
+    let added = new.chain.strip_prefix(&old.chain[..]).ok_or("a longer chain does not start with the old one")?;
+    lowest_free(old, new, added)
+}
+
+/// The lowest free units of the other kind, and the old chain free.
+pub fn other_chain(old: &Seen, new: &Seen) -> Result<(), &'static str> {
+    lowest_free(old, new, &new.chain)?;
+    held(old.chain.iter().all(|&unit| new.cells(old.is_small())[unit as usize] == FREE), "the old chain is not free")
+}
+
 /// Over the cutoff: another chain, which holds the bytes that are kept and zeros up to its end. The places of its bytes.
 fn moved(old: &Seen, new: &Seen) -> Result<Vec<Range<usize>>, &'static str> {
     let kept = old.size.min(new.size);
-    lowest_free(old, new, &new.chain)?;
-    held(old.chain.iter().all(|&unit| new.cells(old.is_small())[unit as usize] == FREE), "the old chain is not free")?;
+    other_chain(old, new)?;
     let bytes = |seen: &Seen| seen.stream().bytes(seen.volume.image, 0, kept);
     held(bytes(old) == bytes(new), "other bytes than those that are kept")?;
     zero_from(new, kept)?;
@@ -96,7 +116,7 @@ fn lowest_free(old: &Seen, new: &Seen, added: &[u32]) -> Result<(), &'static str
 }
 
 /// From here to the chain's end there are zeros. Their places.
-fn zero_from(new: &Seen, offset: u64) -> Result<Vec<Range<usize>>, &'static str> {
+pub fn zero_from(new: &Seen, offset: u64) -> Result<Vec<Range<usize>>, &'static str> {
     let wiped: Vec<Range<usize>> = new.stream().pieces(offset, u64::MAX).collect();
     let zero = |part: &Range<usize>| new.volume.image[part.clone()].iter().all(|&byte| byte == 0);
     held(wiped.iter().all(zero), "not zero up to the chain's end")?;

@@ -4,6 +4,7 @@
 mod fresh;
 mod lengths;
 mod objects;
+mod pulse;
 mod repair;
 
 use crate::calls::{Call, Outcome};
@@ -21,6 +22,7 @@ pub fn check(call: &Call, outcome: &Outcome, before: &[u8], after: &[u8]) -> Res
         Call::CreateStream { path } => objects::created(before, after, path, STREAM)?,
         Call::CreateStorage { path } => objects::created(before, after, path, STORAGE)?,
         Call::Remove { path } => objects::removed(before, after, path)?,
+        Call::PulseAdd { path, pulse } => pulse::added(before, after, path, *pulse)?,
         Call::Format(asked) => fresh::written(after, asked)?,
         Call::Repair { .. } => repair::repaired(before, after, outcome.values[0])?,
         _ => Vec::new(),

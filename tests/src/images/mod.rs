@@ -5,6 +5,7 @@ pub mod letters;
 pub mod names;
 pub mod places;
 pub mod plan;
+pub mod pulses;
 pub mod random_plan;
 pub mod shape;
 pub mod units;

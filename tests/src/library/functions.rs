@@ -135,6 +135,41 @@ unsafe extern "C" {
     ) -> u32;
 }
 
+#[cfg(feature = "pulse")]
+unsafe extern "C" {
+    fn pulse_summary(
+        image: *const u8,
+        image_len: usize,
+        work: *mut u32,
+        work_len: usize,
+        path: *const u16,
+        path_len: usize,
+        count: *mut u32,
+        total: *mut u64,
+    ) -> u32;
+    fn pulse_record(
+        image: *const u8,
+        image_len: usize,
+        work: *mut u32,
+        work_len: usize,
+        path: *const u16,
+        path_len: usize,
+        number: u32,
+        valve: *mut u16,
+        ticks: *mut u32,
+    ) -> u32;
+    fn pulse_add(
+        image: *mut u8,
+        image_len: usize,
+        work: *mut u32,
+        work_len: usize,
+        path: *const u16,
+        path_len: usize,
+        valve: u16,
+        ticks: u32,
+    ) -> u32;
+}
+
 /// The library's answer for an image that it may not change.
 pub fn validate(image: &[u8], work: &mut [u32]) -> u32 {
     // A slice's pointer is not null, aligned, and good for its length.
@@ -148,7 +183,7 @@ pub fn call(call: &Call, image: &mut [u8], work: &mut [u32], out: &mut [u8]) -> 
     let (work, work_len) = (work.as_mut_ptr(), work.len());
     let (out, out_len) = (out.as_mut_ptr(), out.len());
     let mut values = Values::noise();
-    let Values { entry, kind, size, count } = &mut values;
+    let Values { entry, kind, size, count, .. } = &mut values;
     // A slice's pointer is not null, aligned, and good for its length.
     let answer = match call {
         Call::Validate => unsafe { cfb_validate(image, image_len, work, work_len) },
@@ -191,7 +226,24 @@ pub fn call(call: &Call, image: &mut [u8], work: &mut [u32], out: &mut [u8]) -> 
         Call::ReadAt { entry, position, .. } => unsafe {
             cfb_read_at(image, image_len, work, work_len, *entry, *position, out, out_len, count)
         },
-        #[cfg(not(feature = "paging"))]
+        #[cfg(feature = "pulse")]
+        Call::PulseSummary { path } => unsafe {
+            let (path, path_len) = (path.as_ptr(), path.len());
+            let Values { records, total, .. } = &mut values;
+            pulse_summary(image, image_len, work, work_len, path, path_len, records, total)
+        },
+        #[cfg(feature = "pulse")]
+        Call::PulseRecord { path, number } => unsafe {
+            let (path, path_len) = (path.as_ptr(), path.len());
+            let Values { valve, ticks, .. } = &mut values;
+            pulse_record(image, image_len, work, work_len, path, path_len, *number, valve, ticks)
+        },
+        #[cfg(feature = "pulse")]
+        Call::PulseAdd { path, pulse } => unsafe {
+            let (path, path_len) = (path.as_ptr(), path.len());
+            pulse_add(image, image_len, work, work_len, path, path_len, pulse.valve, pulse.ticks)
+        },
+        #[cfg(not(feature = "pulse"))]
         _ => return None,
     };
     Some((answer, values.of(call)))

@@ -46,10 +46,10 @@ impl Opened {
         Ok((answer == 0).then_some(Opened { image, work, volume, found, noise }))
     }
 
-    /// Makes the case's call; to validate is to close and open again, as it is to write a fresh image, to repair and to make a call that
-    /// is not linked. Finds and reads leave the work buffer as it is, and the others all but its first W numbers.
+    /// Makes the case's call; to validate is to close and open again, as it is to make one that has no opened form or is not linked.
+    /// Finds and reads leave the work buffer as it is, and the others all but its first W numbers.
     pub fn check(&mut self, case: &Case, due: &After) -> Result<(), String> {
-        if case.call == Call::Validate || !case.call.validates() {
+        if case.call == Call::Validate || !case.call.has_opened_form() {
             return self.open_again(&due.image);
         }
         let given = case.call.clone();

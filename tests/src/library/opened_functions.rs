@@ -142,10 +142,13 @@ pub fn opened_call(
     let (work, work_len) = (work.as_mut_ptr(), work.len());
     let (out, out_len) = (out.as_mut_ptr(), out.len());
     let mut values = Values::noise();
-    let Values { entry, kind, size, count } = &mut values;
+    let Values { entry, kind, size, count, .. } = &mut values;
     // A slice's pointer is not null, aligned, and good for its length.
     let answer = match call {
         Call::Validate | Call::Format(_) | Call::Repair { .. } => panic!("no call on an opened volume"),
+        Call::PulseSummary { .. } | Call::PulseRecord { .. } | Call::PulseAdd { .. } => {
+            panic!("no call on an opened volume")
+        }
         Call::Find { path } => unsafe {
             let (path, path_len) = (path.as_ptr(), path.len());
             cfb_opened_find(image, image_len, work, work_len, volume, path, path_len, entry, kind, size)

@@ -1,7 +1,7 @@
 //! Edits of the rows: accepted or refused by the rows alone.
 
 use super::Model;
-use crate::calls::Call;
+use crate::calls::{CROSSINGS, Call};
 use crate::number::CUTOFF;
 
 impl Model {
@@ -27,15 +27,21 @@ impl Model {
         Ok([0; 3])
     }
 
-    /// Whether the call takes a stream from below the cutoff over it, or back; None if it does neither. 0 is on both sides.
-    pub fn crosses_upward(&self, call: &Call) -> Option<bool> {
-        let Call::SetLength { path, length: new } = call else { return None };
+    /// Which crossing the call is if it takes a stream from below the cutoff over it, or back. 0 is on both sides.
+    pub fn crossing(&self, call: &Call) -> Option<&'static str> {
+        let [(up, _), (down, _), (added_up, _)] = CROSSINGS;
+        let (Call::SetLength { path, .. } | Call::PulseAdd { path, .. }) = call else { return None };
         let old = self.stream(path).ok()?.len() as u64;
-        let crosses = old > 0 && *new > 0 && (old < CUTOFF) != (*new < CUTOFF);
-        crosses.then_some(old < CUTOFF)
+        let new = if let Call::SetLength { length, .. } = call { *length } else { old + 8 };
+        let crosses = old > 0 && new > 0 && (old < CUTOFF) != (new < CUTOFF);
+        crosses.then_some(match call {
+            Call::PulseAdd { .. } => added_up,
+            _ if old < CUTOFF => up,
+            _ => down,
+        })
     }
 
-    fn stream_mut(&mut self, path: &[u16]) -> Result<&mut Vec<u8>, u32> {
+    pub fn stream_mut(&mut self, path: &[u16]) -> Result<&mut Vec<u8>, u32> {
         let row = self.meant(path)?;
         self.rows[row].bytes.as_mut().ok_or(23)
     }

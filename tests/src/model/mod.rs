@@ -6,6 +6,7 @@ mod fresh;
 mod holds;
 mod lines;
 mod objects;
+mod pulse;
 mod repair;
 pub mod room;
 
@@ -90,6 +91,9 @@ impl Model {
             Call::Format(asked) => self.format(asked),
             Call::Repair { .. } => self.repair(out),
             Call::ReadAt { entry, position, .. } => rest_of(self.stream_at(*entry).ok_or(33u32)?, *position, out),
+            Call::PulseSummary { path } => self.summary(path),
+            Call::PulseRecord { path, number } => self.record(path, *number),
+            Call::PulseAdd { path, pulse } => self.add_pulse(path, *pulse),
         }
     }
 

@@ -10,6 +10,7 @@ mod objects;
 mod opened;
 mod paging;
 mod plans;
+mod pulses;
 mod queries;
 mod readme;
 mod refusals;

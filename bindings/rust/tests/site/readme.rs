@@ -20,13 +20,15 @@ fn the_uses_from_rust_are_the_examples() {
         include_str!("../../examples/paging.rs"),
         include_str!("../../examples/fresh.rs"),
         include_str!("../../examples/repair.rs"),
+        include_str!("../../examples/pulses.rs"),
     ];
     assert_eq!(blocks("rust"), examples);
 }
 
 #[test]
 fn the_uses_from_c_stand_in_the_programs() {
-    let programs = [include_str!("../../../c/first.c"), include_str!("../../../c/opened.c")];
+    let programs =
+        [include_str!("../../../c/first.c"), include_str!("../../../c/opened.c"), include_str!("../../../c/pulses.c")];
     let blocks = blocks("c");
     assert_eq!(blocks.len(), programs.len());
     for (program, block) in programs.iter().zip(blocks) {
