@@ -9,7 +9,7 @@ use Rattle.format.specs.Basics.Bytes.{Bytes}
 use Rattle.format.specs.Layout.Stream.{contents}
 use Rattle.format.specs.Rules.Version.{ownVolume}
 use Rattle.format.specs.Calls.Paths.{Path}
-use Rattle.format.specs.Calls.Answer.{firstOf, target}
+use Rattle.format.specs.Calls.Answer.{firstOf}
 use Rattle.kinds.specs.Numbers.{refusalNumber}
 use Rattle.kinds.specs.declared.Refusal.{Refusal}
 use Rattle.kinds.proofs.Refusals.{first-refused}

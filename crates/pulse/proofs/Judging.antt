@@ -6,7 +6,7 @@ use native.Mathlib.Omega.{arith}
 use lib.Dec.{eqb, leb}
 use lib.ListN.{length}
 use borrow.Author.Tests.{le-leb, lt-leb}
-use Rattle.format.specs.Basics.Bytes.{Bytes, part, u16at, u32at, u64at}
+use Rattle.format.specs.Basics.Bytes.{Bytes, part, u16at}
 use Rattle.format.specs.Basics.Lists.{allBelow, listBelow, sum}
 use Rattle.pulse_laws.specs.Pulse.{distanceFor, distance, count, total, recordPlace, zeroAt, ticksAt, recordRight, ticksBelow, isPulseStream}
 use Rattle.pulse_records.specs.Records.{pulseIn, rightAt, rightFrom, ticksFrom, sumFrom, trailerIn}

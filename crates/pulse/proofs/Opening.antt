@@ -10,14 +10,13 @@ use lib.ListN.{length}
 use Rattle.format.specs.Basics.Bytes.{Bytes}
 use Rattle.format.specs.Rules.Length.{workNeed}
 use Rattle.format.specs.Rules.Version.{versionOf, ownVolume}
-use Rattle.format.specs.Rules.Verdict.{verdict}
 use Rattle.format.specs.Calls.Paths.{Path}
 use Rattle.format.specs.Calls.Call.{Call, read, setLength, workOf}
-use Rattle.format.specs.Calls.Answer.{firstOf, answer}
+use Rattle.format.specs.Calls.Answer.{answer}
 use Rattle.format.specs.Calls.Buffers.{workCleared}
 use Rattle.kinds.specs.Numbers.{refusalNumber}
 use Rattle.kinds.specs.declared.Refusal.{Refusal}
-use Rattle.kinds.proofs.Refusals.{refusal-some, first-refused}
+use Rattle.kinds.proofs.Refusals.{first-refused}
 use Rattle.tables.specs.Work.{Wrote}
 use Rattle.tables.proofs.WorkLaws.{wrote-two}
 use Rattle.volume.specs.Opened.{workLeft}
@@ -30,9 +29,7 @@ use Rattle.opened.proofs.Inside.{Late, late-first, late-either, late, answer-in
 use Rattle.opened.proofs.Calls.{opened-zero}
 use Rattle.pulse_laws.specs.Pulse.{Pulse, count, isPulseStream}
 use Rattle.pulse_laws.specs.Added.{longer}
-use Rattle.pulse_laws.specs.Calls.{contentsAt, readerAnswer, pulsesAnswer, summaryAnswer, recordAnswer, ticksAnswer, growAnswer, addAnswer, numberAlone, summaryReply, recordReply, addReply, imageAdded, workAfterPulse}
-use Rattle.pulse.specs.declared.answers.PulseRefusal.the-variants.{File}
-use Rattle.pulse.proofs.Outcomes.{record-number, addition-number}
+use Rattle.pulse_laws.specs.Calls.{contentsAt, readerAnswer, pulsesAnswer, summaryAnswer, recordAnswer, ticksAnswer, growAnswer, addAnswer, workAfterPulse}
 
 -- the work buffer after an answer, as validation leaves it
 left-is : (img : Bytes) (n : ℕ) (w : List ℕ) → workAfterPulse img n w ≡ workLeft n img w

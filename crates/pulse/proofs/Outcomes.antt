@@ -5,13 +5,12 @@ use mathlib.Core.Logic.{_≢_}
 use mathlib.Core.Bool.{Bool, true, false, cond}
 use mathlib.Core.List.{List, []}
 use native.Mathlib.Omega.{arith}
-use lib.Dec.{eqb, ltb}
+use lib.Dec.{ltb}
 use borrow.Author.Tests.{eq-eqb, ne-eqb}
 use Rattle.format.specs.Basics.Bytes.{Bytes}
-use Rattle.format.specs.Rules.Version.{versionOf}
 use Rattle.format.specs.Calls.Paths.{Path}
-use Rattle.format.specs.Calls.Call.{setLength, overwrite}
-use Rattle.format.specs.Calls.Answer.{firstOf, answer}
+use Rattle.format.specs.Calls.Call.{overwrite}
+use Rattle.format.specs.Calls.Answer.{firstOf}
 use Rattle.format.specs.Calls.Reply.{onZero}
 use Rattle.format.specs.Calls.Buffers.{imageAfter, imageAfterBy}
 use Rattle.format.specs.History.Event.{imageStep, after}
@@ -19,7 +18,7 @@ use Rattle.kinds.specs.Numbers.{refusalNumber}
 use Rattle.kinds.specs.declared.Refusal.{Refusal}
 use Rattle.kinds.proofs.Refusals.{refusal-some, else-refused}
 use Rattle.pulse_laws.specs.Pulse.{Pulse, count, total, pulseAt}
-use Rattle.pulse_laws.specs.Added.{longer, trailerPlace, tail}
+use Rattle.pulse_laws.specs.Added.{trailerPlace, tail}
 use Rattle.pulse_laws.specs.Calls.{contentsAt, summaryAnswer, recordAnswer, ticksAnswer, growAnswer, addAnswer, numberAlone, summaryGiven, pulseGiven, summaryReply, recordReply, addReply, grown, addEvents, countsAs, imageAdded}
 use Rattle.pulse.specs.Replies.{pulseNumber}
 use Rattle.pulse.specs.declared.answers.PulseRefusal.{PulseRefusal}

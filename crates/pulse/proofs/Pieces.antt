@@ -11,7 +11,6 @@ use Rattle.theory.proofs.Tests.{clash, false-of, both, below-at, below-of, belo
 use Rattle.entries.proofs.EntryLaws.{part-part}
 use Rattle.pulse_records.specs.Records.{rightAt, rightFrom, ticksFrom, sumFrom}
 use Rattle.pulse_records.specs.declared.TotalTicks.{TotalTicks}
-use Rattle.pulse_records.specs.declared.sums.Sum.{Sum}
 use Rattle.pulse_records.specs.declared.sums.Sum.the-variants.{Ticks, Wrong}
 use Rattle.pulse_records.proofs.Summing.{sum-next, sum-most, Summing, summing-next}
 

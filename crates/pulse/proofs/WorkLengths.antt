@@ -4,17 +4,16 @@ use mathlib.Core.Path.{_≡_, refl, ap, ap₂, _∙_}
 use mathlib.Core.List.{List, []}
 use lib.ListN.{length}
 use Rattle.format.specs.Basics.Bytes.{Bytes}
-use Rattle.format.specs.Rules.Version.{versionOf, ownVolume}
-use Rattle.format.specs.Rules.Verdict.{verdict}
+use Rattle.format.specs.Rules.Version.{versionOf}
 use Rattle.format.specs.Calls.Paths.{Path}
-use Rattle.format.specs.Calls.Call.{Call, read, setLength, overwrite, workOf}
+use Rattle.format.specs.Calls.Call.{setLength, overwrite, workOf}
 use Rattle.format.specs.Calls.Answer.{firstOf, answerIn, answer}
 use Rattle.format.specs.Calls.Reply.{onZero}
 use Rattle.format.specs.Calls.Buffers.{edited, imageAfter, imageAfterBy}
 use Rattle.format.specs.History.Event.{imageStep, after}
 use Rattle.pulse_laws.specs.Pulse.{Pulse}
 use Rattle.pulse_laws.specs.Added.{longer, trailerPlace, tail}
-use Rattle.pulse_laws.specs.Calls.{contentsAt, readerAnswer, pulsesAnswer, summaryAnswer, recordAnswer, ticksAnswer, growAnswer, addAnswer, summaryReply, recordReply, addReply, numberAlone, grown, addEvents, countsAs, imageAdded}
+use Rattle.pulse_laws.specs.Calls.{contentsAt, readerAnswer, summaryAnswer, recordAnswer, ticksAnswer, growAnswer, addAnswer, summaryReply, recordReply, addReply, numberAlone, addEvents, countsAs, imageAdded}
 
 module _ (w w′ : List ℕ) (e : length w ≡ length w′) where
   -- ---- the calls that an addition makes

@@ -1,7 +1,7 @@
 -- Sums of ticks, record by record.
 use Prim.Native.Nat.{ℕ, zero, suc, _+_, _*_, _≤_, _<_}
-use mathlib.Core.Path.{_≡_, refl, sym, ap, _∙_}
-use mathlib.Core.Bool.{true, false, cond, _&&_}
+use mathlib.Core.Path.{_≡_, refl, ap}
+use mathlib.Core.Bool.{true, false}
 use native.Mathlib.Omega.{arith}
 use native.Mathlib.Numerals.{add-one}
 use Rattle.format.specs.Basics.Bytes.{Bytes, AreBytes, u32at}
@@ -10,7 +10,6 @@ use Rattle.theory.proofs.Tests.{clash, false-of, and-true-of, below-at}
 use Rattle.theory.proofs.Bytes.{u32-lt}
 use Rattle.pulse_laws.proofs.PulseStreams.{sum-snoc}
 use Rattle.pulse_records.specs.Records.{pulseIn, rightAt, rightFrom, ticksFrom, sumFrom}
-use Rattle.pulse_records.specs.declared.sums.Sum.{Sum}
 use Rattle.pulse_records.specs.declared.sums.Sum.the-variants.{Ticks, Wrong}
 
 module _ (b : Bytes) (first : ℕ) where

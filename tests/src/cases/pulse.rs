@@ -24,6 +24,7 @@ pub fn run(g: Geometry, next: &mut dyn FnMut(Case)) {
     lengths(g, next);
     trailers(g, next);
     other_counts(g, next);
+    old_trailers(g, next);
     records(g, next);
     great_totals(g, next);
     refused(g, next);
@@ -275,6 +276,26 @@ fn other_counts(g: Geometry, next: &mut dyn FnMut(Case)) {
     wrong(&plain(g, &longer), next);
     longer.extend([0; 8]);
     wrong(&plain(g, &longer), next);
+}
+
+/// An old trailer between the records, as an addition that kept it would leave it. It reads as two records, and so the total decides.
+fn old_trailers(g: Geometry, next: &mut dyn FnMut(Case)) {
+    let mut inner = written(&[Pulse { valve: 2, ticks: u32::MAX }, Pulse { valve: 2, ticks: 8 }]);
+    inner.extend([9, 0, 0, 0, 100, 0, 0, 0]);
+    // The old trailer's distance and count are the valve 32 and 2 ticks, its total of 2^32 + 7 is the valve 7 and 1 tick.
+    let (found, read) = ((1 << 32) + 7, 2 + 1 + 100);
+    for (count, total, is_right) in
+        [(3, read, true), (3, found + 100, false), (5, found + read, true), (5, found + 100, false)]
+    {
+        for preamble in [0, 3, 4_000] {
+            let mut bytes = stream(preamble, 0);
+            bytes.truncate(preamble);
+            bytes.extend(&inner);
+            trailer(&mut bytes, 16 + 8 * count, count, total);
+            let sample = plain(g, &bytes);
+            if is_right { right(&sample, count as usize, next) } else { wrong(&sample, next) }
+        }
+    }
 }
 
 /// In the first record, one in the middle and the last: either byte of the zero field, and no ticks, with the total that goes with it.

@@ -1,5 +1,5 @@
 use borrow.Author.Needs.{needs}
-use mathlib.Core.Path.{_≡_, ap, _∙_, subst}
+use mathlib.Core.Path.{ap, _∙_, subst}
 use Rattle.format.specs.Rules.Length.{workNeed}
 use Rattle.format.specs.Calls.Buffers.{workCleared}
 use Rattle.kinds.specs.Numbers.{refusalNumber}

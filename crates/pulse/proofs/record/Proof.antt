@@ -1,5 +1,5 @@
 use borrow.Author.Needs.{needs}
-use mathlib.Core.Path.{_≡_, _∙_, subst}
+use mathlib.Core.Path.{_∙_, subst}
 use Rattle.volume.specs.declared.Opened.the-variants.{Ready}
 use Rattle.opened.specs.Opening.{OpeningRight}
 use Rattle.opened.proofs.Calls.{opening-ready, opening-refused}

@@ -1,9 +1,8 @@
 use borrow.Author.Needs.{needs}
-use mathlib.Core.Path.{_≡_, sym, ap, _∙_, subst}
-use lib.ListN.{length}
+use mathlib.Core.Path.{sym, _∙_, subst}
 use Rattle.tables.proofs.WorkLaws.{wrote-none}
 use Rattle.streams.specs.Found.{StreamFound}
-use Rattle.streams.specs.declared.FoundStream.the-variants.{At, Refused}
+use Rattle.streams.specs.declared.FoundStream.the-variants.{At}
 use Rattle.pulse.proofs.Finding.{find-refused, found-other, found-pulses}
 use Rattle.pulse.proofs.calls.find_pulses.Statement.{statement}
 use Rattle.pulse.proofs.calls.find_pulses.Tie as tie

@@ -1,5 +1,5 @@
 use borrow.Author.Needs.{needs}
-use mathlib.Core.Path.{_≡_, subst}
+use mathlib.Core.Path.{subst}
 use Rattle.pulse.specs.Found.{PulsesFound}
 use Rattle.pulse.proofs.Outcomes.{summary-refused}
 use Rattle.pulse.proofs.PulsesAt.{at-summary}
