@@ -8,6 +8,7 @@ use crate::geometry::VERSIONS;
 #[cfg(feature = "library")]
 use crate::library;
 use crate::model::Model;
+use crate::rival;
 use crate::volume::{validate, work_needed};
 use std::collections::BTreeMap;
 use std::rc::Rc;
@@ -37,6 +38,10 @@ impl Tally {
             self.count("open", case, of_image(after.outcome.answer));
         }
         self.count_crossing(case, after.outcome.answer);
+        if case.call == Call::Validate {
+            let checked = rival::check(&case.image, case.work_len, after.outcome.answer);
+            self.pass(name, checked.map_err(|fault| format!("{fault}; {}", case.description())))?;
+        }
         Some(after)
     }
 

@@ -15,6 +15,7 @@ pub mod listed;
 pub mod model;
 pub mod number;
 pub mod random;
+pub mod rival;
 pub mod volume;
 
 #[cfg(feature = "library")]
