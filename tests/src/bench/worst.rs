@@ -1,29 +1,32 @@
-//! Images that make a validator slow which follows every chain of every stream, or recurses.
+//! Images that make a validator slow which follows every chain of every stream, or recurses, or waits for memory.
 
-use super::good::{build, entries, image};
+use super::broken::changed;
+use super::good::{all_scattered, entries, one_stream};
 use super::{Make, Scale, make};
 use crate::breaks::edit::*;
 use crate::cases::large::*;
-use crate::geometry::V3;
 use crate::images::Sample;
 use crate::images::names;
 use crate::images::plan::*;
 
 pub const MAKES: &[Make] = &[
-    make(18, "# streams on one chain of # sectors", &[30_000, 8_000], |s| changed(one_and_many(s, long(s)), share)),
+    make(18, "# streams on one long chain", &[30_000], |s| changed(one_and_many(s, long(s)), share)),
     make(17, "the same, the last one's size a sector off", &[], |s| {
         changed(one_and_many(s, long(s)), |s| {
             share(s);
-            let size = s.layout.nodes[1].size.unwrap() + 512;
+            let size = s.layout.nodes[1].size.unwrap() + s.layout.geometry.sector as u32;
             s.set_field(s.layout.nodes.last().unwrap().entry, SIZE, size);
         })
     }),
     make(18, "# streams from places along one chain", &[30_000], |s| changed(one_and_many(s, long(s)), share_tails)),
     make(18, "# streams on one mini chain", &[30_000], |s| changed(one_and_many(s, 4_095), share)),
-    make(0, "# entries, right sides only", &[60_000], |s| image(entries(V3, s, Shape::RightOnly))),
-    make(0, "# entries, left sides only", &[60_000], |s| image(entries(V3, s, Shape::LeftOnly))),
-    make(0, "# entries, zigzag", &[60_000], |s| image(entries(V3, s, Shape::ZigZag))),
-    make(0, "# storages nested", &[60_000], |s| image(nested(V3, s.sectors(V3), s.times * 60_000))),
+    make(0, "# entries, right sides only", &[60_000], |s| s.image(entries(s, Shape::RightOnly))),
+    make(0, "# entries, left sides only", &[60_000], |s| s.image(entries(s, Shape::LeftOnly))),
+    make(0, "# entries, zigzag", &[60_000], |s| s.image(entries(s, Shape::ZigZag))),
+    make(0, "# entries, right sides only, all scattered", &[60_000], |s| {
+        s.image(all_scattered(entries(s, Shape::RightOnly)))
+    }),
+    make(0, "# entries, zigzag, all scattered", &[60_000], |s| s.image(all_scattered(entries(s, Shape::ZigZag)))),
     make(13, "ring in the directory's chain", &[], |s| changed(right_only(s), |s| ring(s, |s| &s.layout.directory))),
     make(15, "ring of siblings", &[], |s| {
         changed(right_only(s), |s| {
@@ -34,8 +37,7 @@ pub const MAKES: &[Make] = &[
     make(16, "ring in the mini FAT's chain", &[], |s| changed(minis(s), |s| ring(s, |s| &s.layout.mini_fat))),
     make(16, "ring in the mini stream's chain", &[], |s| changed(minis(s), |s| ring(s, |s| &s.layout.mini_stream))),
     make(17, "ring in a stream's chain", &[], |s| {
-        let stream = build(many_streams(V3, s.sectors(V3), 1, &[s.times as u32 * 16_000 * 512]));
-        changed(stream, |s| ring(s, |s| &s.layout.nodes.last().unwrap().units))
+        changed(s.build(one_stream(s)), |s| ring(s, |s| &s.layout.nodes.last().unwrap().units))
     }),
     make(17, "ring in the last mini chain", &[], |s| {
         changed(minis(s), |s| {
@@ -46,24 +48,19 @@ pub const MAKES: &[Make] = &[
 ];
 
 fn right_only(s: Scale) -> Sample {
-    build(entries(V3, s, Shape::RightOnly))
-}
-
-fn changed(mut sample: Sample, change: fn(&mut Sample)) -> Vec<u8> {
-    change(&mut sample);
-    sample.image
+    s.build(entries(s, Shape::RightOnly))
 }
 
 /// The bytes of the one chain.
 fn long(s: Scale) -> u32 {
-    s.times as u32 * 8_000 * 512
+    s.many(8_000 * 512) as u32
 }
 
 /// Empty streams, and a stream of this size as the first object.
 fn one_and_many(s: Scale, size: u32) -> Sample {
-    let mut plan = many_entries(V3, s.sectors(V3), s.times * 30_000, Shape::Balanced);
+    let mut plan = many_entries(s.geometry, s.sectors(), s.many(30_000), Shape::Balanced);
     plan.objects[1].size = Some(size);
-    build(plan)
+    s.build(plan)
 }
 
 /// Every stream gets the first one's chain and size.
@@ -82,15 +79,15 @@ fn share_tails(s: &mut Sample) {
     for i in 2..s.layout.nodes.len() {
         let (entry, from) = (s.layout.nodes[i].entry, i % (units.len() / 2));
         s.set_field(entry, START, units[from]);
-        s.set_field(entry, SIZE, (units.len() - from) as u32 * 512);
+        s.set_field(entry, SIZE, ((units.len() - from) * s.layout.geometry.sector) as u32);
     }
 }
 
 /// Streams of 64 mini sectors each.
 fn minis(s: Scale) -> Sample {
-    let mut plan = many_streams(V3, s.sectors(V3), s.times * 1_700, &[4_095]);
+    let mut plan = many_streams(s.geometry, s.sectors(), s.many(1_700), &[4_095]);
     plan.add(0, names::of("last"), Some(4_095));
-    build(plan)
+    s.build(plan)
 }
 
 /// The chain's last cell leads back to its first sector.

@@ -1,0 +1,75 @@
+//! One image timed: the library, the rival and the ordinary validator by turns, lent the same work buffers.
+
+use super::times::{median, once};
+use cfb_tests::bench::{Make, SIZES, Scale};
+use cfb_tests::{library, rival, volume};
+use std::time::Duration;
+
+/// The medians in milliseconds, and the answers: of the library, the rival and the ordinary validator.
+pub struct Row {
+    pub name: String,
+    due: u32,
+    bytes: usize,
+    pub times: [f64; 3],
+    answers: [u32; 3],
+}
+
+/// What the validators are called in the tables.
+pub const LIBRARY: usize = 0;
+pub const RIVAL: usize = 1;
+pub const ORDINARY: usize = 2;
+
+/// Longer than this none is timed on one image.
+const LIMIT: Duration = Duration::from_secs(10);
+
+impl Row {
+    /// As many copies in a row as fill 64 MiB, each with a work buffer of its own, so that a short image is no more likely to be
+    /// in the processor's cache than a long one.
+    pub fn new(make: &Make, scale: Scale, rounds: usize) -> Row {
+        let image = (make.image)(scale);
+        let (bytes, work) = (image.len(), vec![0; volume::work_needed(image.len())]);
+        let mut copies = vec![(image, work); SIZES[1].times / scale.size.times];
+        let validators: [fn(&[u8], &mut [u32]) -> u32; 3] = [library::validate, rival::validate, ordinary];
+        let (mut times, mut answers) = ([const { Vec::new() }; 3], [0; 3]);
+        for _ in 0..rounds {
+            for (validator, validate) in validators.iter().enumerate() {
+                for (image, work) in &mut copies {
+                    answers[validator] = once(&mut times[validator], || validate(image, work));
+                }
+            }
+            if times.iter().any(|times| times.iter().sum::<Duration>() > LIMIT) {
+                break;
+            }
+        }
+        Row { name: make.name(scale.size), due: make.answer, bytes, times: times.map(median), answers }
+    }
+
+    /// How long the library takes, the other being 1.
+    pub fn ratio(&self, other: usize) -> f64 {
+        self.times[LIBRARY] / self.times[other]
+    }
+
+    pub fn ns_per_byte(&self, validator: usize) -> f64 {
+        self.times[validator] * 1e6 / self.bytes as f64
+    }
+
+    pub fn answer(&self) -> String {
+        let Row { due, answers, .. } = self;
+        if self.wrong() { format!("{answers:?}, not {due}") } else { due.to_string() }
+    }
+
+    pub fn wrong(&self) -> bool {
+        self.answers != [self.due; 3]
+    }
+
+    pub fn good(&self) -> bool {
+        self.due == 0
+    }
+}
+
+/// It needs no work buffer, but leaves it as the others have to.
+fn ordinary(image: &[u8], work: &mut [u32]) -> u32 {
+    let answer = volume::validate(image, work.len());
+    work.fill(0);
+    answer
+}
