@@ -1,5 +1,6 @@
 //! The cells of a table, a sector at a time. The loops have no way out, so that several cells are looked at in one instruction.
 
+use super::image::{Image, words};
 use crate::number::*;
 
 /// What was seen of the cells that were copied.
@@ -12,8 +13,32 @@ pub struct Seen {
     pub free: u32,
 }
 
+/// Copies the cells of the table in these sectors as far as they stand for a unit; whether the others are free. None if there is
+/// no such sector.
+pub fn copy_table<const S: usize>(
+    image: Image<S>,
+    sectors: &[u32],
+    cells: &mut [u32],
+    special: u32,
+    seen: &mut Seen,
+) -> Option<bool> {
+    let (limit, mut cells, mut rest_free) = (cells.len(), cells, true);
+    for batch in sectors.chunks(Image::<S>::AHEAD) {
+        image.touch(batch);
+        for &s in batch {
+            let block = words(image.sectors.get(s as usize)?);
+            let (used, spare) = block.split_at(block.len().min(cells.len()));
+            let (to, after) = cells.split_at_mut(used.len());
+            copy(used, to, limit, special, seen);
+            rest_free &= all_free(spare);
+            cells = after;
+        }
+    }
+    Some(rest_free)
+}
+
 /// Copies cells of a table of so many units, of whose special values the lowest is given.
-pub fn copy(from: &[[u8; 4]], to: &mut [u32], limit: usize, special: u32, seen: &mut Seen) {
+fn copy(from: &[[u8; 4]], to: &mut [u32], limit: usize, special: u32, seen: &mut Seen) {
     // Special values come to lie below the units, so that one comparison tells.
     let shift = special.wrapping_neg();
     let end = limit as u32 + shift;

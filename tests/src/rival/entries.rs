@@ -57,62 +57,52 @@ pub fn read<const S: usize>(
 ) -> Result<Seen, u32> {
     let entries = directory.entries(image) as u32;
     let mut seen = Seen { objects: 0, notes: 0, noted_sectors: 0, wrong: false };
-    let mut roots = 0;
-    let slots = nodes[1..].chunks_exact_mut(Image::<S>::ENTRIES);
-    for (i, (s, slots)) in directory.from(0).zip(slots).enumerate() {
-        if i.is_multiple_of(ahead::<S>()) {
-            touch(image, directory, i);
-        }
-        let noting = seen.noted_sectors == i && room.len() - seen.notes >= Image::<S>::ENTRIES;
-        seen.noted_sectors += noting as usize;
-        for (entry, slot) in image.sectors[s as usize].as_chunks().0.iter().zip(slots) {
-            *slot = match entry[66] {
-                STREAM if stream_holds(entry) => {
-                    match notes::need::<S>(entry, image.count()) {
-                        Need::Nothing => {}
-                        Need::Wrong => seen.wrong = true,
-                        Need::Chain(_) if !noting => {}
-                        Need::Chain(note) => {
-                            room[seen.notes] = note;
-                            seen.notes += 1;
-                        }
+    let (mut roots, mut noting) = (0, true);
+    let mut slots = nodes[1..].chunks_exact_mut(Image::<S>::ENTRIES);
+    for batch in directory.list.rchunks(Image::<S>::AHEAD) {
+        image.touch(batch);
+        for (&s, slots) in batch.iter().rev().zip(&mut slots) {
+            noting &= room.len() - seen.notes >= Image::<S>::ENTRIES;
+            seen.noted_sectors += noting as usize;
+            for (entry, slot) in image.sectors[s as usize].as_chunks().0.iter().zip(slots) {
+                *slot = match entry[66] {
+                    STREAM if stream_holds(entry) => {
+                        seen.stream::<S>(entry, image.count(), if noting { room } else { &mut [] });
+                        nodes::pack(entry, entries)
                     }
-                    seen.objects += 1;
-                    nodes::pack(entry, entries)
-                }
-                STORAGE if storage_holds(entry) => {
-                    seen.objects += 1;
-                    nodes::pack(entry, entries)
-                }
-                BLANK if blank_holds(entry) => NOT_NAMED,
-                ROOT => {
-                    roots += 1;
-                    NOT_NAMED
-                }
-                _ => return Err(14),
-            };
+                    STORAGE if storage_holds(entry) => {
+                        seen.objects += 1;
+                        nodes::pack(entry, entries)
+                    }
+                    BLANK if blank_holds(entry) => NOT_NAMED,
+                    ROOT => {
+                        roots += 1;
+                        NOT_NAMED
+                    }
+                    _ => return Err(14),
+                };
+            }
         }
     }
     // The one that was looked at.
     if roots == 1 { Ok(seen) } else { Err(14) }
 }
 
-/// So many sectors are touched together.
-const fn ahead<const S: usize>() -> usize {
-    if S == 512 { 16 } else { 2 }
-}
-
-/// Reads from each line of some sectors that do not follow one another, so that they come from memory side by side.
-fn touch<const S: usize>(image: Image<S>, directory: Directory, i: usize) {
-    let end = (i + ahead::<S>()).min(directory.list.len());
-    if directory.sector(end - 1) as usize == directory.sector(i) as usize + (end - 1 - i) {
-        return;
+impl Seen {
+    /// Notes what it needs, where there is room.
+    fn stream<const S: usize>(&mut self, entry: &[u8; ENTRY], sectors: usize, room: &mut [Note]) {
+        self.objects += 1;
+        match notes::need::<S>(entry, sectors) {
+            Need::Nothing => {}
+            Need::Wrong => self.wrong = true,
+            Need::Chain(note) => {
+                if let Some(to) = room.get_mut(self.notes) {
+                    *to = note;
+                    self.notes += 1;
+                }
+            }
+        }
     }
-    let mut any = 0;
-    for s in directory.from(i).take(end - i) {
-        any |= image.sectors[s as usize].iter().step_by(64).fold(0, |any, byte| any | byte);
-    }
-    std::hint::black_box(any);
 }
 
 fn blank_holds(entry: &[u8; ENTRY]) -> bool {

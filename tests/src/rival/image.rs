@@ -14,6 +14,8 @@ impl<'a, const S: usize> Image<'a, S> {
     /// Cells of a table in a sector, and directory entries.
     pub const CELLS: usize = S / 4;
     pub const ENTRIES: usize = S / ENTRY;
+    /// So many sectors are touched together.
+    pub const AHEAD: usize = if S == 512 { 16 } else { 2 };
 
     /// Of bytes that are sectors, at least three.
     pub fn new(bytes: &'a [u8]) -> Image<'a, S> {
@@ -24,6 +26,19 @@ impl<'a, const S: usize> Image<'a, S> {
     /// N.
     pub fn count(&self) -> usize {
         self.sectors.len()
+    }
+
+    /// Reads from each line of these sectors where they do not lie one after the other, so that they come from memory side by side.
+    pub fn touch(&self, sectors: &[u32]) {
+        let [first, .., last] = *sectors else { return };
+        if first.abs_diff(last) as usize == sectors.len() - 1 {
+            return;
+        }
+        let mut any = 0;
+        for sector in sectors.iter().filter_map(|&s| self.sectors.get(s as usize)) {
+            any |= sector.iter().step_by(64).fold(0, |any, byte| any | byte);
+        }
+        std::hint::black_box(any);
     }
 
     /// The entry of this number in a directory sector.

@@ -4,7 +4,7 @@ use super::cells::{self, Seen};
 use super::chains;
 use super::directory::Directory;
 use super::entries::Root;
-use super::image::{Image, words};
+use super::image::Image;
 use crate::number::*;
 
 pub struct Mini {
@@ -17,12 +17,18 @@ pub struct Mini {
     pub shared: bool,
 }
 
-/// Marks both chains, and copies the K cells to `cells`.
+/// The header's count of mini FAT sectors, or N where group 16 refuses it.
+pub fn sectors<const S: usize>(image: Image<S>) -> usize {
+    (u32_at(image.header, 64) as usize).min(image.count())
+}
+
+/// Marks both chains, and copies the K cells to `cells`. The mini FAT's sectors are listed.
 pub fn read<const S: usize>(
     image: Image<S>,
     directory: Directory,
     root: &Root,
     next: &mut [u32],
+    list: &mut [u32],
     cells: &mut [u32],
 ) -> Result<Mini, u32> {
     let count = root.minis(image);
@@ -32,41 +38,21 @@ pub fn read<const S: usize>(
     if !counted {
         return Err(16);
     }
-    let mut table = Table::<S> { image, count, cells: &mut cells[..count], seen: Seen::default(), rest_free: true };
-    let start = u32_at(image.header, 60);
-    let taken = directory.list.len() as u32;
-    let first = chains::mark(next, start, sectors as u32, taken, |s| table.take(s)).or(Err(16u32))?;
+    let stream = root.size.div_ceil(S as u64) as usize;
+    let (start, taken) = (u32_at(image.header, 60), directory.list.len() as u32);
+    let mut listed = list.iter_mut();
+    let mut put = |s| *listed.next().expect("room for all") = s;
+    let first = chains::mark(next, start, sectors as u32, taken, &mut put).or(Err(16u32))?;
     if let Some(left) = first {
         // Only the directory's chain was there before.
-        directory.from((taken - left) as usize).for_each(|s| table.take(s));
+        directory.from((taken - left) as usize).for_each(put);
     }
-    if table.seen.wild || !table.rest_free {
+    let second = chains::mark(next, root.start, stream as u32, taken, |_| {}).or(Err(16u32))?;
+    let mut seen = Seen::default();
+    let rest_free = cells::copy_table(image, list, &mut cells[..count], END, &mut seen);
+    if seen.wild || rest_free != Some(true) {
         return Err(16);
     }
-    let free = table.seen.free as usize;
-    let stream = root.size.div_ceil(S as u64) as usize;
-    let second = chains::mark(next, root.start, stream as u32, taken, |_| {}).or(Err(16u32))?;
-    Ok(Mini { count, free, sectors: sectors + stream, shared: first.is_some() || second.is_some() })
-}
-
-/// The mini FAT as it is read.
-struct Table<'a, 'b, const S: usize> {
-    image: Image<'a, S>,
-    count: usize,
-    /// Room for those that are still to come.
-    cells: &'b mut [u32],
-    seen: Seen,
-    rest_free: bool,
-}
-
-impl<const S: usize> Table<'_, '_, S> {
-    /// The next sector's cells.
-    fn take(&mut self, sector: u32) {
-        let block = words(&self.image.sectors[sector as usize]);
-        let (used, spare) = block.split_at(block.len().min(self.cells.len()));
-        let (to, after) = std::mem::take(&mut self.cells).split_at_mut(used.len());
-        cells::copy(used, to, self.count, END, &mut self.seen);
-        self.rest_free &= cells::all_free(spare);
-        self.cells = after;
-    }
+    let shared = first.is_some() || second.is_some();
+    Ok(Mini { count, free: seen.free as usize, sectors: sectors + stream, shared })
 }

@@ -5,7 +5,7 @@
 //!   the FAT's cells, and marks in their place (`marks`), N numbers
 //!   two numbers for each entry (`nodes`); later the mini FAT's cells, and marks in their place
 //!   two numbers for each stream that is not empty, as far as there is room (`notes`)
-//! and from its end: DIFAT sectors, FAT sectors, and directory sectors in falling order.
+//! and from its end: DIFAT sectors, FAT sectors, directory sectors in falling order, mini FAT sectors.
 
 mod cells;
 mod chains;
@@ -52,11 +52,12 @@ fn groups<const S: usize>(image: &[u8], work: &mut [u32]) -> Result<(), u32> {
     let (area, list) = rest.split_at_mut(rest.len() - taken);
     let directory = Directory { list };
     let root = entries::root(image, directory)?;
+    let (area, mini_fat) = area.split_at_mut(area.len() - mini::sectors(image));
     let (nodes, room) = area.split_at_mut(root.minis(image).max(2 * directory.entries(image) + 2));
     let (nodes_in_pairs, notes) = (nodes.as_chunks_mut().0, room.as_chunks_mut().0);
     let seen = entries::read(image, directory, nodes_in_pairs, notes)?;
     trees::check(image, directory, nodes_in_pairs, root.top(image, directory), seen.objects)?;
-    let minis = mini::read(image, directory, &root, next, nodes)?;
+    let minis = mini::read(image, directory, &root, next, mini_fat, nodes)?;
     let owned = streams::check(image, directory, &seen, notes, next, &mut nodes[..minis.count])?;
     let system = counts.fat + counts.difat + taken + minis.sectors;
     let covered = system + owned.sectors + free == image.count() && owned.minis + minis.free == minis.count;

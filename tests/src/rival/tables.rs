@@ -32,7 +32,7 @@ pub fn read<const S: usize>(
     let (fat, difat) = listed.split_at_mut(counts.fat);
     let mut seen = Seen::default();
     let listed = list(image, fat, difat);
-    let rest_free = listed.and_then(|()| copy(image, fat, next, &mut seen)).ok_or(11u32)?;
+    let rest_free = listed.and_then(|()| cells::copy_table(image, fat, next, DIFSECT, &mut seen)).ok_or(11u32)?;
     let marked = mark(next, fat, FATSECT) && mark(next, difat, DIFSECT);
     if !marked || seen.tables as usize != counts.fat + counts.difat {
         return Err(11);
@@ -59,20 +59,6 @@ fn take<'a>(entries: &[[u8; 4]], room: &'a mut [u32]) -> Option<&'a mut [u32]> {
     let (to, rest) = room.split_at_mut(named.len());
     to.iter_mut().zip(named).for_each(|(to, from)| *to = u32::from_le_bytes(*from));
     cells::all_free(spare).then_some(rest)
-}
-
-/// Copies the cells of these sectors as far as they stand for one; whether the others are free. None if there is no such sector.
-fn copy<const S: usize>(image: Image<S>, fat: &[u32], next: &mut [u32], seen: &mut Seen) -> Option<bool> {
-    let (limit, mut next, mut rest_free) = (next.len(), next, true);
-    for &s in fat {
-        let block = words(image.sectors.get(s as usize)?);
-        let (used, spare) = block.split_at(block.len().min(next.len()));
-        let (to, after) = next.split_at_mut(used.len());
-        cells::copy(used, to, limit, DIFSECT, seen);
-        rest_free &= cells::all_free(spare);
-        next = after;
-    }
-    Some(rest_free)
 }
 
 /// Each of these sectors has this cell, so none stands here twice; puts a mark in its place.
