@@ -11,6 +11,7 @@ mod plain_siblings;
 mod plain_tree;
 mod pulse;
 mod repair;
+mod rival;
 mod samples;
 mod sizes;
 mod versions;

@@ -12,7 +12,11 @@ pub struct Row {
     bytes: usize,
     pub times: [f64; 3],
     answers: [u32; 3],
+    /// Whether the rival leaves the work buffer as it should.
+    left_right: bool,
 }
+
+type Validate = fn(&[u8], &mut [u32]) -> u32;
 
 /// What the validators are called in the tables.
 pub const LIBRARY: usize = 0;
@@ -28,8 +32,9 @@ impl Row {
     pub fn new(make: &Make, scale: Scale, rounds: usize) -> Row {
         let image = (make.image)(scale);
         let (bytes, work) = (image.len(), vec![0; volume::work_needed(image.len())]);
+        let left_right = rival::check(&image, work.len(), make.answer).is_ok();
         let mut copies = vec![(image, work); SIZES[1].times / scale.size.times];
-        let validators: [fn(&[u8], &mut [u32]) -> u32; 3] = [library::validate, rival::validate, ordinary];
+        let validators: [Validate; 3] = [library::validate, rival::validate, ordinary];
         let (mut times, mut answers) = ([const { Vec::new() }; 3], [0; 3]);
         for _ in 0..rounds {
             for (validator, validate) in validators.iter().enumerate() {
@@ -41,7 +46,7 @@ impl Row {
                 break;
             }
         }
-        Row { name: make.name(scale.size), due: make.answer, bytes, times: times.map(median), answers }
+        Row { name: make.name(scale.size), due: make.answer, bytes, times: times.map(median), answers, left_right }
     }
 
     /// How long the library takes, the other being 1.
@@ -55,11 +60,14 @@ impl Row {
 
     pub fn answer(&self) -> String {
         let Row { due, answers, .. } = self;
+        if !self.left_right {
+            return format!("{answers:?}, rival's work buffer wrong");
+        }
         if self.wrong() { format!("{answers:?}, not {due}") } else { due.to_string() }
     }
 
     pub fn wrong(&self) -> bool {
-        self.answers != [self.due; 3]
+        self.answers != [self.due; 3] || !self.left_right
     }
 
     pub fn good(&self) -> bool {
