@@ -19,6 +19,8 @@ pub struct Tally {
     pub failed: u64,
     /// How often each call had each answer on images of each major version.
     answers: BTreeMap<(&'static str, u16, u32), u64>,
+    /// Validations that were compared with the rival's.
+    rivals: u64,
     /// Name each case before it is run.
     trace: bool,
 }
@@ -39,6 +41,7 @@ impl Tally {
         }
         self.count_crossing(case, after.outcome.answer);
         if case.call == Call::Validate {
+            self.rivals += 1;
             let checked = rival::check(&case.image, case.work_len, after.outcome.answer);
             self.pass(name, checked.map_err(|fault| format!("{fault}; {}", case.description())))?;
         }
@@ -119,6 +122,7 @@ impl Tally {
         } else if cfg!(not(feature = "pulse")) {
             println!("not compared with the library: pulse_summary, pulse_record, pulse_add");
         }
+        println!("compared with the rival: {} validations", self.rivals);
         let opened = if cfg!(feature = "edits") { OPENED_ANSWERS } else { &[] };
         let rows = || ANSWERS.iter().chain(&CROSSINGS).chain(opened);
         for (g, (call, _)) in VERSIONS.into_iter().flat_map(|g| rows().map(move |row| (g, row))) {
