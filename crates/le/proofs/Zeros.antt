@@ -1,40 +1,42 @@
--- A run of zero bytes, byte by byte: what is left decides.
-use Prim.Native.Nat.{ℕ, zero, suc, _+_, _-_, _≤_, _<_}
+-- A run of zero bytes, part by part: what was found and what is left decide.
+use Prim.Native.Nat.{ℕ, _+_, _-_, _≤_}
 use mathlib.Core.Path.{_≡_, refl, sym, _∙_, ap}
-use mathlib.Core.Bool.{true, false, _&&_}
-use native.Mathlib.Numerals.{add-one}
+use mathlib.Core.Bool.{Bool, true, _&&_, and-assoc, and-true}
 use native.Mathlib.Omega.{arith}
-use lib.ListN.{length, getD}
-use lib.Seq.{drop-cons}
-use borrow.Author.Tests.{eq-eqb, ne-eqb}
 use lib.Dec.{eqb}
+use lib.ListN.{length, getD}
 use Rattle.format.specs.Basics.Lists.{all}
-use Rattle.format.specs.Basics.Bytes.{Bytes, part, isZero, allZero}
+use Rattle.format.specs.Basics.Bytes.{Bytes, part, number, u64at, allZero}
+use Rattle.theory.proofs.Bytes.{number-cons}
+use Rattle.theory.proofs.ByteTests.{zero-number, zero-split}
 
--- k bytes from i on are left of n from a place on
-pub record Zeroing (b : Bytes) (at n i k : ℕ) : Type 0 where
+-- of n bytes from a place on k are left, from i on; those before them are zero exactly if ok
+pub record Zeroing (b : Bytes) (at n : ℕ) (ok : Bool) (i k : ℕ) : Type 0 where
   pub fits : i + k ≤ length b
-  pub rest : allZero (part b at n) ≡ allZero (part b i k)
+  pub rest : allZero (part b at n) ≡ (ok && allZero (part b i k))
 
 zero-none : (b : Bytes) (i : ℕ) → allZero (part b i 0) ≡ true
 unfolding allZero all part
 zero-none b i = refl
 
-zero-next : (b : Bytes) (i k : ℕ) → 0 < k → i < length b → allZero (part b i k) ≡ (eqb (getD b i 0) 0 && allZero (part b (i + 1) (k - 1)))
-unfolding allZero all isZero part
-zero-next b i zero h l = absurd (omega arith)
-zero-next b i (suc k) h l = let e : suc k - 1 ≡ k = omega arith in rw (e, drop-cons b i 0 l, add-one)
+pub zero-byte : (b : Bytes) (i : ℕ) → allZero (part b i 1) ≡ eqb (getD b i 0) 0
+unfolding number part
+zero-byte b i = let e : number (part b i 1) ≡ getD b i 0 = omega (arith, number-cons b i 0) in rw e at (zero-number (part b i 1))
 
-module _ {b : Bytes} {at n i k : ℕ} (z : Zeroing b at n i k) where
-  pub zeroing-stop : 0 < k → (getD b i 0 ≡ 0 → ⊥) → false ≡ allZero (part b at n)
-  zeroing-stop h e = sym (z .rest ∙ zero-next b i k h (omega (arith, z .fits)) ∙ rw (ne-eqb (getD b i 0) 0 e))
+pub zero-word : (b : Bytes) (i : ℕ) → allZero (part b i 8) ≡ eqb (u64at b i) 0
+unfolding u64at
+zero-word b i = zero-number (part b i 8)
 
-  pub zeroing-step : 0 < k → getD b i 0 ≡ 0 → Zeroing b at n (i + 1) (k - 1)
-  zeroing-step h e =
+module _ {b : Bytes} {at n : ℕ} {ok : Bool} {i k : ℕ} (z : Zeroing b at n ok i k) where
+  -- the next w bytes
+  pub zeroing-step : (w : ℕ) (t : Bool) → w ≤ k → allZero (part b i w) ≡ t → Zeroing b at n (ok && t) (i + w) (k - w)
+  zeroing-step w t h e =
+      let s : allZero (part b i (w + (k - w))) ≡ (t && allZero (part b (i + w) (k - w))) = zero-split b i w (k - w) ∙ rw e in
+      let l : w + (k - w) ≡ k = omega arith in
       record {
         fits = omega (arith, z .fits);
-        rest = z .rest ∙ zero-next b i k h (omega (arith, z .fits)) ∙ rw (eq-eqb (getD b i 0) 0 e);
+        rest = z .rest ∙ ap (λ (x : Bool). ok && x) (rw l at s) ∙ sym (and-assoc ok t (allZero (part b (i + w) (k - w))));
       }
 
-  pub zeroing-end : k ≤ 0 → true ≡ allZero (part b at n)
-  zeroing-end h = let e : k ≡ 0 = omega arith in sym (z .rest ∙ ap (λ m. allZero (part b i m)) e ∙ zero-none b i)
+  pub zeroing-end : k ≤ 0 → ok ≡ allZero (part b at n)
+  zeroing-end h = let e : k ≡ 0 = omega arith in sym (z .rest ∙ rw (e, zero-none) (and-true ok))

@@ -68,21 +68,36 @@ pub fn u64_at(b: &[u8], at: usize) -> u64
     (low as u64) + 4294967296 * (high as u64)
 }
 
-// Whether the n bytes from a place on are zero.
+// Whether the n bytes from a place on are zero, byte by byte.
+fn zero_bytes(b: &[u8], at: usize, n: usize) -> bool
+    requires { ⌜ at + n ≤ length (now b) ⌝ }
+    ensures { λ r. ⌜ r ≡ allZero (part (now (b .entry)) at n) ⌝ }
+{
+    let mut ok = true;
+    let mut i = at;
+    let mut k = n;
+    while 0 < k {
+        ok = ok & (b[i] == 0);
+        i += 1;
+        k -= 1;
+    }
+    ok
+}
+
+// Whether the n bytes from a place on are zero, eight at once while there are so many.
 pub fn all_zero(b: &[u8], at: usize, n: usize) -> bool
     requires { ⌜ at + n ≤ length (now b) ⌝ }
     ensures { λ r. ⌜ r ≡ allZero (part (now (b .entry)) at n) ⌝ }
 {
+    let mut ok = true;
     let mut i = at;
     let mut k = n;
-    while 0 < k {
-        if b[i] != 0 {
-            return false;
-        }
-        i += 1;
-        k -= 1;
+    while 8 <= k {
+        ok = ok & (u64_at(b, i) == 0);
+        i += 8;
+        k -= 8;
     }
-    true
+    ok & zero_bytes(b, i, k)
 }
 
 // ---- writes
