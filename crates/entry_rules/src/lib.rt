@@ -6,7 +6,7 @@ ghost use Rattle.format.specs.Basics.Lists.{allBelow};
 ghost use Rattle.format.specs.Rules.Entries.{blankFields, nameFields, streamFields, storageFields, rootFields, commonFields, entryFields, entryRules};
 ghost use Rattle.entries.specs.Entry.{entryAt, Field};
 ghost use Rattle.directory.specs.Listed.{entriesOf, DirectoryListed};
-ghost use Rattle.entry_rules.specs.Names.{unitLegal};
+ghost use Rattle.entry_rules.specs.Names.{unitLegal, restBelow};
 use directory::Directory;
 use directory::place;
 use entries::child;
@@ -24,12 +24,27 @@ use kinds::EntryId;
 
 // ---- names
 
-// Whether the first n units of the name are legal.
-fn legal_units(img: &[u8], p: usize, n: usize) -> bool
+// Whether the first n units of the name are legal. Each is looked at, so that many can be at once.
+fn first_legal(img: &[u8], p: usize, n: usize) -> bool
     requires { ⌜ Field (now img) p 0 (2 * n) ⌝ }
     ensures { λ r. ⌜ r ≡ allBelow n (unitLegal (entryAt (now (img .entry)) p)) ⌝ }
 {
+    let mut ok = true;
     let mut i: usize = 0;
+    while i < n {
+        ok = ok & legal_unit(name_unit(img, p, i));
+        i += 1;
+    }
+    ok
+}
+
+// Whether those from unit m on are, one by one.
+fn rest_legal(img: &[u8], p: usize, m: usize, n: usize) -> bool
+    requires { ⌜ m ≤ n ⌝ }
+    requires { ⌜ Field (now img) p 0 (2 * n) ⌝ }
+    ensures { λ r. ⌜ restBelow m n (unitLegal (entryAt (now (img .entry)) p)) r ⌝ }
+{
+    let mut i = m;
     while i < n {
         if !legal_unit(name_unit(img, p, i)) {
             return false;
@@ -37,6 +52,15 @@ fn legal_units(img: &[u8], p: usize, n: usize) -> bool
         i += 1;
     }
     true
+}
+
+// Whether the first n units are legal, eight at once while there are so many.
+fn legal_units(img: &[u8], p: usize, n: usize) -> bool
+    requires { ⌜ Field (now img) p 0 (2 * n) ⌝ }
+    ensures { λ r. ⌜ r ≡ allBelow n (unitLegal (entryAt (now (img .entry)) p)) ⌝ }
+{
+    let m = n / 8 * 8;
+    first_legal(img, p, m) & rest_legal(img, p, m, n)
 }
 
 fn name_fields(img: &[u8], p: usize) -> bool
