@@ -49,7 +49,6 @@ fn repair_by(image: &mut [u8], work: &mut [u32], after: &mut [u8], g: Geometry) 
     ensures image { λ _. ⌜ now (image .exit) ≡ imageRepaired (now (image .entry)) (now (after .entry)) (now (work .entry)) ⌝ }
     ensures wrote { λ _. ⌜ Wrote (now (work .entry)) (now (work .exit)) 0 (workNeed (length (now (image .entry)))) ⌝ }
 {
-    zero_first(work, work_need(image.len()));
     copy(after, image);
     outcome(after, work, g);
     let r = judge(image, after, work);

@@ -43,7 +43,7 @@ module _ (g : Geometry) (img : Bytes) where
 
   -- nothing is written where the header is wrong
   pub tables-left : (w : List ℕ) → TablesLeft g img w w false
-  tables-left w = record { rest = λ i h. refl; listed = λ e. absurd (clash e refl); clear = λ e. absurd (clash e refl) }
+  tables-left w = record { rest = λ i h. refl; listed = λ e. absurd (clash e refl) }
 
   -- ---- 12 and 13
 

@@ -1,11 +1,11 @@
 // What the steps of a repair ask of an image, by the functions of validation.
 ghost use mathlib.Core.Path.{_≡_};
+ghost use Prim.Native.Nat.{_≤_};
 ghost use lib.ListN.{length};
 ghost use Rattle.format.specs.Layout.Volume.{directorySectorsOf};
 ghost use Rattle.format.specs.Calls.RepairSteps.{tablesHold, directoryHolds, entriesHold};
 ghost use Rattle.kinds.specs.Sizes.{geometryOf};
-ghost use Rattle.header.specs.Sized.{ImageSized};
-ghost use Rattle.tables.specs.Work.{WorkClear};
+ghost use Rattle.header.specs.Sized.{ImageSized, W};
 ghost use Rattle.tables.specs.Views.{volumeOf};
 ghost use Rattle.tables.specs.Listed.{FatListed};
 ghost use Rattle.tables.specs.Stages.{TablesLeft};
@@ -26,7 +26,7 @@ use volume::mini_stage::system_tables;
 // Groups 10 and 11. The FAT's sectors stand listed after them.
 pub fn tables_hold(img: &[u8], work: &mut [u32], g: Geometry) -> bool
     requires { ⌜ ImageSized (geometryOf g) (now img) ⌝ }
-    requires { ⌜ WorkClear (geometryOf g) (now img) (now work) ⌝ }
+    requires { ⌜ W (now img) ≤ length (now work) ⌝ }
     ensures answer { λ r. ⌜ r ≡ tablesHold (geometryOf g) (now (img .entry)) ⌝ }
     ensures left { λ r. ⌜ TablesLeft (geometryOf g) (now (img .entry)) (now (work .entry)) (now (work .exit)) r ⌝ }
 {

@@ -1,9 +1,8 @@
 -- What the fourth step asks, test by test.
-use Prim.Native.Nat.{ℕ, _≤_}
+use Prim.Native.Nat.{ℕ}
 use mathlib.Core.Path.{_≡_, refl, sym, ap}
 use mathlib.Core.Bool.{Bool, true, false, _&&_}
 use mathlib.Core.List.{List}
-use native.Mathlib.Omega.{arith}
 use lib.Dec.{leb}
 use lib.ListN.{length}
 use Rattle.format.specs.Basics.Bytes.{Bytes}
@@ -20,35 +19,17 @@ use Rattle.format.specs.Calls.RepairSteps.{tablesHold, directoryHolds, entriesH
 use Rattle.theory.proofs.Tests.{both}
 use Rattle.kinds.specs.declared.Geometry.{Geometry as Sizes}
 use Rattle.kinds.specs.Sizes.{geometryOf}
-use Rattle.format.specs.Calls.Buffers.{workCleared}
-use Rattle.header.specs.Sized.{ImageSized, W}
-use Rattle.tables.specs.Work.{Wrote, WorkClear}
+use Rattle.tables.specs.Work.{Wrote}
 use Rattle.tables.specs.Views.{volumeOf}
-use Rattle.tables.proofs.WorkLaws.{wrote-cleared, wrote-two}
+use Rattle.tables.proofs.WorkLaws.{wrote-two}
 use Rattle.minis.specs.Listed.{minisOf}
 use Rattle.volume.specs.Passed.{SystemLeft}
 use Rattle.volume.specs.declared.mini_stage.System.{System}
 use Rattle.volume.specs.declared.mini_stage.SystemTables.{SystemTables}
 use Rattle.volume.specs.declared.mini_stage.SystemTables.the-variants.{Wrong, Right}
-use Rattle.volume.proofs.Verdicts.{clear-start}
 use Rattle.volume.proofs.MiniStage.{system-tables, system-minis}
 use Rattle.repair_laws.proofs.Heads.{entries-minis}
 use Rattle.repair_owners.specs.Streams.{systemHolds, StreamsLeft, streamsFreed}
-
--- ---- a cleared work buffer
-
-module _ (g : Sizes) (img : Bytes) (w : List ℕ) {n : ℕ} (z : ImageSized (geometryOf g) img) (r : W img ≤ length w) (e : n ≡ workNeed (length img)) where
-  pub start-room : n ≤ length w
-  unfolding workNeed
-  start-room = omega arith
-
-  module _ {w₁ : List ℕ} (q : w₁ ≡ workCleared n w) where
-    pub start-clear : WorkClear (geometryOf g) img w₁
-    unfolding workNeed
-    start-clear = clear-start (geometryOf g) img w w₁ z r (rw e at q)
-
-    pub start-wrote : Wrote w w₁ 0 (workNeed (length img))
-    start-wrote = rw e at (wrote-cleared n w w₁ q start-room)
 
 -- ---- groups 10 to 16 but for the cells from K on
 

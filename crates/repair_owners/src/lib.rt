@@ -17,7 +17,6 @@ ghost use Rattle.minis.specs.Listed.{minisOf};
 ghost use Rattle.volume.specs.Passed.{SystemMarked, SystemLeft};
 ghost use Rattle.repair_owners.specs.Streams.{systemHolds, StreamsMarked, StreamsLeft, streamsFreed};
 use chains::Length;
-use header::work_need;
 use kinds::Geometry;
 use le::zero_first;
 use minis::cells_rest;
@@ -70,7 +69,6 @@ fn system_holds(img: &[u8], work: &mut [u32], g: Geometry) -> SystemTables
     requires { ⌜ W (now img) ≤ length (now work) ⌝ }
     ensures { λ r. ⌜ SystemLeft g (now (img .entry)) (systemHolds (geometryOf g) (now (img .entry))) (now (work .entry)) (now (work .exit)) r ⌝ }
 {
-    zero_first(work, work_need(img.len()));
     if !tables_hold(img, work, g) {
         return SystemTables::Wrong;
     }

@@ -1,11 +1,12 @@
 // The steps of a repair, on the image that is lent: each asks, writes and hands on to the next; the first that cannot be taken ends them.
 ghost use mathlib.Core.Path.{_≡_};
+ghost use Prim.Native.Nat.{_≤_};
 ghost use lib.ListN.{length};
 ghost use Rattle.format.specs.Rules.Length.{workNeed};
 ghost use Rattle.format.specs.Calls.RepairSteps.{thirdStep, secondStep, repaired};
 ghost use Rattle.kinds.specs.Sizes.{geometryOf};
-ghost use Rattle.header.specs.Sized.{ImageSized};
-ghost use Rattle.tables.specs.Work.{Wrote, WorkClear};
+ghost use Rattle.header.specs.Sized.{ImageSized, W};
+ghost use Rattle.tables.specs.Work.{Wrote};
 ghost use Rattle.repair_steps.specs.Passed.{TablesPassed, DirectoryPassed};
 use chains::Length;
 use header::fat_count;
@@ -61,7 +62,7 @@ fn repair_directory(img: &mut [u8], work: &mut [u32], g: Geometry)
 // All four steps: what is left is the outcome, which nobody has judged.
 pub fn outcome(img: &mut [u8], work: &mut [u32], g: Geometry)
     requires { ⌜ ImageSized (geometryOf g) (now img) ⌝ }
-    requires { ⌜ WorkClear (geometryOf g) (now img) (now work) ⌝ }
+    requires { ⌜ W (now img) ≤ length (now work) ⌝ }
     ensures image { λ _. ⌜ now (img .exit) ≡ repaired (geometryOf g) (now (img .entry)) ⌝ }
     ensures wrote { λ _. ⌜ Wrote (now (work .entry)) (now (work .exit)) 0 (workNeed (length (now (img .entry)))) ⌝ }
 {

@@ -93,17 +93,22 @@ listed-is : {w : List ℕ} {at n : ℕ} {f : ℕ → ℕ} → Holds w at n f →
 unfolding listed
 listed-is h k l = h .here k l
 
+-- the lists stand in the work buffer, and no sector has a mark
+pub record Unmarked (g : Geometry) (img : Bytes) (w : List ℕ) (list : ℕ) : Type 0 where
+  pub built : Built g img w list
+  pub clear : (u : ℕ) → u < sectorCount g img → getD w u 0 ≡ 0
+
 -- the lists stand behind the marks
 pub apart : {g : Geometry} {img : Bytes} {w : List ℕ} {n f d list : ℕ} → StageArgs g img w n f d list → sectorCount g img ≤ list
 apart a = omega (arith, a .place, a .counted .few, a .counted .sized .many)
 
-module _ {g : Geometry} {img : Bytes} {w₁ : List ℕ} {n f d list : ℕ} (a : StageArgs g img w₁ n f d list) (b : Built g img w₁ list) where
-  clear : (u : ℕ) → u < sectorCount g img → getD w₁ u 0 ≡ 0
-  clear = a .clear .clear
+module _ {g : Geometry} {img : Bytes} {w₁ : List ℕ} {n f d list : ℕ} (a : StageArgs g img w₁ n f d list) (m : Unmarked g img w₁ list) where
+  b : Built g img w₁ list
+  b = m .built
 
   pub fats-fail : ListFails w₁ (sectorCount g img) list (F img) → tableSectors g img ≡ false
   fats-fail (inl x) = sectors-are g img ∙ rw (below-not (fatBelow g img) (F img) (x .0) (x .1) (fat-not g img (x .0) (omega (arith, x .2, listed-is (b .fats) (x .0) (x .1)))))
-  fats-fail (inr x) = twice g img (x .0) (omega (arith, x .2, times-are (b .fats) (x .0), fats-count g img (x .0), ap bit (le-ltb 0 (getD w₁ (x .0) 0) (omega (arith, clear (x .0) (x .1))))))
+  fats-fail (inr x) = twice g img (x .0) (omega (arith, x .2, times-are (b .fats) (x .0), fats-count g img (x .0), ap bit (le-ltb 0 (getD w₁ (x .0) 0) (omega (arith, m .clear (x .0) (x .1))))))
 
   module _ {w₂ : List ℕ} (wr : Wrote w₁ w₂ 0 (sectorCount g img)) (one : ListMarked w₁ w₂ (sectorCount g img) list (F img) 1) where
     difats : Holds w₂ (list + F img) (D img) (difatSector g img)
@@ -120,8 +125,8 @@ module _ {g : Geometry} {img : Bytes} {w₁ : List ℕ} {n f d list : ℕ} (a : 
         let h = x .2 in
         twice g img s
         (⊎-elim
-        (λ m. let e = ap bit (le-ltb 0 (getD w₂ s 0) (omega (arith, m .1, clear s (x .1)))) in omega arith)
-        (λ m. let e = ap bit (lt-ltb 0 (getD w₂ s 0) (omega (arith, m .2))) in omega arith)
+        (λ q. let e = ap bit (le-ltb 0 (getD w₂ s 0) (omega (arith, q .1, m .clear s (x .1)))) in omega arith)
+        (λ q. let e = ap bit (lt-ltb 0 (getD w₂ s 0) (omega (arith, q .2))) in omega arith)
         (one .marked s (x .1)))
 
     module _ {w₃ : List ℕ} (two : ListMarked w₂ w₃ (sectorCount g img) (list + F img) (D img) 2) where
@@ -139,7 +144,7 @@ module _ {g : Geometry} {img : Bytes} {w₁ : List ℕ} {n f d list : ℕ} (a : 
           let b = fats-count g img s in
           let c = times-are difats s in
           let d = difats-count g img s in
-          let z = clear s l in
+          let z = m .clear s l in
           ⊎-elim (λ m. ⊎-elim (λ n. omega arith) (λ n. omega arith) (two .marked s l)) (λ m. ⊎-elim (λ n. omega arith) (λ n. omega arith) (two .marked s l)) (one .marked s l)
 
       at-most : (s : ℕ) → count s (fatSectors g img) + count s (difatSectors g img) ≤ 1

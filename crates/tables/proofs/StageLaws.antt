@@ -3,10 +3,10 @@ use Prim.Native.Nat.{ℕ, _+_, _-_, _*_, _≤_, _<_}
 use mathlib.Core.Path.{_≡_, refl, sym, _∙_}
 use mathlib.Core.Bool.{Bool, true, false, _&&_, and-false}
 use mathlib.Core.List.{List}
-use mathlib.Core.Logic.{inl, inr}
+use mathlib.Core.Logic.{inr}
 use native.Mathlib.Omega.{arith}
 use lib.Dec.{eqb, leb}
-use lib.ListN.{getD}
+use lib.ListN.{length, getD}
 use borrow.Author.Tests.{leb-true, eqb-true, ltb-true}
 use Rattle.format.specs.Basics.Bytes.{Bytes}
 use Rattle.format.specs.Basics.Lists.{allBelow}
@@ -17,11 +17,11 @@ use Rattle.format.specs.Rules.Tables.{difatNeed, tableCounts, difatEnds, difatR
 use Rattle.format.specs.Calls.Buffers.{workCleared}
 use Rattle.theory.proofs.Tests.{clash, both, below-at}
 use Rattle.header.specs.Sized.{ImageSized, F, D, W}
-use Rattle.tables.specs.Work.{Wrote, Holds, WorkClear}
+use Rattle.tables.specs.Work.{Wrote, Holds}
 use Rattle.tables.specs.Listed.{FatListedAt, listPlace}
 use Rattle.tables.specs.Stages.{Counted, difatBelow, DifatArgs, DifatListed, Difats, ListArgs, ListMarked, ListLeft, StageArgs, Built, ListsLeft, MarksLeft, TablesLeft}
-use Rattle.tables.proofs.WorkLaws.{wrote-two, wrote-wider, holds-kept, listed-kept, cleared, wrote-cleared}
-use Rattle.tables.proofs.SectorLaws.{apart, few-tables, difats-out, fat-in, sectors-pass}
+use Rattle.tables.proofs.WorkLaws.{wrote-two, wrote-wider, holds-kept, cleared, wrote-cleared}
+use Rattle.tables.proofs.SectorLaws.{Unmarked, apart, few-tables, difats-out, fat-in, sectors-pass}
 
 -- ---- the test, stage by stage
 
@@ -76,7 +76,7 @@ module _ (g : Geometry) (img : Bytes) where
 -- ---- the lists
 
 pub difat-args : {g : Geometry} {img : Bytes} {w : List ℕ} {n f d list : ℕ} → StageArgs g img w n f d list → DifatArgs g img w n (list + f) d
-difat-args a = record { sized = a .counted .sized; count = a .sectors; many = a .difats; room = omega (arith, a .place, a .fats, a .clear .room) }
+difat-args a = record { sized = a .counted .sized; count = a .sectors; many = a .difats; room = omega (arith, a .place, a .fats, a .room) }
 
 module _ {g : Geometry} {img : Bytes} {w₁ w₂ : List ℕ} {n f d list : ℕ} (a : StageArgs g img w₁ n f d list) where
   -- what the listing of the DIFAT's sectors left, in the image's own numbers
@@ -105,6 +105,29 @@ module _ {g : Geometry} {img : Bytes} {w₁ w₂ : List ℕ} {n f d list : ℕ} 
 
 -- ---- the marks
 
+-- a buffer of the same length
+stage-same : {g : Geometry} {img : Bytes} {w₀ w₁ : List ℕ} {n f d list : ℕ} → StageArgs g img w₀ n f d list → length w₁ ≡ length w₀ → StageArgs g img w₁ n f d list
+stage-same a e = record { counted = a .counted; room = omega (arith, a .room); sectors = a .sectors; fats = a .fats; difats = a .difats; place = a .place }
+
+-- the marks are taken away
+module _ {g : Geometry} {img : Bytes} {w₀ w₁ : List ℕ} {n f d list : ℕ} (a : StageArgs g img w₀ n f d list) (e : w₁ ≡ workCleared n w₀) where
+  pub unmarked-wrote : Wrote w₀ w₁ 0 (sectorCount g img)
+  unmarked-wrote = wrote-cleared (sectorCount g img) w₀ w₁ (rw (a .sectors) at e) (omega (arith, a .room, a .counted .sized .many))
+
+  pub unmarked-args : StageArgs g img w₁ n f d list
+  unmarked-args = stage-same a (unmarked-wrote .long)
+
+  pub unmarked : Built g img w₀ list → Unmarked g img w₁ list
+  unmarked b =
+      record {
+        built = record {
+          fats = holds-kept (b .fats) unmarked-wrote (inr (omega (arith, apart a)));
+          difats = holds-kept (b .difats) unmarked-wrote (inr (omega (arith, apart a)));
+          below = b .below;
+        };
+        clear = cleared (sectorCount g img) w₀ w₁ (rw (a .sectors) at e);
+      }
+
 module _ {g : Geometry} {img : Bytes} {w : List ℕ} {n f d list : ℕ} (a : StageArgs g img w n f d list) where
   pub fat-args : Built g img w list → ListArgs w n list f 1
   fat-args b =
@@ -127,15 +150,15 @@ module _ {g : Geometry} {img : Bytes} {w : List ℕ} {n f d list : ℕ} (a : Sta
   left-difats l e = rw (a .sectors, a .fats, a .difats, e) at l
 
 pub marks-fail : {g : Geometry} {img : Bytes} {w₁ w₂ : List ℕ} {list : ℕ} → tableSectors g img ≡ false → Wrote w₁ w₂ 0 (sectorCount g img) → MarksLeft g img w₁ w₂ list false
-marks-fail h wr = record { answer = sym (rw h); wrote = wr; listed = λ e. absurd (clash e refl); clear = λ e. absurd (clash e refl) }
+marks-fail h wr = record { answer = sym (rw h); wrote = wr; listed = λ e. absurd (clash e refl) }
 
-module _ {g : Geometry} {img : Bytes} {w₁ w₂ w₃ : List ℕ} {n f d list : ℕ} (a : StageArgs g img w₁ n f d list) (b : Built g img w₁ list)
+module _ {g : Geometry} {img : Bytes} {w₁ w₂ w₃ : List ℕ} {n f d list : ℕ} (a : StageArgs g img w₁ n f d list) (m : Unmarked g img w₁ list)
     (wr : Wrote w₁ w₂ 0 (sectorCount g img)) (one : ListMarked w₁ w₂ (sectorCount g img) list (F img) 1)
     (wr₃ : Wrote w₂ w₃ 0 (sectorCount g img)) (two : ListMarked w₂ w₃ (sectorCount g img) (list + F img) (D img) 2) where
   -- the list, for the lookup of cells
   pub built-listed : (n : ℕ) → n ≡ sectorCount g img → FatListedAt g img w₃ n list
   built-listed n e =
-      let h = holds-kept (b .fats) (wrote-two wr wr₃) (inr (omega (arith, apart a))) in
+      let h = holds-kept (m .built .fats) (wrote-two wr wr₃) (inr (omega (arith, apart a))) in
       record {
         sized = a .counted .sized;
         count = e;
@@ -144,41 +167,26 @@ module _ {g : Geometry} {img : Bytes} {w₁ w₂ w₃ : List ℕ} {n f d list : 
         covers = a .counted .covers;
         few = omega (arith, a .counted .few);
         fats = h .here;
-        below = fat-in a b wr one two;
+        below = fat-in a m wr one two;
       }
 
-  pub marks-left : {w₄ : List ℕ} {r : Bool} → w₄ ≡ workCleared (sectorCount g img) w₃ → r ≡ tableMarks g img → MarksLeft g img w₁ w₄ list r
-  marks-left {w₄} {r} e h =
-      let k = wrote-cleared (sectorCount g img) w₃ w₄ e (omega (arith, wr₃ .long, wr .long, a .clear .room, a .counted .sized .many)) in
-      record {
-        answer = h ∙ sym (rw (sectors-pass a b wr one two));
-        wrote = wrote-two (wrote-two wr wr₃) k;
-        listed = λ x. let b = built-listed (sectorCount g img) refl in listed-kept b k (omega (arith, b .apart));
-        clear = λ x. cleared (sectorCount g img) w₃ w₄ e;
-      }
+  pub marks-left : {w₀ : List ℕ} {r : Bool} → Wrote w₀ w₁ 0 (sectorCount g img) → r ≡ tableMarks g img → MarksLeft g img w₀ w₃ list r
+  marks-left k h = record { answer = h ∙ sym (rw (sectors-pass a m wr one two)); wrote = wrote-two k (wrote-two wr wr₃); listed = λ x. built-listed (sectorCount g img) refl }
 
 -- ---- the whole
 
 -- refused, with nothing past our part of the work buffer changed
 pub not-left : (g : Geometry) (img : Bytes) (w₀ w : List ℕ) → ((i : ℕ) → W img ≤ i → getD w i 0 ≡ getD w₀ i 0) → TablesLeft g img w₀ w false
-not-left g img w₀ w h = record { rest = h; listed = λ e. absurd (clash e refl); clear = λ e. absurd (clash e refl) }
+not-left g img w₀ w h = record { rest = h; listed = λ e. absurd (clash e refl) }
 
-pub stage-start : {g : Geometry} {img : Bytes} {w : List ℕ} (n f d list : ℕ) → Counted g img → WorkClear g img w → n ≡ sectorCount g img → f ≡ F img → d ≡ D img
+pub stage-start : {g : Geometry} {img : Bytes} {w : List ℕ} (n f d list : ℕ) → Counted g img → W img ≤ length w → n ≡ sectorCount g img → f ≡ F img → d ≡ D img
     → list ≡ W img - (f + d) → StageArgs g img w n f d list
 stage-start n f d list c w a b e h =
-    record { counted = c; clear = w; sectors = a; fats = b; difats = e; place = omega (arith, c .few, c .sized .many) }
+    record { counted = c; room = w; sectors = a; fats = b; difats = e; place = omega (arith, c .few, c .sized .many) }
 
 module _ {g : Geometry} {img : Bytes} {w₀ w₁ : List ℕ} {n f d list : ℕ} (a : StageArgs g img w₀ n f d list) (wr : Wrote w₀ w₁ list (F img + D img)) where
   pub stage-kept : StageArgs g img w₁ n f d list
-  stage-kept =
-      record {
-        counted = a .counted;
-        clear = record { room = omega (arith, wr .long, a .clear .room); clear = λ u l. wr .outside u (inl (omega (arith, apart a))) ∙ a .clear .clear u l };
-        sectors = a .sectors;
-        fats = a .fats;
-        difats = a .difats;
-        place = a .place;
-      }
+  stage-kept = stage-same a (wr .long)
 
   pub tables-left : {w₂ : List ℕ} {r : Bool} → MarksLeft g img w₁ w₂ list r → TablesLeft g img w₀ w₂ r
   tables-left {r = r} m =
@@ -186,7 +194,6 @@ module _ {g : Geometry} {img : Bytes} {w₀ w₁ : List ℕ} {n f d list : ℕ} 
       record {
         rest = λ i h. m .wrote .outside i (inr (omega (arith, a .counted .sized .many))) ∙ wr .outside i (inr (omega (arith, a .place)));
         listed = λ e. rw (← p) (m .listed e);
-        clear = λ e. record { room = omega (arith, m .wrote .long, wr .long, a .clear .room); clear = m .clear e };
       }
 
   pub lists-refused : TablesLeft g img w₀ w₁ false

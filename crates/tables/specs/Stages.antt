@@ -12,7 +12,7 @@ use Rattle.format.specs.Layout.Geometry.{Geometry, sectorCount, cellsIn}
 use Rattle.format.specs.Layout.Tables.{difatEntry, difatSector, fatSectors, difatSectors}
 use Rattle.format.specs.Rules.Tables.{difatNeed, difatEnds, difatRest, tableSectors, tableMarks}
 use Rattle.header.specs.Sized.{ImageSized, F, D, W}
-use Rattle.tables.specs.Work.{Wrote, Holds, WorkClear}
+use Rattle.tables.specs.Work.{Wrote, Holds}
 use Rattle.tables.specs.Listed.{FatListedAt, listPlace}
 
 -- ---- the counts
@@ -92,12 +92,11 @@ pub record TableMarked (g : Geometry) (img : Bytes) (work : List ℕ) : Type 0 w
 pub record TablesLeft (g : Geometry) (img : Bytes) (before after : List ℕ) (r : Bool) : Type 0 where
   pub rest : (i : ℕ) → W img ≤ i → getD after i 0 ≡ getD before i 0
   pub listed : r ≡ true → FatListedAt g img after (sectorCount g img) (listPlace img)
-  pub clear : r ≡ true → WorkClear g img after
 
 -- what the stages after the counts are called with
 pub record StageArgs (g : Geometry) (img : Bytes) (work : List ℕ) (n f d list : ℕ) : Type 0 where
   pub counted : Counted g img
-  pub clear : WorkClear g img work
+  pub room : W img ≤ length work
   pub sectors : n ≡ sectorCount g img
   pub fats : f ≡ F img
   pub difats : d ≡ D img
@@ -118,4 +117,3 @@ pub record MarksLeft (g : Geometry) (img : Bytes) (before after : List ℕ) (lis
   pub answer : r ≡ (tableSectors g img && tableMarks g img)
   pub wrote : Wrote before after 0 (sectorCount g img)
   pub listed : r ≡ true → FatListedAt g img after (sectorCount g img) list
-  pub clear : r ≡ true → (u : ℕ) → u < sectorCount g img → getD after u 0 ≡ 0

@@ -4,9 +4,6 @@ use mathlib.Core.Path.{_≡_}
 use mathlib.Core.List.{List}
 use mathlib.Core.Logic.{_⊎_}
 use lib.ListN.{length, getD}
-use Rattle.format.specs.Basics.Bytes.{Bytes}
-use Rattle.format.specs.Layout.Geometry.{Geometry, sectorCount}
-use Rattle.header.specs.Sized.{W}
 
 -- nothing changed but the n numbers from a place on
 pub record Wrote (before after : List ℕ) (at n : ℕ) : Type 0 where
@@ -17,8 +14,3 @@ pub record Wrote (before after : List ℕ) (at n : ℕ) : Type 0 where
 pub record Holds (w : List ℕ) (at n : ℕ) (f : ℕ → ℕ) : Type 0 where
   pub room : at + n ≤ length w
   pub here : (j : ℕ) → j < n → getD w (at + j) 0 ≡ f j
-
--- the work buffer is long enough, and no sector has a mark
-pub record WorkClear (g : Geometry) (img : Bytes) (work : List ℕ) : Type 0 where
-  pub room : W img ≤ length work
-  pub clear : (u : ℕ) → u < sectorCount g img → getD work u 0 ≡ 0

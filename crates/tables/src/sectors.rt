@@ -5,8 +5,9 @@ ghost use Rattle.format.specs.Layout.Geometry.{difatIn, headerDifat};
 ghost use Rattle.format.specs.Layout.Tables.{difatEntry};
 ghost use Rattle.format.specs.Rules.Tables.{difatNeed, tableCounts, difatRest, tableMarks, tableRules};
 ghost use Rattle.kinds.specs.Sizes.{geometryOf};
-ghost use Rattle.header.specs.Sized.{ImageSized, F, D};
-ghost use Rattle.tables.specs.Work.{Wrote, Holds, WorkClear};
+ghost use lib.ListN.{length};
+ghost use Rattle.header.specs.Sized.{ImageSized, F, D, W};
+ghost use Rattle.tables.specs.Work.{Wrote, Holds};
 ghost use Rattle.tables.specs.Listed.{FatListed};
 ghost use Rattle.tables.specs.Stages.{DifatArgs, DifatListed, Difats, ListArgs, ListLeft, TableMarked, TablesLeft};
 ghost use Rattle.tables.specs.Stages.{StageArgs, Built, ListsLeft, MarksLeft};
@@ -183,7 +184,7 @@ pub fn list_tables(
     difat_rest(img, work, g, list + f, f, d)
 }
 
-// Marks the listed sectors, compares their cells, and takes the marks away.
+// Takes away what marks there are, marks the listed sectors, and compares their cells.
 pub fn mark_tables(
     img: &[u8],
     work: &mut [u32],
@@ -197,13 +198,14 @@ pub fn mark_tables(
     requires { ⌜ Built (geometryOf g) (now img) (now work) list ⌝ }
     ensures { λ r. ⌜ MarksLeft (geometryOf g) (now (img .entry)) (now (work .entry)) (now (work .exit)) list r ⌝ }
 {
+    zero_first(work, n);
     if !mark_list(work, n, list, f, 1) {
         return false;
     }
     if !mark_list(work, n, list + f, d, 2) {
         return false;
     }
-    let right = table_marks(
+    table_marks(
         img,
         work,
         Tables {
@@ -211,15 +213,13 @@ pub fn mark_tables(
             sectors: n,
             list: list,
         },
-    );
-    zero_first(work, n);
-    right
+    )
 }
 
-// Group 11. Where it holds, the FAT's sectors stand listed in the work buffer, and no sector has a mark.
+// Group 11. Where it holds, the FAT's sectors stand listed in the work buffer.
 pub fn table_rules(img: &[u8], work: &mut [u32], g: Geometry) -> bool
     requires { ⌜ ImageSized (geometryOf g) (now img) ⌝ }
-    requires { ⌜ WorkClear (geometryOf g) (now img) (now work) ⌝ }
+    requires { ⌜ W (now img) ≤ length (now work) ⌝ }
     ensures answer { λ r. ⌜ r ≡ tableRules (geometryOf g) (now (img .entry)) ⌝ }
     ensures left { λ r. ⌜ TablesLeft (geometryOf g) (now (img .entry)) (now (work .entry)) (now (work .exit)) r ⌝ }
 {

@@ -19,7 +19,6 @@ use Rattle.kinds.specs.Sizes.{geometryOf}
 use Rattle.kinds.specs.Numbers.{refusalNumber}
 use Rattle.kinds.proofs.Refusals.{refusal-some}
 use Rattle.tables.specs.Work.{Wrote}
-use Rattle.tables.proofs.WorkLaws.{wrote-two}
 use Rattle.volume.specs.Opened.{Outcome, StageLeft, OpenedRight, workLeft}
 use Rattle.volume.specs.declared.Volume.{Volume}
 use Rattle.volume.specs.declared.Opened.{Opened}
@@ -72,19 +71,15 @@ groups-large g img z =
 pub refused-early : (g : Geometry) (img : Bytes) (w : List ℕ) (a : Refusal) → verdict g img (length w) ≡ refusalNumber a → (refusalNumber a ≡ 1) ⊎ (refusalNumber a ≡ 2) → OpenedRight g img w w (Refused a)
 refused-early g img w a e h = (sym e, left-alone (verdict g img (length w)) img w (⊎-elim (λ k. inl (e ∙ k)) (λ k. inr (e ∙ k)) h))
 
-module _ (g : Geometry) {s : Sizes} {img : Bytes} {w w₁ w₂ : List ℕ} (r : Opened) (l : StageLeft s img (groups g img) w₁ w₂ r) (v : verdict g img (length w) ≡ groups g img)
-    (x : Wrote w w₁ 0 (workNeed (length img))) where
-  all-wrote : Wrote w w₂ 0 (workNeed (length img))
-  all-wrote = wrote-two x (l .wrote)
-
+module _ (g : Geometry) {s : Sizes} {img : Bytes} {w w₁ : List ℕ} (r : Opened) (l : StageLeft s img (groups g img) w w₁ r) (v : verdict g img (length w) ≡ groups g img) where
   -- refused by a group
-  pub refused-late : {a : Refusal} {w₃ : List ℕ} → r ≡ Refused a → w₃ ≡ workCleared (workNeed (length img)) w₂ → OpenedRight g img w w₃ (Refused a)
+  pub refused-late : {a : Refusal} {w₂ : List ℕ} → r ≡ Refused a → w₂ ≡ workCleared (workNeed (length img)) w₁ → OpenedRight g img w w₂ (Refused a)
   refused-late {a} e c =
-      let o : Outcome s img (groups g img) w₂ (Refused a) = subst (λ y. Outcome s img (groups g img) w₂ y) e (l .outcome) in
+      let o : Outcome s img (groups g img) w₁ (Refused a) = subst (λ y. Outcome s img (groups g img) w₁ y) e (l .outcome) in
       let h : 9 < verdict g img (length w) = omega (arith, v, groups-large g img (λ z. refusal-some a (o ∙ z))) in
-      (o ∙ sym v, left-cleared (verdict g img (length w)) img w (omega arith) (omega arith) all-wrote c)
+      (o ∙ sym v, left-cleared (verdict g img (length w)) img w (omega arith) (omega arith) (l .wrote) c)
 
-  pub opened : {y : Volume} → geometryOf s ≡ g → workNeed (length img) ≤ length w → r ≡ Ready y → OpenedRight g img w w₂ (Ready y)
+  pub opened : {y : Volume} → geometryOf s ≡ g → workNeed (length img) ≤ length w → r ≡ Ready y → OpenedRight g img w w₁ (Ready y)
   opened {y} q n e =
-      let o : Outcome s img (groups g img) w₂ (Ready y) = subst (λ k. Outcome s img (groups g img) w₂ k) e (l .outcome) in
-      (v ∙ o .0, (ap geometryOf (o .1 .0) ∙ q, (o .1 .1, (n, all-wrote))))
+      let o : Outcome s img (groups g img) w₁ (Ready y) = subst (λ k. Outcome s img (groups g img) w₁ k) e (l .outcome) in
+      (v ∙ o .0, (ap geometryOf (o .1 .0) ∙ q, (o .1 .1, (n, l .wrote))))

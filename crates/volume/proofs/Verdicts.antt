@@ -19,11 +19,8 @@ use Rattle.format.specs.Rules.Directory.{directoryRules}
 use Rattle.format.specs.Rules.Entries.{entryRules}
 use Rattle.format.specs.Rules.Trees.{treeRules}
 use Rattle.format.specs.Rules.Verdict.{check, volumeGroups, groups, verdict}
-use Rattle.format.specs.Calls.Buffers.{workCleared}
-use Rattle.header.specs.Sized.{ImageSized}
-use Rattle.tables.specs.Work.{Wrote, WorkClear}
+use Rattle.tables.specs.Work.{Wrote}
 use Rattle.tables.specs.Stages.{TablesLeft}
-use Rattle.tables.proofs.WorkLaws.{cleared, wrote-cleared}
 use Rattle.chains.specs.Answers.{lengthAnswer}
 use Rattle.chains.specs.declared.Length.{Length}
 use Rattle.chains.specs.declared.Length.the-variants.{Is, Never}
@@ -90,15 +87,6 @@ module _ (g : Geometry) (img : Bytes) where
   pub groups-decide : (work : ℕ) → lengthAllowed g (length img) ≡ true → workNeed (length img) ≤ work → verdict g img work ≡ groups g img
   unfolding verdict check
   groups-decide work h l = rw (h, le-leb (workNeed (length img)) work l)
-
-  -- a cleared work buffer
-  pub clear-start : (w w′ : List ℕ) → ImageSized g img → workNeed (length img) ≤ length w → w′ ≡ workCleared (workNeed (length img)) w → WorkClear g img w′
-  unfolding workNeed
-  clear-start w w′ z l e =
-      record {
-        room = omega (arith, wrote-cleared (workNeed (length img)) w w′ e l .long);
-        clear = λ u h. cleared (workNeed (length img)) w w′ e u (omega (arith, z .many));
-      }
 
 -- ---- the directory's chain, by the answer about its length
 

@@ -42,7 +42,6 @@ pub fn open_volume(img: &[u8], work: &mut [u32]) -> Opened
     if work.len() < need {
         return Opened::Refused(Refusal::ShortWork);
     }
-    zero_first(work, need);
     match table_groups(img, work, g) {
         Opened::Refused(a) => {
             zero_first(work, need);

@@ -1,8 +1,9 @@
 // Groups 10 to 13.
+ghost use Prim.Native.Nat.{_≤_};
+ghost use lib.ListN.{length};
 ghost use Rattle.format.specs.Rules.Verdict.{groups};
 ghost use Rattle.kinds.specs.Sizes.{geometryOf};
-ghost use Rattle.header.specs.Sized.{ImageSized};
-ghost use Rattle.tables.specs.Work.{WorkClear};
+ghost use Rattle.header.specs.Sized.{ImageSized, W};
 ghost use Rattle.volume.specs.Opened.{StageLeft};
 use super::Opened;
 use super::entry_stage::entry_groups;
@@ -17,7 +18,7 @@ use tables::tables_of;
 
 pub fn table_groups(img: &[u8], work: &mut [u32], g: Geometry) -> Opened
     requires { ⌜ ImageSized (geometryOf g) (now img) ⌝ }
-    requires { ⌜ WorkClear (geometryOf g) (now img) (now work) ⌝ }
+    requires { ⌜ W (now img) ≤ length (now work) ⌝ }
     ensures { λ r. ⌜ StageLeft g (now (img .entry)) (groups (geometryOf g) (now (img .entry))) (now (work .entry)) (now (work .exit)) r ⌝ }
 {
     if !header_rules(img, g) {

@@ -3,35 +3,29 @@ use mathlib.Core.Path.{_≡_, sym, ap, _∙_}
 use native.Mathlib.Omega.{arith}
 use lib.ListN.{length}
 use Rattle.format.specs.Rules.Length.{workNeed}
-use Rattle.format.specs.Calls.Buffers.{workCleared}
 use Rattle.format.specs.Calls.Repair.{repairReply}
-use Rattle.frame.proofs.Lengths.{allowed-short}
-use Rattle.kinds.specs.Sizes.{geometryOf}
 use Rattle.tables.specs.Work.{Wrote}
 use Rattle.tables.proofs.WorkLaws.{wrote-two}
 use Rattle.repair.specs.Replies.{repairReplyOf}
 use Rattle.repair.specs.Room.{Tried}
 use Rattle.repair.proofs.Replies.{image-kept, image-done, same-reply}
 use Rattle.repair.proofs.Judging.{after-long}
-use Rattle.repair.proofs.Trying.{buffer-long, copy-sized, copy-clear, tried, tried-wrote}
+use Rattle.repair.proofs.Trying.{buffer-long, copy-sized, copy-room, tried, tried-wrote}
 use Rattle.repair.proofs.repair_by.Statement.{statement}
 use Rattle.repair.proofs.repair_by.Tie as tie
 
-emptied : (c : tie.After-zero-first) → let p = c .before .before .before .before .before .before .args in c .zero-first .last .0 ≡ workCleared (workNeed (length (p .image .now))) (p .work .now)
-emptied c = c .zero-first .ensures ∙ ap (λ n. workCleared n (c .before .before .before .before .before .before .args .work .now)) (c .before .work-need .ensures)
-
 -- the steps are done
-done : (c : tie.After-outcome) → Tried (c .before .before .before .before .before .before .before .before .before .before .before .before .before .before .before .before .args .image .now) (c .outcome .last .0) (c .outcome .last .1 .0)
-done c = tried (c .before .before .before .before .before .before .before .before .before .before .before .before .before .before .before .before .pre) (c .before .before .before .before .before .copy .ensures) (emptied (c .before .before .before .before .before .before .before .before .before .before)) (c .outcome .ensures .0) (c .outcome .ensures .1)
+done : (c : tie.After-outcome) → Tried (c .before .before .before .before .before .before .before .before .before .before .before .args .image .now) (c .outcome .last .0) (c .outcome .last .1 .0)
+done c = tried (c .before .before .before .before .before .before .before .before .before .before .before .pre) (c .before .before .before .before .before .copy .ensures) (c .outcome .ensures .0) (c .outcome .ensures .1)
 
-wrote : (c : tie.After-outcome) → let p = c .before .before .before .before .before .before .before .before .before .before .before .before .before .before .before .before .args in Wrote (p .work .now) (c .outcome .last .1 .0) 0 (workNeed (length (p .image .now)))
-wrote c = tried-wrote (c .before .before .before .before .before .before .before .before .before .before .before .before .before .before .before .before .pre) (c .before .before .before .before .before .copy .ensures) (emptied (c .before .before .before .before .before .before .before .before .before .before)) (c .outcome .ensures .0) (c .outcome .ensures .1)
+wrote : (c : tie.After-outcome) → let p = c .before .before .before .before .before .before .before .before .before .before .before .args in Wrote (p .work .now) (c .outcome .last .1 .0) 0 (workNeed (length (p .image .now)))
+wrote c = tried-wrote (c .before .before .before .before .before .before .before .before .before .before .before .pre) (c .before .before .before .before .before .copy .ensures) (c .outcome .ensures .0) (c .outcome .ensures .1)
 
 -- what is answered, by the buffers as they were lent
-reply : (c : tie.After-judge) → let p = c .before .before .before .before .before .before .before .before .before .before .before .before .before .before .before .before .before .before .before .before .before .before .before .before .args in repairReplyOf (c .judge .result) ≡ repairReply (p .image .now) (p .after .now) (p .work .now)
+reply : (c : tie.After-judge) → let p = c .before .before .before .before .before .before .before .before .before .before .before .before .before .before .before .before .before .before .before .args in repairReplyOf (c .judge .result) ≡ repairReply (p .image .now) (p .after .now) (p .work .now)
 reply c =
     let o = c .before .before .before .before .before .before .before .before in
-    let p = c .before .before .before .before .before .before .before .before .before .before .before .before .before .before .before .before .before .before .before .before .before .before .before .before in
+    let p = c .before .before .before .before .before .before .before .before .before .before .before .before .before .before .before .before .before .before .before in
     same-reply (p .args .image .now) (o .outcome .last .0) (p .args .after .now) (o .outcome .last .1 .0) (p .args .work .now)
     (omega (arith, after-long (done o))) (buffer-long (p .pre)) (sym (wrote o .long)) (c .judge .ensures .0)
 
@@ -39,10 +33,8 @@ pub repair-by-spec : {M : Type 1} → statement M
 repair-by-spec =
     tie.close
     (tie.spec
-    (λ c κs. let p = c .before .before .before .before in omega (arith, allowed-short (geometryOf (p .args .g)) (p .args .image .now) (p .pre .allowed)))  -- work-need-requires
-    (λ c κs. search needs)  -- zero-first-requires
     (λ c κs. search needs)  -- copy-requires
-    (λ c κs. let k = c .before .before .before .before .before .before .before .before .before .before .before .before .before .before .before .pre in let e = c .before .before .before .before .copy .ensures in (copy-sized k e (emptied (c .before .before .before .before .before .before .before .before .before)), copy-clear k e (emptied (c .before .before .before .before .before .before .before .before .before))))  -- outcome-requires
+    (λ c κs. let k = c .before .before .before .before .before .before .before .before .before .before .pre in let e = c .before .before .before .before .copy .ensures in (copy-sized k e, copy-room k e))  -- outcome-requires
     (λ c κs. done (c .before .before .before .before .before .before .before))  -- judge-requires
     (λ c. search needs)  -- enum-told
     (λ c κs. search needs)  -- copy-requires-2
@@ -52,7 +44,7 @@ repair-by-spec =
     (λ c. search needs)  -- same-length-3
     (λ c.
     let j = c .before .before .before .before .before .before .before .before .before in
-    let p = j .before .before .before .before .before .before .before .before .before .before .before .before .before .before .before .before .before .before .before .before .before .before .before .before .args in
+    let p = j .before .before .before .before .before .before .before .before .before .before .before .before .before .before .before .before .before .before .before .args in
     let n = c .before .before .before .before .before .enum-told .given in (
       reply j,
       (
@@ -65,7 +57,7 @@ repair-by-spec =
     (λ c. search needs)  -- same-length-6
     (λ c.
     let j = c .before .before .before .before in
-    let p = j .before .before .before .before .before .before .before .before .before .before .before .before .before .before .before .before .before .before .before .before .before .before .before .before .args in
+    let p = j .before .before .before .before .before .before .before .before .before .before .before .before .before .before .before .before .before .before .before .args in
     let a = c .enum-told2 .given in (
       reply j,
       (

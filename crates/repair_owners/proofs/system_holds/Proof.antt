@@ -12,44 +12,40 @@ use Rattle.theory.proofs.Loops.{said-yes, said-no}
 use Rattle.kinds.specs.Sizes.{geometryOf}
 use Rattle.tables.specs.Work.{Wrote}
 use Rattle.tables.specs.Listed.{FatListedAt, listPlace}
-use Rattle.tables.proofs.WorkLaws.{wrote-two}
 use Rattle.chains.specs.Answers.{lengthAnswer}
 use Rattle.volume.specs.Passed.{TablesHold}
 use Rattle.volume.proofs.Verdicts.{tables-wrote, has-length, length-is, has-none}
 use Rattle.repair_asks.proofs.Asked.{tables-say, directory-says}
-use Rattle.repair_owners.proofs.Asking.{start-room, start-clear, start-wrote, tables-wrong, directory-wrong, entries-decide}
+use Rattle.repair_owners.proofs.Asking.{tables-wrong, directory-wrong, entries-decide}
 use Rattle.repair_owners.proofs.system_holds.Statement.{statement}
 use Rattle.repair_owners.proofs.system_holds.Tie as tie
 
-wrote : (c : tie.After-tables-hold) → let p = c .before .before .before .before .before .before .before .before .before .args in Wrote (p .work .now) (c .tables-hold .last .1 .0) 0 (workNeed (length (p .img .now)))
-wrote c =
-    let z = c .before .before .before .before in
-    let p = z .before .before .before .before .before in
-    wrote-two (start-wrote (p .args .g) (p .args .img .now) (p .args .work .now) (p .pre .0) (p .pre .1) (z .before .work-need .ensures) (z .zero-first .ensures)) (tables-wrote _ _ (c .tables-hold .ensures .1) (c .tables-hold .kept .1 .0))
+wrote : (c : tie.After-tables-hold) → let p = c .before .before .before .before .args in Wrote (p .work .now) (c .tables-hold .last .1 .0) 0 (workNeed (length (p .img .now)))
+wrote c = tables-wrote _ _ (c .tables-hold .ensures .1) (c .tables-hold .kept .1 .0)
 
 -- groups 10 and 11 hold, and the FAT's sectors stand listed
-tables : (c : tie.Else1) → let p = c .before .before .before .before .before .before .before .before .before .before .before .before .args in tablesHold (geometryOf (p .g)) (p .img .now) ≡ true
+tables : (c : tie.Else1) → let p = c .before .before .before .before .before .before .before .args in tablesHold (geometryOf (p .g)) (p .img .now) ≡ true
 tables c = said-yes (c .if1 .left) (c .before .before .before .tables-hold .ensures .0)
 
-listed : (c : tie.Else1) → let p = c .before .before .before .before .before .before .before .before .before .before .before .before .args in
+listed : (c : tie.Else1) → let p = c .before .before .before .before .before .before .before .args in
     FatListedAt (geometryOf (p .g)) (p .img .now) (c .before .before .before .tables-hold .last .1 .0) (sectorCount (geometryOf (p .g)) (p .img .now)) (listPlace (p .img .now))
 listed c = c .before .before .before .tables-hold .ensures .1 .listed (not-false _ (c .if1 .left))
 
 -- how long the directory is
-found : (c : tie.After-directory-holds) → let p = c .before .before .before .before .before .before .before .before .before .before .before .before .before .before .before .args in
+found : (c : tie.After-directory-holds) → let p = c .before .before .before .before .before .before .before .before .before .before .args in
     c .directory-holds .result ≡ lengthAnswer (directoryHolds (volume (geometryOf (p .g)) (p .img .now))) (length (directorySectorsOf (geometryOf (p .g)) (p .img .now)))
 found c = rw (c .before .before .tables-of .ensures) at (c .directory-holds .ensures)
 
-right : (c : tie.After-n) → let p = c .before .before .before .before .before .before .before .before .before .before .before .before .before .before .before .before .before .args in directoryHolds (volume (geometryOf (p .g)) (p .img .now)) ≡ true
+right : (c : tie.After-n) → let p = c .before .before .before .before .before .before .before .before .before .before .before .before .args in directoryHolds (volume (geometryOf (p .g)) (p .img .now)) ≡ true
 right c = has-length _ _ (found (c .before .before)) (c .n .given .1)
 
-hold : (c : tie.After-n) → let p = c .before .before .before .before .before .before .before .before .before .before .before .before .before .before .before .before .before .args in TablesHold (geometryOf (p .g)) (p .img .now) (c .before .before .before .before .before .before .before .before .tables-hold .last .1 .0) (c .n .given .0 .0)
+hold : (c : tie.After-n) → let p = c .before .before .before .before .before .before .before .before .before .before .before .before .args in TablesHold (geometryOf (p .g)) (p .img .now) (c .before .before .before .before .before .before .before .before .tables-hold .last .1 .0) (c .n .given .0 .0)
 hold c =
     let e = c .before .before .before .before .before in
     let t = c .before .before .before .before .before .before .before .before in
     record {
       listed = listed e;
-      whole = omega (arith, c .before .before .before .before .before .before .before .before .before .before .before .before .before .before .before .before .before .pre .1, wrote t .long);
+      whole = omega (arith, c .before .before .before .before .before .before .before .before .before .before .before .before .pre .1, wrote t .long);
       tables = tables-say _ _ (tables e);
       chained = directory-says _ _ (right c);
       count = length-is _ _ (found (c .before .before)) (c .n .given .1);
@@ -59,15 +55,10 @@ pub system-holds-spec : {M : Type 1} → statement M
 system-holds-spec =
     tie.close
     (tie.spec
-    (λ c κs. search needs)  -- work-need-requires
-    (λ c κs. let p = c .before .before .before .before in start-room (p .args .g) (p .args .img .now) (p .args .work .now) (p .pre .0) (p .pre .1) (c .work-need .ensures))  -- zero-first-requires
-    (λ c κs.
-    let z = c .before .before .before in
-    let p = z .before .before .before .before .before in
-    (p .pre .0, start-clear (p .args .g) (p .args .img .now) (p .args .work .now) (p .pre .0) (p .pre .1) (z .before .work-need .ensures) (z .zero-first .ensures)))  -- tables-hold-requires
+    (λ c κs. c .before .before .before .pre)  -- tables-hold-requires
     (λ c. search needs)  -- same-length
     (λ c. let t = c .before .before .before in tables-wrong _ _ (wrote t) (said-no (c .if1 .taken) (t .tables-hold .ensures .0)))  -- returns
-    (λ c κs. (c .before .before .before .before .before .before .before .before .before .before .before .before .pre .0, listed c .few))  -- tables-of-requires
+    (λ c κs. (c .before .before .before .before .before .before .before .pre .0, listed c .few))  -- tables-of-requires
     (λ c κs. rw (c .before .tables-of .ensures) (listed (c .before .before)))  -- directory-holds-requires
     (λ c. search needs)  -- enum-known-n
     (λ c. search needs)  -- enum-told

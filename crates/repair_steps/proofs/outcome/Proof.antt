@@ -25,7 +25,7 @@ passed c =
     let t = c .before .before .before in
     record {
       listed = t .tables-hold .ensures .1 .listed (not-false _ (c .if1 .left));
-      whole = omega (arith, c .before .before .before .before .before .before .before .before .pre .1 .room, t .tables-hold .kept .1 .0);
+      whole = omega (arith, c .before .before .before .before .before .before .before .before .pre .1, t .tables-hold .kept .1 .0);
       tables = said-yes (c .if1 .left) (t .tables-hold .ensures .0);
     }
 

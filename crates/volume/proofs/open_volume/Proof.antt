@@ -9,18 +9,17 @@ use lib.ListN.{length}
 use Rattle.format.specs.Layout.Geometry.{Geometry}
 use Rattle.format.specs.Rules.Length.{lengthAllowed, workNeed}
 use Rattle.format.specs.Rules.Version.{versionOf}
+use Rattle.format.specs.Rules.Verdict.{groups, verdict}
 use Rattle.format.specs.Calls.Buffers.{workCleared}
 use Rattle.kinds.specs.Sizes.{geometryOf}
 use Rattle.kinds.specs.declared.Refusal.the-variants.{BadLength, ShortWork}
 use Rattle.theory.proofs.Loops.{said-yes, said-no}
 use Rattle.frame.proofs.Lengths.{allowed-short}
-use Rattle.tables.specs.Work.{Wrote}
 use Rattle.header.proofs.Allowed.{allowed-sized, own-value, own-narrow}
-use Rattle.tables.proofs.WorkLaws.{wrote-cleared}
 use Rattle.volume.specs.declared.Opened.{Opened}
 use Rattle.volume.specs.declared.Opened.the-variants.{Refused, Ready}
 use Rattle.volume.specs.Opened.{OpenedRight}
-use Rattle.volume.proofs.Verdicts.{length-breaks, work-short, groups-decide, clear-start}
+use Rattle.volume.proofs.Verdicts.{length-breaks, work-short, groups-decide}
 use Rattle.volume.proofs.Opening.{refused-early, refused-late, opened}
 use Rattle.volume.proofs.open_volume.Statement.{statement}
 use Rattle.volume.proofs.open_volume.Tie as tie
@@ -53,13 +52,12 @@ version c = c .before .before .before .before
 enough : (c : tie.Else2) → let p = version c .before .before .before .args in workNeed (length (p .img .now)) ≤ length (p .work .now)
 enough c = omega (arith, c .if2 .left, c .before .work-need .ensures)
 
-emptied : (c : tie.After-zero-first) → let p = version (c .before .before) .before .before .before .args in c .zero-first .last .0 ≡ workCleared (workNeed (length (p .img .now))) (p .work .now)
-emptied c = c .zero-first .ensures ∙ ap (λ n. workCleared n (version (c .before .before) .before .before .before .args .work .now)) (c .before .before .before .work-need .ensures)
-
-clean : (c : tie.After-zero-first) → let p = version (c .before .before) .before .before .before .args in Wrote (p .work .now) (c .zero-first .last .0) 0 (workNeed (length (p .img .now)))
-clean c = wrote-cleared _ _ _ (emptied c) (enough (c .before .before))
+-- the groups decide
+decided : (c : tie.Else2) → let v = version c in let p = v .before .before .before .args in verdict (g v) (p .img .now) (length (p .work .now)) ≡ groups (g v) (p .img .now)
+decided c = groups-decide _ _ _ (allowed (c .before .before)) (enough c)
 
 pub open-volume-spec : {M : Type 1} → statement M
+unfolding workNeed
 open-volume-spec =
     tie.close
     (tie.spec
@@ -70,24 +68,21 @@ open-volume-spec =
     (λ c.
     let v = c .before .before .before .before in
     own v (buffer v) (buffer v) (Refused ShortWork) (refused-early (g v) _ _ ShortWork (work-short _ _ _ (allowed (c .before .before)) (omega (arith, c .if2 .taken, c .before .work-need .ensures))) (inr refl)))  -- returns-2
-    (λ c κs. omega (arith, c .before .if2 .left))  -- zero-first-requires
     (λ c κs.
-    let z = c .before .before .before in
-    let v = version (z .before .before) in
+    let v = version (c .before) in
     let i = v .before .before .before .args .img .now in
-    let s = allowed-sized (g v) i (own-value i (v .version-of .ensures)) (narrow v) (allowed (z .before .before .before .before)) in
-    (s, clear-start _ _ _ _ s (enough (z .before .before)) (emptied z)))  -- table-groups-requires
+    (allowed-sized (g v) i (own-value i (v .version-of .ensures)) (narrow v) (allowed (c .before .before .before)), enough (c .before)))  -- table-groups-requires
     (λ c. search needs)  -- enum-known-a
-    (λ c κs. omega (arith, c .before .before .before .before .before .before .before .before .before .before .before .before .if2 .left, c .before .before .before .before .before .before .table-groups .kept .1 .0, clean (c .before .before .before .before .before .before .before .before .before .before) .long))  -- zero-first-requires-2
+    (λ c κs. omega (arith, c .before .before .before .before .before .before .before .before .if2 .left, c .before .before .before .before .before .before .table-groups .kept .1 .0))  -- zero-first-requires
     (λ c. search needs)  -- enum-known-v
-    (λ c. c .before .before .zero-first2 .kept .0 ∙ c .before .before .before .before .before .before .before .before .before .table-groups .kept .1 .0 ∙ clean (c .before .before .before .before .before .before .before .before .before .before .before .before .before) .long)  -- same-length
+    (λ c. c .before .before .zero-first .kept .0 ∙ c .before .before .before .before .before .before .before .before .before .table-groups .kept .1 .0)  -- same-length
     (λ c.
-    let z = c .before .before .before .before .before .before .before .before .before .before .before .before .before in
-    let w = c .before .before .before .before .before .before .before .before .before .table-groups .last .1 .0 in
-    own (version (z .before .before)) (buffer (version (z .before .before))) (c .before .before .zero-first2 .last .0) (Refused (c .before .before .before .before .before .a .given .0 .0))
-    (refused-late _ _ (c .before .before .before .before .before .before .before .before .before .table-groups .ensures) (groups-decide _ _ _ (allowed (z .before .before .before .before)) (enough (z .before .before))) (clean z) (c .before .before .before .before .before .a .given .1) (c .before .before .zero-first2 .ensures ∙ ap (λ n. workCleared n w) (z .before .before .before .work-need .ensures))))  -- returns-3
-    (λ c. c .before .before .before .before .before .table-groups .kept .1 .0 ∙ clean (c .before .before .before .before .before .before .before .before .before) .long)  -- same-length-2
+    let e = c .before .before .before .before .before .before .before .before .before .before .before in
+    let t = c .before .before .before .before .before .before .before .before .before .table-groups in
+    own (version e) (buffer (version e)) (c .before .before .zero-first .last .0) (Refused (c .before .before .before .before .before .a .given .0 .0))
+    (refused-late _ _ (t .ensures) (decided e) (c .before .before .before .before .before .a .given .1) (c .before .before .zero-first .ensures ∙ ap (λ n. workCleared n (t .last .1 .0)) (e .before .work-need .ensures))))  -- returns-3
+    (λ c. c .before .before .before .before .before .table-groups .kept .1 .0)  -- same-length-2
     (λ c.
-    let z = c .before .before .before .before .before .before .before .before .before in
-    own (version (z .before .before)) (buffer (version (z .before .before))) (c .before .before .before .before .before .table-groups .last .1 .0) (Ready (c .before .v .given .0 .0))
-    (opened _ _ (c .before .before .before .before .before .table-groups .ensures) (groups-decide _ _ _ (allowed (z .before .before .before .before)) (enough (z .before .before))) (clean z) refl (enough (z .before .before)) (c .before .v .given .1))))  -- returns-4
+    let e = c .before .before .before .before .before .before .before in
+    let t = c .before .before .before .before .before .table-groups in
+    own (version e) (buffer (version e)) (t .last .1 .0) (Ready (c .before .v .given .0 .0)) (opened _ _ (t .ensures) (decided e) refl (enough e) (c .before .v .given .1))))  -- returns-4
