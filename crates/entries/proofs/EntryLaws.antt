@@ -2,15 +2,11 @@
 use Prim.Native.Nat.{ℕ, _+_, _≤_}
 use mathlib.Core.Path.{_≡_, ap, _∙_}
 use native.Mathlib.Omega.{arith}
-use lib.ListN.{getD, take, drop}
-use lib.Seq.{drop-drop, getD-take, getD-drop}
+use lib.ListN.{getD, drop}
+use lib.Seq.{getD-take, getD-drop}
 use Rattle.format.specs.Basics.Bytes.{Bytes, byteAt, part, number, u16at, u32at, u64at, allZero}
-use Rattle.theory.proofs.Sets.{sub-take}
+use Rattle.theory.proofs.ByteTests.{part-part}
 use Rattle.entries.specs.Entry.{entryAt}
-
-pub part-part : (b : Bytes) (p m o n : ℕ) → o + n ≤ m → part (part b p m) o n ≡ part b (p + o) n
-unfolding part
-part-part b p m o n h = sub-take n o m (drop p b) h ∙ ap (take n) (drop-drop o p b)
 
 module _ (img : Bytes) (p o : ℕ) where
   pub byte-in : o + 1 ≤ 128 → byteAt (entryAt img p) o ≡ getD img (p + o) 0

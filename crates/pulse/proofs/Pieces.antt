@@ -7,8 +7,8 @@ use lib.Dec.{eqb, leb}
 use Rattle.format.specs.Basics.Bytes.{Bytes, AreBytes, part, number, u16at, u32at, u64at}
 use Rattle.format.specs.Basics.Lists.{allBelow, listBelow, sum}
 use Rattle.theory.proofs.Below.{listBelow-ext}
+use Rattle.theory.proofs.ByteTests.{part-part}
 use Rattle.theory.proofs.Tests.{clash, false-of, both, below-at, below-of, below-ext}
-use Rattle.entries.proofs.EntryLaws.{part-part}
 use Rattle.pulse_records.specs.Records.{rightAt, rightFrom, ticksFrom, sumFrom}
 use Rattle.pulse_records.specs.declared.TotalTicks.{TotalTicks}
 use Rattle.pulse_records.specs.declared.sums.Sum.the-variants.{Ticks, Wrong}

@@ -2,11 +2,12 @@
 use mathlib.Core.Path.{_≡_, refl, sym, ap₂, _∙_}
 use mathlib.Core.Logic.{_≢_}
 use mathlib.Core.List.{List, [], _∷_, _++_}
-use Prim.Native.Nat.{ℕ, zero, suc, _<_}
+use Prim.Native.Nat.{ℕ, zero, suc, _+_, _<_}
+use native.Mathlib.Numerals.{add-one}
 use native.Mathlib.Omega.{arith}
 use native.Mathlib.Decide.{ℕ-discrete}
-use lib.ListN.{length, getD, set, length-append, length-set, List·getD-append}
-use lib.Seq.{ext-getD, getD-set-same, getD-set-other, getD-at}
+use lib.ListN.{length, getD, set, drop, length-append, length-set, List·getD-append}
+use lib.Seq.{ext-getD, getD-set-same, getD-set-other, getD-at, drop-cons, set-at, append-snoc}
 use Rattle.format.specs.Basics.Lists.{listBelow, joinBelow}
 
 pub listBelow-ext : {A : Type 0} (n : ℕ) (f h : ℕ → A) → ((i : ℕ) → i < n → h i ≡ f i) → listBelow n h ≡ listBelow n f
@@ -38,6 +39,13 @@ below-set n e f h d q same =
       | yes z ↦ getD-below n h i d k ∙ rw z (sym (getD-set-same (listBelow n f) e (h e) d (omega (arith, length-below n f))))
       | no z ↦ getD-below n h i d k ∙ same i k z ∙ sym (getD-set-other (listBelow n f) e i (h e) d z ∙ getD-below n f i d k)
     ])
+
+-- one more of these written over another list
+pub below-fill : {A : Type 0} (f : ℕ → A) (xs : List A) (i : ℕ) (d : A) → i < length xs → set (listBelow i f ++ drop i xs) i (f i) ≡ listBelow (i + 1) f ++ drop (i + 1) xs
+unfolding listBelow
+below-fill f xs i d h =
+    rw (add-one, drop-cons xs i d h, set-at (listBelow i f) (getD xs i d) (drop (suc i) xs) (f i) i (length-below i f))
+    (sym (append-snoc (listBelow i f) (f i) (drop (suc i) xs)))
 
 pub join-ext : (n : ℕ) (f h : ℕ → List ℕ) → ((i : ℕ) → i < n → h i ≡ f i) → joinBelow n h ≡ joinBelow n f
 unfolding joinBelow

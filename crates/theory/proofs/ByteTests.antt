@@ -1,5 +1,5 @@
 -- Tests on bytes as tests on the numbers that they make, and parts of a list of bytes.
-use mathlib.Core.Path.{_≡_, refl, sym}
+use mathlib.Core.Path.{_≡_, refl, sym, _∙_, ap}
 use mathlib.Core.Logic.{inl, inr}
 use mathlib.Core.Bool.{_&&_}
 use mathlib.Core.List.{[], _∷_}
@@ -13,6 +13,7 @@ use borrow.Author.Tests.{eq-eqb, ne-eqb}
 use Rattle.format.specs.Basics.Lists.{all, equal}
 use Rattle.format.specs.Basics.Bytes.{Bytes, isZero, allZero, number, part}
 use Rattle.theory.proofs.Counts.{eqb-cases}
+use Rattle.theory.proofs.Sets.{sub-take}
 use Rattle.theory.proofs.Tests.{all-append}
 
 -- bytes are all zero exactly if they make the number 0
@@ -70,6 +71,10 @@ octets-part b i n h =
             | no l ↦ rw (List·getD-eq-default (take n (drop i b)) 0 {n = j} (omega (arith, length-take n (drop i b)))) (omega arith)
           ];
     }
+
+pub part-part : (b : Bytes) (p m o n : ℕ) → o + n ≤ m → part (part b p m) o n ≡ part b (p + o) n
+unfolding part
+part-part b p m o n h = sub-take n o m (drop p b) h ∙ ap (take n) (drop-drop o p b)
 
 pub length-part : (b : Bytes) (i n : ℕ) → i + n ≤ length b → length (part b i n) ≡ n
 unfolding part

@@ -1,9 +1,10 @@
 -- Tests and counts over the numbers below a limit, as loops that count up meet them.
 use Prim.Native.Nat.{ℕ, zero, suc, _+_, _≤_, _<_}
 use mathlib.Core.Path.{_≡_, refl, sym, _∙_, ap}
-use mathlib.Core.Bool.{Bool, true, false, not, and-true, and-false}
+use mathlib.Core.Bool.{Bool, true, false, not, _&&_, and-true, and-false, and-assoc}
 use mathlib.Core.List.{List, [], _∷_}
 use mathlib.Core.Logic.{inl, inr}
+use native.Mathlib.Nat.{add-zero, add-suc}
 use native.Mathlib.Numerals.{add-one}
 use native.Mathlib.Decide.{ℕ-discrete, decLt}
 use native.Mathlib.Omega.{arith}
@@ -11,7 +12,7 @@ use lib.Dec.{ltb, eqb}
 use borrow.Author.Tests.{ltb-true, ltb-false, lt-ltb, le-ltb, ne-eqb, not-true, not-false}
 use Rattle.format.specs.Basics.Lists.{allBelow, all, listBelow, count, member, distinct, bit}
 use Rattle.theory.proofs.Counts.{eqb-cases, bit-self, count-append}
-use Rattle.theory.proofs.Tests.{clash, all-append}
+use Rattle.theory.proofs.Tests.{clash, all-append, below-ext}
 
 -- ---- what a test `if !g(..)` says of the definition that g answers
 
@@ -47,6 +48,16 @@ module _ (p : ℕ → Bool) where
         | yes z ↦ rw (← z, e) (and-false (allBelow i p))
         | no z ↦ rw (below-not n i (omega arith) e)
       ]
+
+-- those below a, and the next k
+below-add : (p : ℕ → Bool) (a k : ℕ) → allBelow (a + k) p ≡ (allBelow a p && allBelow k (λ i. p (a + i)))
+unfolding allBelow
+below-add p a zero = rw add-zero (sym (and-true (allBelow a p)))
+below-add p a (suc k) = rw (add-suc, below-add p a k) (and-assoc (allBelow a p) (allBelow k (λ i. p (a + i))) (p (a + k)))
+
+-- the same, where another test says of the next k what this one does
+pub below-join : (p q : ℕ → Bool) (a k : ℕ) {x y : Bool} → x ≡ allBelow a p → y ≡ allBelow k q → ((i : ℕ) → i < k → q i ≡ p (a + i)) → (x && y) ≡ allBelow (a + k) p
+below-join p q a k e d h = rw (below-add p a k, e, d, below-ext k (λ i. p (a + i)) q h)
 
 pub all-below : (p : ℕ → Bool) (n : ℕ) (f : ℕ → ℕ) → all p (listBelow n f) ≡ allBelow n (λ i. p (f i))
 unfolding all listBelow allBelow

@@ -1,13 +1,13 @@
 -- Marks on units: at each marked unit, how many units its chain still has, itself included. 0 is no mark.
 use mathlib.Core.Path.{_≡_}
 use mathlib.Core.Logic.{_⊎_}
-use mathlib.Core.Bool.{Bool, true, false, _||_}
+use mathlib.Core.Bool.{Bool, true, false, cond, _&&_, _||_}
 use mathlib.Core.List.{List}
-use Prim.Native.Nat.{ℕ, suc, _≤_, _<_}
+use Prim.Native.Nat.{ℕ, suc, _-_, _≤_, _<_}
 use lib.Dec.{eqb, ltb}
-use lib.ListN.{getD}
+use lib.ListN.{length, getD}
 use Rattle.format.specs.Basics.Lists.{count, member}
-use Rattle.format.specs.Layout.Chain.{END, units, isFree}
+use Rattle.format.specs.Layout.Chain.{END, DIFSECT, units, isFree}
 
 -- the marks that stand in a list, each at its unit's number
 unfoldable pub marks : List ℕ → ℕ → ℕ
@@ -38,3 +38,23 @@ pub record Owning (cell : ℕ → ℕ) (limit : ℕ) (owned : List ℕ) (m : ℕ
 -- a unit that group 18 has nothing against: it has a mark, or its cell is free, or it is one of the `others`, which stand in no chain
 unfoldable pub covered : (ℕ → ℕ) → (ℕ → ℕ) → List ℕ → ℕ → Bool
 covered cell m others u = ltb 0 (m u) || (isFree cell u || member u others)
+
+-- ---- marks in the place of cells
+
+-- A mark is a number above this one and below the special values. No image has so many units that one of these numbers is a unit's.
+abbrev pub MARK : ℕ
+MARK = 0x8000_0000
+
+unfoldable pub isMark : ℕ → Bool
+isMark v = ltb MARK v && ltb v DIFSECT
+
+-- how many units its chain still has; 0 where it is no mark
+unfoldable pub markOf : ℕ → ℕ
+markOf v = cond (isMark v) (v - MARK) 0
+
+abbrev pub marksOf : List ℕ → ℕ → ℕ
+marksOf w u = markOf (getD w u 0)
+
+-- where there is no mark, the cell stands
+pub record InPlace (cell : ℕ → ℕ) (w : List ℕ) : Type 0 where
+  pub stands : (u : ℕ) → u < length w → marksOf w u ≡ 0 → getD w u 0 ≡ cell u

@@ -1,0 +1,3 @@
+-- Laws for the loops over cells.
+pub mod Turns
+pub mod Copies

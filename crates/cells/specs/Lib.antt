@@ -1,0 +1,2 @@
+-- What is asked of the cells of a part of a table.
+pub mod Cells
