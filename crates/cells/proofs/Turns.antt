@@ -11,7 +11,7 @@ use Rattle.format.specs.Basics.Bytes.{Bytes, u32at}
 use Rattle.format.specs.Basics.Lists.{allBelow}
 use Rattle.format.specs.Layout.Chain.{END, FREE, FATSECT, DIFSECT, isFree}
 use Rattle.theory.specs.Marks.{MARK, marks}
-use Rattle.theory.proofs.Loops.{below-none}
+use Rattle.theory.proofs.Loops.{below-none, below-join}
 use Rattle.cells.specs.Cells.{cellOf, cellRight, markAgrees, coveredAt}
 
 pub record Passed (p : ℕ → Bool) (n : ℕ) (ok : Bool) (i : ℕ) : Type 0 where
@@ -26,6 +26,10 @@ module _ {p : ℕ → Bool} {n : ℕ} where
     pub passed-more : {t : Bool} → i < n → t ≡ p i → Passed p n (ok && t) (i + 1)
     unfolding allBelow
     passed-more l e = record { to = omega arith; all = rw (add-one, a .all, e) }
+
+    -- k more at once, of which another test says the same
+    pub passed-block : (q : ℕ → Bool) {k : ℕ} {t : Bool} → i + k ≤ n → t ≡ allBelow k q → ((j : ℕ) → j < k → q j ≡ p (i + j)) → Passed p n (ok && t) (i + k)
+    passed-block q {k} l e h = record { to = l; all = below-join p q i k (a .all) e h }
 
     pub passed-all : n ≤ i → ok ≡ allBelow n p
     passed-all l = let e : i ≡ n = omega (arith, a .to) in rw (← e) (a .all)

@@ -31,11 +31,6 @@ pub rules-are : (g : Geometry) (img : Bytes) → cellRules (sectorSpace g img) �
 unfolding cellRules sectorSpace
 rules-are g img = refl
 
-pub cell-right : (g : Geometry) (img : Bytes) (s x : ℕ) (b : Bool) → x ≡ fatCell g img s
-    → ((eqb x FATSECT || eqb x DIFSECT) || (ltb x (sectorCount g img) || eqb x END || eqb x FREE)) ≡ b → fatCellRight (sectorSpace g img) s ≡ b
-unfolding fatCellRight tableMark plainCell sectorSpace
-cell-right g img s x b e h = rw (← e) h
-
 -- N and the cells, as the space of sectors has them
 pub limit-is : (g : Geometry) (img : Bytes) → sectorCount g img ≡ sectorSpace g img .limit
 unfolding sectorSpace

@@ -2,5 +2,5 @@
 pub mod Walks
 pub mod Owners
 pub mod Listing
-pub mod Spare
+pub mod Cells
 pub mod Groups

@@ -21,6 +21,8 @@ use header::fat_count;
 use kinds::Sector;
 use tables::Tables;
 use tables::cell_at;
+use tables::table_free;
+use tables::table_right;
 
 // ---- marking a chain
 
@@ -146,37 +148,18 @@ pub fn cells_below(img: &[u8], work: &[u32], t: Tables) -> bool
     requires { ⌜ FatListed t (now img) (now work) ⌝ }
     ensures { λ r. ⌜ r ≡ allBelow (sectorCountOf t (now (img .entry))) (fatCellRight (sectorsOf t (now (img .entry)))) ⌝ }
 {
-    let n = t.sectors;
-    let mut s = Sector::FIRST;
-    while s.index() < n {
-        let c = cell_at(img, work, t, s);
-        let right = (c.is_fat() | c.is_difat()) | (c.below(n) | c.is_end() | c.is_free());
-        if !right {
-            return false;
-        }
-        s = s.next();
-    }
-    true
+    let g = t.geometry;
+    table_right(img, work, g, t.list, t.sectors, Sector::DIFSECT.0)
 }
 
-// The cells from the number of sectors on. Each has a number of 32 bits, since the image is shorter than 4 GiB.
+// The cells from the number of sectors on.
 pub fn cells_rest(img: &[u8], work: &[u32], t: Tables) -> bool
     requires { ⌜ FatListed t (now img) (now work) ⌝ }
     ensures { λ r. ⌜ r ≡ restFree (sectorsOf t (now (img .entry))) ⌝ }
 {
     let g = t.geometry;
-    let n = t.sectors;
     let f = fat_count(img) as usize;
-    let end = g.cells() * f;
-    let mut s = Sector::at(n);
-    while s.index() < end {
-        let c = cell_at(img, work, t, s);
-        if !c.is_free() {
-            return false;
-        }
-        s = s.next();
-    }
-    true
+    table_free(img, work, g, t.list, t.sectors, g.cells() * f)
 }
 
 // Group 12.

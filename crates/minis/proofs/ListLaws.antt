@@ -1,5 +1,5 @@
 -- The list of the mini FAT's sectors: where it stays, the bounds that it gives, and the cells by it.
-use Prim.Native.Nat.{ℕ, _+_, _*_, _/_, _%_, _≤_, _<_}
+use Prim.Native.Nat.{ℕ, _+_, _*_, _/_, _≤_, _<_}
 use mathlib.Core.Path.{_≡_, _∙_}
 use mathlib.Core.Logic.{_⊎_, inl, inr}
 use mathlib.Core.List.{List}
@@ -13,8 +13,9 @@ use Rattle.format.specs.Layout.Tables.{cellIn, cellPlaceIn}
 use Rattle.format.specs.Layout.Volume.{miniCells, miniSpace}
 use Rattle.kinds.specs.Sizes.{geometryOf}
 use Rattle.theory.proofs.Scale.{scale-div, scale-mod, scale-below}
-use Rattle.tables.specs.Words.{wordIn}
+use Rattle.tables.specs.Words.{wordIn, tableCell}
 use Rattle.tables.specs.Work.{Wrote}
+use Rattle.tables.specs.Listed.{TableListed}
 use Rattle.tables.proofs.Places.{cells-some, cells-bytes, cells-short as short}
 use Rattle.tables.proofs.WorkLaws.{wrote-none, wrote-set}
 use Rattle.minis.specs.Listed.{MiniListed, minisOf}
@@ -73,11 +74,20 @@ module _ {t : Minis} {img : Bytes} {w : List ℕ} (l : MiniListed t img w) where
   -- ---- the cell of m is a number of the sector that the list has for it
 
   module _ (m : ℕ) (h : m < cellsIn g * t .sectors) where
-    pub cell-sector : m / cellsIn g < t .sectors
+    cell-sector : m / cellsIn g < t .sectors
     cell-sector = let c = cells-some (l .sized) in scale-below (cellsIn g) (t .sectors) m (omega arith) h
 
-    pub cell-is : minisOf t img .cell m ≡ wordIn g img (getD w (t .list + m / cellsIn g) 0) (m % cellsIn g)
-    unfolding miniSpace miniCells cellIn cellPlaceIn placeIn wordIn
-    cell-is =
+    pub mini-cell : tableCell g img w (t .list) m ≡ minisOf t img .cell m
+    unfolding tableCell miniSpace miniCells cellIn cellPlaceIn placeIn wordIn
+    mini-cell =
         let s : m < cellsIn g * miniFatCount img = rw (← l .sectors) h in
         rw (lt-ltb m (cellsIn g * miniFatCount img) s, scale-div 4 (cellsIn g) (cells-bytes (l .sized)) (omega arith) m, scale-mod 4 (cellsIn g) (cells-bytes (l .sized)) (omega arith) m, l .here _ cell-sector)
+
+  -- the mini FAT's sectors stand listed
+  pub mini-listed : (n : ℕ) → n ≤ cellsIn g * t .sectors → TableListed g img w (t .list) n
+  mini-listed n h =
+      record {
+        sized = l .sized;
+        room = λ i q. omega (arith, cell-sector i (omega arith), l .room);
+        below = λ i q. let k = cell-sector i (omega arith) in rw (l .here _ k) (l .below _ k);
+      }

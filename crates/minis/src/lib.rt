@@ -19,6 +19,8 @@ use header::mini_fat_start;
 use kinds::Geometry;
 use kinds::MiniSector;
 use tables::Tables;
+use tables::table_free;
+use tables::table_right;
 use tables::table_word;
 
 // ---- cells
@@ -69,17 +71,8 @@ pub fn cells_below(img: &[u8], work: &[u32], t: Minis) -> bool
     requires { ⌜ MiniListed t (now img) (now work) ⌝ }
     ensures { λ r. ⌜ r ≡ allBelow (minisOf t (now (img .entry)) .limit) (miniCellRight (minisOf t (now (img .entry)))) ⌝ }
 {
-    let n = t.units;
-    let mut m = MiniSector::FIRST;
-    while m.index() < n {
-        let c = mini_cell(img, work, t, m);
-        let right = c.below(n) | c.is_end() | c.is_free();
-        if !right {
-            return false;
-        }
-        m = m.next();
-    }
-    true
+    let g = t.geometry;
+    table_right(img, work, g, t.list, t.units, MiniSector::END.0)
 }
 
 // The cells from the number of mini sectors on.
@@ -88,17 +81,7 @@ pub fn cells_rest(img: &[u8], work: &[u32], t: Minis) -> bool
     ensures { λ r. ⌜ r ≡ restFree (minisOf t (now (img .entry))) ⌝ }
 {
     let g = t.geometry;
-    let n = t.units;
-    let end = g.cells() * t.sectors;
-    let mut m = MiniSector::at(n);
-    while m.index() < end {
-        let c = mini_cell(img, work, t, m);
-        if !c.is_free() {
-            return false;
-        }
-        m = m.next();
-    }
-    true
+    table_free(img, work, g, t.list, t.units, g.cells() * t.sectors)
 }
 
 // ---- marking a chain

@@ -1,6 +1,7 @@
 -- Laws for the functions on tables.
 pub mod Places
 pub mod WorkLaws
+pub mod Blocks
 pub mod DifatLaws
 pub mod ListLaws
 pub mod MarkLaws

@@ -1,20 +1,25 @@
 -- The cells of the table sectors against the marks.
-use Prim.Native.Nat.{ℕ, _+_, _*_, _≤_, _<_}
-use mathlib.Core.Path.{_≡_, refl, sym}
-use mathlib.Core.Bool.{Bool, true, false, not, Bool·beq, and-false}
+use Prim.Native.Nat.{ℕ, _+_, _-_, _*_, _≤_, _<_}
+use mathlib.Core.Path.{_≡_, refl, sym, _∙_}
+use mathlib.Core.Bool.{Bool, _&&_}
 use mathlib.Core.List.{List}
 use native.Mathlib.Decide.{decLt}
 use native.Mathlib.Omega.{arith}
 use lib.Dec.{eqb, ltb}
-use lib.ListN.{getD}
-use borrow.Author.Tests.{lt-ltb, le-ltb, eq-eqb, ne-eqb, not-true, not-false}
+use lib.ListN.{length, getD, take, drop}
+use lib.Seq.{getD-take, getD-drop}
+use borrow.Author.Tests.{lt-ltb, le-ltb, eq-eqb, ne-eqb}
 use Rattle.format.specs.Basics.Lists.{allBelow, member}
 use Rattle.format.specs.Basics.Bytes.{Bytes}
 use Rattle.format.specs.Layout.Geometry.{Geometry, sectorCount}
-use Rattle.format.specs.Layout.Chain.{FATSECT, DIFSECT}
 use Rattle.format.specs.Layout.Tables.{fatCell, fatSectors, difatSectors}
 use Rattle.format.specs.Rules.Tables.{markRight, tableMarks}
+use Rattle.theory.specs.Marks.{marks}
+use Rattle.cells.specs.Cells.{cellOf, markAgrees}
+use Rattle.cells.proofs.Turns.{Passed, passed-block}
 use Rattle.tables.specs.Stages.{TableMarked}
+use Rattle.tables.specs.declared.Block.{Block}
+use Rattle.tables.proofs.Blocks.{BlockOf, cut-length, slice, slice-cell}
 
 pub marks-are : (g : Geometry) (img : Bytes) → tableMarks g img ≡ allBelow (sectorCount g img) (markRight g img)
 unfolding tableMarks
@@ -43,18 +48,18 @@ module _ {g : Geometry} {img : Bytes} {w : List ℕ} (t : TableMarked g img w) (
   unfolding member
   mark-difat = difat-mark _ _ (getD w s 0) (t .mark s l) (t .single s)
 
-  -- x and y say what the cell marks the sector as
-  module _ (cell : ℕ) (e : cell ≡ fatCell g img s) where
-    pub mark-right : (x y : Bool) → x ≡ eqb cell FATSECT → y ≡ eqb cell DIFSECT
-        → not (Bool·beq x (eqb (getD w s 0) 1)) ≡ false → not (Bool·beq y (eqb (getD w s 0) 2)) ≡ false → markRight g img s ≡ true
-    unfolding markRight
-    mark-right x y p q a b = rw (mark-fat, mark-difat, ← e, ← p, ← q, not-false (Bool·beq x (eqb (getD w s 0) 1)) a, not-false (Bool·beq y (eqb (getD w s 0) 2)) b)
+  agrees : (cell mark : ℕ → ℕ) (i : ℕ) → cell i ≡ fatCell g img s → mark i ≡ getD w s 0 → markAgrees cell mark i ≡ markRight g img s
+  unfolding markAgrees markRight
+  agrees cell mark i e d = rw (e, d, mark-fat, mark-difat)
 
-    pub mark-not-fat : (x : Bool) → x ≡ eqb cell FATSECT → not (Bool·beq x (eqb (getD w s 0) 1)) ≡ true → markRight g img s ≡ false
-    unfolding markRight
-    mark-not-fat x p d = rw (mark-fat, ← e, ← p, not-true (Bool·beq x (eqb (getD w s 0) 1)) d)
-
-    pub mark-not-difat : (y : Bool) → y ≡ eqb cell DIFSECT → not (Bool·beq y (eqb (getD w s 0) 2)) ≡ true → markRight g img s ≡ false
-    unfolding markRight
-    mark-not-difat y q d =
-        rw (mark-difat, ← e, ← q, not-true (Bool·beq y (eqb (getD w s 0) 2)) d) (and-false (Bool·beq (eqb cell FATSECT) (member s (fatSectors g img))))
+-- the cells of a block against the marks of as many sectors
+pub agree-block : {g : Geometry} {img : Bytes} {w : List ℕ} (cell : ℕ → ℕ) {n i : ℕ} {b : Block} {ok r : Bool} → TableMarked g img w → n ≡ sectorCount g img → n ≤ length w
+    → ((s : ℕ) → s < n → cell s ≡ fatCell g img s) → Passed (markRight g img) n ok i → (o : BlockOf img cell i n b)
+    → let m = take (i + b .cells - i) (drop i w) in r ≡ allBelow (length m) (markAgrees (cellOf (slice o)) (marks m)) → Passed (markRight g img) n (ok && r) (i + b .cells)
+unfolding marks
+agree-block {w = w} cell {n} {i} {b} t z l f a o e =
+    let k : i + b .cells - i ≡ b .cells = omega arith in
+    passed-block a _ (o .to) (rw (cut-length w i (b .cells) (omega (arith, o .to)), k) at e)
+    (λ j h.
+    let q : i + j < n = omega (arith, o .to) in
+    agrees t (i + j) (omega arith) _ _ j (slice-cell o j h ∙ f (i + j) q) (getD-take (b .cells) (drop i w) j 0 h ∙ getD-drop i w j 0))

@@ -1,5 +1,5 @@
 -- The FAT's sectors stand listed in the work buffer, so that every cell can be looked up at once.
-use Prim.Native.Nat.{ℕ, _+_, _-_, _*_, _≤_, _<_}
+use Prim.Native.Nat.{ℕ, _+_, _-_, _*_, _/_, _≤_, _<_}
 use mathlib.Core.Path.{_≡_}
 use mathlib.Core.List.{List}
 use lib.ListN.{length, getD}
@@ -9,6 +9,7 @@ use Rattle.format.specs.Layout.Tables.{difatEntry}
 use Rattle.kinds.specs.declared.Geometry.{Geometry as Sizes}
 use Rattle.kinds.specs.Sizes.{geometryOf}
 use Rattle.header.specs.Sized.{ImageSized, F, D, W}
+use Rattle.tables.specs.Words.{sectorFor}
 use Rattle.tables.specs.declared.Tables.{Tables}
 
 -- n is N; the list starts at a place behind the marks of the sectors
@@ -25,6 +26,12 @@ pub record FatListedAt (g : Geometry) (img : Bytes) (work : List ℕ) (n list : 
 -- the list is where the tables say
 abbrev pub FatListed : Tables → Bytes → List ℕ → Type 0
 FatListed t img work = FatListedAt (geometryOf (t .geometry)) img work (t .sectors) (t .list)
+
+-- the sectors of the first n cells of any table stand listed from a place on, each one that there is
+pub record TableListed (g : Geometry) (img : Bytes) (work : List ℕ) (list n : ℕ) : Type 0 where
+  pub sized : ImageSized g img
+  pub room : (i : ℕ) → i < n → list + i / cellsIn g < length work
+  pub below : (i : ℕ) → i < n → sectorFor g work list i < sectorCount g img
 
 -- where the list of table sectors starts: it ends with the part of the work buffer that is ours
 abbrev pub listPlace : Bytes → ℕ

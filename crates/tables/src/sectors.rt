@@ -12,8 +12,9 @@ ghost use Rattle.tables.specs.Listed.{FatListed};
 ghost use Rattle.tables.specs.Stages.{DifatArgs, DifatListed, Difats, ListArgs, ListLeft, TableMarked, TablesLeft};
 ghost use Rattle.tables.specs.Stages.{StageArgs, Built, ListsLeft, MarksLeft};
 use super::Tables;
-use super::cell_at;
+use super::block_at;
 use super::word_in;
+use cells::marks_agree;
 use header::DIFAT_ENTRIES;
 use header::difat_count;
 use header::difat_in_header;
@@ -146,20 +147,18 @@ pub fn table_marks(img: &[u8], work: &[u32], t: Tables) -> bool
     requires { ⌜ TableMarked (geometryOf (t .geometry)) (now img) (now work) ⌝ }
     ensures { λ r. ⌜ r ≡ tableMarks (geometryOf (t .geometry)) (now (img .entry)) ⌝ }
 {
+    let g = t.geometry;
     let n = t.sectors;
-    let mut s = Sector::FIRST;
-    while s.index() < n {
-        let c = cell_at(img, work, t, s);
-        let m = work[s.index()];
-        if c.is_fat() != (m == 1) {
-            return false;
-        }
-        if c.is_difat() != (m == 2) {
-            return false;
-        }
-        s = s.next();
+    let mut ok = true;
+    let mut i = 0;
+    while i < n {
+        let b = block_at(work, g, t.list, i, n);
+        let p = b.place;
+        let k = b.cells;
+        ok = ok & marks_agree(&img[p..p + 4 * k], &work[i..i + k]);
+        i += k;
     }
-    true
+    ok
 }
 
 // ---- the whole

@@ -1,63 +1,34 @@
 use borrow.Author.Needs.{needs}
-use Prim.Native.Nat.{_-_, _*_, _<_}
-use mathlib.Core.Path.{_≡_, sym, _∙_, ap₂}
+use Prim.Native.Nat.{_*_}
+use mathlib.Core.Path.{_≡_, _∙_, ap₂}
 use native.Mathlib.Omega.{arith}
 use Rattle.format.specs.Layout.Geometry.{cellsIn}
 use Rattle.kinds.specs.Sizes.{geometryOf}
 use Rattle.header.specs.Sized.{F}
-use Rattle.theory.proofs.Loops.{said-yes, said-no}
 use Rattle.tables.specs.Views.{sectorsOf}
-use Rattle.chains.proofs.Spare.{SpareWalk, spare-start, spare-step, spare-out, spare-end}
+use Rattle.tables.proofs.Blocks.{fat-listed, fat-cell}
+use Rattle.chains.proofs.Cells.{rest-free}
 use Rattle.chains.proofs.Groups.{limit-is, cells-are, cell-is, cells-short}
 use Rattle.chains.proofs.cells_rest.Statement.{statement}
 use Rattle.chains.proofs.cells_rest.Tie as tie
 
-abbrev Inv-loop : tie.InvT-loop
-Inv-loop img work t n f end s₀ s = SpareWalk (sectorsOf t img) n end (s .0)
-
-abbrev μ-loop : tie.MeasureT-loop
-μ-loop img work t n f end s₀ s = end - s .0
-
 -- how many cells there are, as the code works it out
-end-is : (c : tie.After-cells Inv-loop μ-loop) → let p = c .before .before .before .before .before in c .cells .result * c .before .fat-count .result ≡ cellsIn (geometryOf (p .args .t .geometry)) * F (p .args .img .now)
+end-is : (c : tie.After-cells) → let p = c .before .before .before .before .before in c .cells .result * c .before .fat-count .result ≡ cellsIn (geometryOf (p .args .t .geometry)) * F (p .args .img .now)
 end-is c = ap₂ (λ a b. a * b) (c .cells .ensures) (c .before .fat-count .ensures)
-
--- the cell of a turn
-turn : (c : tie.Then1 Inv-loop μ-loop) → let k = c .before .before .before .before in c .before .before .loop .s .0 < k .cells .result * k .before .fat-count .result
-turn c = omega (arith, c .if1 .taken, c .before .index .ensures)
-
-few : (c : tie.Then1 Inv-loop μ-loop) → c .before .before .loop .s .0 < 0x4000_0000
-few c =
-    let p = c .before .before .before .before .before .before .before .before .before in
-    omega (arith, turn c, end-is (c .before .before .before .before), cells-short (p .pre), p .pre .sized .short)
 
 pub cells-rest-spec : {M : Type 1} → statement M
 cells-rest-spec =
     tie.close
-    (tie.spec Inv-loop μ-loop
+    (tie.spec
     (λ c κs. search needs)  -- fat-count-requires
     (λ c. search needs)  -- cast-f
     (λ c κs. search needs)  -- cells-requires
-    (λ c. let p = c .before .before .before .before .before in omega (arith, end-is c, cells-short (p .pre), p .pre .sized .short))  -- mul-end
-    (λ c κs. let p = c .before .before .before .before .before in omega (arith, p .pre .count, p .pre .sized .few))  -- at-requires
+    (λ c. let p = c .before .before .before .before .before in omega (arith, end-is c, cells-short (p .pre), p .pre .sized .short))  -- mul-table-free
+    (λ c κs.
+    let l = c .before .before .before .before .before .pre in
+    (fat-listed l _ (omega (arith, end-is c)), omega (arith, end-is c, l .count, l .covers)))  -- table-free-requires
     (λ c.
     let p = c .before .before .before .before .before .before in
-    rw (c .at .ensures) (spare-start _ _ _ (omega (arith, end-is (c .before), p .pre .count, p .pre .covers))))  -- loop-holds
-    (λ c κs. search needs)  -- index-requires
-    (λ c κs. (c .before .before .before .before .before .before .before .before .before .pre, omega (arith, turn c, end-is (c .before .before .before .before))))  -- cell-at-requires
-    (λ c κs. search needs)  -- is-free-requires
-    (λ c.
-    let at = c .before .before .before in
-    let k = at .before .before .before .before in
-    let p = k .before .before .before .before .before in
-    sym (spare-out (at .before .before .loop .inv) _ (p .pre .count ∙ limit-is _ _) (end-is k ∙ cells-are _ _) (turn at) (c .before .before .cell-at .ensures ∙ cell-is _ _ _) (said-no (c .if2 .taken) (c .before .is-free .ensures))))  -- returns
-    (λ c κs. omega (arith, few (c .before .before .before)))  -- next-requires
-    (λ c. let at = c .before .before .before .before in omega (arith, c .next .ensures, turn at))  -- loop-less
-    (λ c.
-    let at = c .before .before .before .before in
-    let p = at .before .before .before .before .before .before .before .before .before in
-    rw (c .next .ensures) (spare-step (at .before .before .loop .inv) _ (p .pre .count ∙ limit-is _ _) (turn at) (c .before .before .before .cell-at .ensures ∙ cell-is _ _ _) (said-yes (c .before .if2 .left) (c .before .before .is-free .ensures))))  -- loop-again
-    (λ c.
-    let k = c .before .before .before .before in
-    let p = k .before .before .before .before .before in
-    sym (spare-end (c .before .before .loop .inv) (p .pre .count ∙ limit-is _ _) (end-is k ∙ cells-are _ _) (omega (arith, c .if1 .left, c .before .index .ensures)))))  -- returns-2
+    c .table-free .ensures
+    ∙ rest-free (sectorsOf (p .args .t) (p .args .img .now)) _ (p .pre .count ∙ limit-is _ _) (end-is (c .before) ∙ cells-are _ _)
+    (λ s h. fat-cell (p .pre) s (omega (arith, end-is (c .before))) ∙ cell-is _ _ s)))  -- returns

@@ -1,16 +1,18 @@
 use borrow.Author.Needs.{needs}
-use Prim.Native.Nat.{_/_, _<_}
+use Prim.Native.Nat.{_*_}
+use mathlib.Core.Path.{_∙_}
 use native.Mathlib.Omega.{arith}
 use Rattle.format.specs.Layout.Geometry.{cellsIn}
 use Rattle.kinds.specs.Sizes.{geometryOf}
 use Rattle.header.specs.Sized.{F}
-use Rattle.tables.proofs.Places.{cell-is, cell-sector}
+use Rattle.tables.specs.Listed.{TableListed}
+use Rattle.tables.proofs.Blocks.{fat-listed, fat-cell}
 use Rattle.tables.proofs.cell_at.Statement.{statement}
 use Rattle.tables.proofs.cell_at.Tie as tie
 
--- the FAT has a sector for the cell
-inside : (p : tie.Start) → p .args .s .0 / cellsIn (geometryOf (p .args .t .geometry)) < F (p .args .img .now)
-inside p = cell-sector (p .pre .0 .sized) (p .args .s .0) (p .pre .1)
+-- the FAT's sectors stand listed for all its cells
+listed : (p : tie.Start) → let g = geometryOf (p .args .t .geometry) in TableListed g (p .args .img .now) (p .args .work .now) (p .args .t .list) (cellsIn g * F (p .args .img .now))
+listed p = fat-listed (p .pre .0) _ (omega arith)
 
 pub cell-at-spec : {M : Type 1} → statement M
 cell-at-spec =
@@ -19,9 +21,7 @@ cell-at-spec =
     (λ c κs. search needs)  -- index-requires
     (λ c κs.
     let p = c .before .before .before .before in
-    let l = p .pre .0 in
-    let i = c .index .ensures in
-    (l .sized, (rw i (omega (arith, inside p, l .room)), rw (i, l .fats _ (inside p)) (l .below _ (inside p)))))  -- table-word-requires
+    rw (c .index .ensures) (p .pre .0 .sized, (listed p .room _ (p .pre .1), listed p .below _ (p .pre .1))))  -- table-word-requires
     (λ c.
     let p = c .before .before .before .before .before in
-    rw (cell-is (p .pre .0 .sized) (p .args .s .0) (p .pre .1), ← p .pre .0 .fats _ (inside p), ← c .before .index .ensures) (c .table-word .ensures)))  -- returns
+    c .table-word .ensures ∙ rw (c .before .index .ensures) (fat-cell (p .pre .0) _ (p .pre .1))))  -- returns

@@ -2,6 +2,7 @@ use borrow.Author.Needs.{needs}
 use Prim.Native.Nat.{_+_, _<_}
 use native.Mathlib.Omega.{arith}
 use lib.ListN.{length}
+use Rattle.tables.specs.Words.{tableCell}
 use Rattle.tables.proofs.Places.{cell-index}
 use Rattle.tables.proofs.table_word.Statement.{statement}
 use Rattle.tables.proofs.table_word.Tie as tie
@@ -10,6 +11,7 @@ listed-in : (c : tie.After-cell-sector) → let p = c .before .before .before in
 listed-in c = rw (c .cell-sector .ensures) (c .before .before .before .pre .1 .0)
 
 pub table-word-spec : {M : Type 1} → statement M
+unfolding tableCell
 table-word-spec =
     tie.close
     (tie.spec

@@ -1,56 +1,67 @@
 use borrow.Author.Needs.{needs}
-use Prim.Native.Nat.{_-_, _≤_, _<_}
-use mathlib.Core.Path.{_≡_, sym, _∙_}
-use mathlib.Core.Bool.{true}
+use Prim.Native.Nat.{_+_, _-_, _≤_}
+use mathlib.Core.Path.{sym, _∙_}
 use native.Mathlib.Omega.{arith}
-use Rattle.format.specs.Basics.Lists.{allBelow}
+use lib.ListN.{length}
 use Rattle.format.specs.Rules.Tables.{markRight}
 use Rattle.kinds.specs.Sizes.{geometryOf}
-use Rattle.theory.proofs.Loops.{below-none, below-more, below-not}
-use Rattle.tables.specs.Views.{sectorCountOf}
-use Rattle.tables.proofs.MarkLaws.{marks-are, mark-right, mark-not-fat, mark-not-difat}
+use Rattle.cells.proofs.Turns.{Passed, passed-none, passed-all}
+use Rattle.tables.specs.Words.{tableCell}
+use Rattle.tables.specs.Listed.{TableListed}
+use Rattle.tables.proofs.Blocks.{BlockOf, block-of, cut-length, slice-length, fat-listed, fat-cell}
+use Rattle.tables.proofs.MarkLaws.{marks-are, agree-block}
 use Rattle.tables.proofs.sectors.table_marks.Statement.{statement}
 use Rattle.tables.proofs.sectors.table_marks.Tie as tie
 
 abbrev Inv-loop : tie.InvT-loop
-Inv-loop img work t n s₀ s = (s .0 ≤ n) × (allBelow (s .0) (markRight (geometryOf (t .geometry)) img) ≡ true)
+Inv-loop img work t g n ok₀ i₀ ok i = Passed (markRight (geometryOf (t .geometry)) img) (t .sectors) ok i
 
 abbrev μ-loop : tie.MeasureT-loop
-μ-loop img work t n s₀ s = n - s .0
+μ-loop img work t g n ok₀ i₀ ok i = t .sectors - i
 
--- the sector of a turn
-inside : (c : tie.Then1 Inv-loop μ-loop) → let p = c .before .before .before .before .before .args in c .before .before .loop .s .0 < sectorCountOf (p .t) (p .img .now)
-inside c = omega (arith, c .if1 .taken, c .before .index .ensures, c .before .before .before .before .before .pre .0 .count)
+-- the FAT's sectors stand listed for the cells of all sectors
+listed : (p : tie.Start Inv-loop μ-loop) → TableListed (geometryOf (p .args .t .geometry)) (p .args .img .now) (p .args .work .now) (p .args .t .list) (p .args .t .sectors)
+listed p = fat-listed (p .pre .0) _ (omega (arith, p .pre .0 .count, p .pre .0 .covers))
+
+-- the block of a turn
+block : (c : tie.After-block-at Inv-loop μ-loop) → let a = c .before .before .before .before .before .before .args in
+    BlockOf (a .img .now) (tableCell (geometryOf (a .t .geometry)) (a .img .now) (a .work .now) (a .t .list)) (c .before .before .loop .i) (a .t .sectors) (c .block-at .result)
+block c = block-of (listed (c .before .before .before .before .before .before)) _ (c .before .loop-test .taken) (c .block-at .ensures)
+
+-- the marks of its sectors stand in the work buffer
+marks-in : (c : tie.After-block-at Inv-loop μ-loop)
+    → let a = c .before .before .before .before .before .before .args in c .before .before .loop .i + c .block-at .result .cells ≤ length (a .work .now)
+marks-in c = let l = c .before .before .before .before .before .before .pre .0 in omega (arith, block c .to, l .count, l .apart, l .room)
 
 pub table-marks-spec : {M : Type 1} → statement M
 table-marks-spec =
     tie.close
     (tie.spec Inv-loop μ-loop
-    (λ c. (omega arith, below-none _))  -- loop-holds
-    (λ c κs. search needs)  -- index-requires
-    (λ c κs. let p = c .before .before .before .before .before in (p .pre .0, omega (arith, inside c, p .pre .0 .covers)))  -- cell-at-requires
-    (λ c κs. search needs)  -- index-requires-2
-    (λ c. omega (arith, c .index2 .ensures, inside (c .before .before), c .before .before .before .before .before .before .before .pre .0 .sized .few))  -- mul-m
-    (λ c. let p = c .before .before .before .before .before .before .before .before .pre .0 in omega (arith, c .before .index2 .ensures, inside (c .before .before .before), p .apart, p .room))  -- shared-slice-read-m
-    (λ c κs. search needs)  -- is-fat-requires
-    (λ c.
-    let at = c .before .before .before .before .before in
-    let h = inside at in
-    sym (marks-are _ _ ∙ below-not (markRight _ _) _ _ h (mark-not-fat (at .before .before .before .before .before .pre .1) _ h _ (c .before .before .before .before .cell-at .ensures) _ (c .before .is-fat .ensures) (rw (← c .before .before .before .index2 .ensures) (c .if2 .taken)))))  -- returns
-    (λ c κs. search needs)  -- is-difat-requires
-    (λ c.
-    let at = c .before .before .before .before .before .before .before in
-    let h = inside at in
-    sym (marks-are _ _ ∙ below-not (markRight _ _) _ _ h (mark-not-difat (at .before .before .before .before .before .pre .1) _ h _ (c .before .before .before .before .before .before .cell-at .ensures) _ (c .before .is-difat .ensures) (rw (← c .before .before .before .before .before .index2 .ensures) (c .if3 .taken)))))  -- returns-2
-    (λ c κs. omega (arith, inside (c .before .before .before .before .before .before .before), c .before .before .before .before .before .before .before .before .before .before .before .before .pre .0 .sized .few))  -- next-requires
-    (λ c. omega (arith, c .next .ensures, c .before .before .before .before .before .before .before .before .if1 .taken, c .before .before .before .before .before .before .before .before .before .index .ensures))  -- loop-less
-    (λ c.
-    let at = c .before .before .before .before .before .before .before .before in
-    let i = c .before .before .before .before .before .before .index2 .ensures in
-    let r = mark-right (at .before .before .before .before .before .pre .1) _ (inside at) _ (c .before .before .before .before .before .before .before .cell-at .ensures) _ _ (c .before .before .before .before .is-fat .ensures) (c .before .before .is-difat .ensures) (rw (← i) (c .before .before .before .if2 .left)) (rw (← i) (c .before .if3 .left)) in
-    (omega (arith, c .next .ensures, inside at, at .if1 .taken, at .before .index .ensures), rw (c .next .ensures) (below-more (markRight _ _) _ (at .before .before .loop .inv .1) r)))  -- loop-again
-    (λ c.
+    (λ c. passed-none)  -- loop-holds
+    (λ c κs.
     let p = c .before .before .before .before .before in
-    let l = c .before .before .loop in
-    let e : l .s .0 ≡ sectorCountOf (p .args .t) (p .args .img .now) = omega (arith, l .inv .0, c .if1 .left, c .before .index .ensures, p .pre .0 .count) in
-    sym (marks-are _ _ ∙ rw e at (l .inv .1))))  -- returns-3
+    let h = c .loop-test .taken in
+    ((p .pre .0 .sized .wide, p .pre .0 .sized .narrow), (listed p .room _ h, h)))  -- block-at-requires
+    (λ c. omega (arith, block c .inside, c .before .before .before .before .before .before .pre .0 .sized .short))  -- mul-marks-agree
+    (λ c. omega (arith, block c .inside, c .before .before .before .before .before .before .pre .0 .sized .short))  -- add-marks-agree
+    (λ c. search needs)  -- sub-marks-agree
+    (λ c. search needs)  -- part-marks-agree-start
+    (λ c. omega (arith, block c .inside))  -- part-marks-agree-end
+    (λ c. omega (arith, marks-in (c .before)))  -- add-marks-agree-2
+    (λ c. omega (arith, marks-in (c .before)))  -- mul-marks-agree-2
+    (λ c. search needs)  -- sub-marks-agree-2
+    (λ c. search needs)  -- part-marks-agree-start-2
+    (λ c. marks-in (c .before))  -- part-marks-agree-end-2
+    (λ c κs.
+    let k = c .before .before in
+    let w = k .before .before .before .before .before .before .args .work .now in
+    omega (arith, slice-length (block k), cut-length w (k .before .before .loop .i) (k .block-at .result .cells) (marks-in k)))  -- marks-agree-requires
+    (λ c. omega (arith, marks-in (c .before .before .before)))  -- add-i
+    (λ c. let k = c .before .before .before in omega (arith, block k .some, k .before .loop-test .taken))  -- loop-less
+    (λ c.
+    let k = c .before .before .before in
+    let p = k .before .before .before .before .before .before in
+    let l = p .pre .0 in
+    agree-block _ (p .pre .1) (l .count) (omega (arith, l .count, l .apart, l .room)) (λ s h. fat-cell l s (omega (arith, l .count, l .covers)))
+    (k .before .before .loop .inv) (block k) (c .marks-agree .ensures))  -- loop-again
+    (λ c. passed-all (c .before .loop .inv) (c .loop-test .left) ∙ rw (c .before .before .before .before .before .pre .0 .count) (sym (marks-are _ _))))  -- returns
