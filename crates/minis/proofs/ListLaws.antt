@@ -14,10 +14,10 @@ use Rattle.format.specs.Layout.Volume.{miniCells, miniSpace}
 use Rattle.kinds.specs.Sizes.{geometryOf}
 use Rattle.theory.proofs.Scale.{scale-div, scale-mod, scale-below}
 use Rattle.tables.specs.Words.{wordIn, tableCell}
-use Rattle.tables.specs.Work.{Wrote}
+use Rattle.tables.specs.Work.{Wrote, Holds}
 use Rattle.tables.specs.Listed.{TableListed}
 use Rattle.tables.proofs.Places.{cells-some, cells-bytes, cells-short as short}
-use Rattle.tables.proofs.WorkLaws.{wrote-none, wrote-set}
+use Rattle.tables.proofs.WorkLaws.{wrote-none, wrote-set, holds-same}
 use Rattle.minis.specs.Listed.{MiniListed, minisOf}
 use Rattle.minis.specs.declared.Minis.{Minis}
 
@@ -91,3 +91,7 @@ module _ {t : Minis} {img : Bytes} {w : List ℕ} (l : MiniListed t img w) where
         room = λ i q. omega (arith, cell-sector i (omega arith), l .room);
         below = λ i q. let k = cell-sector i (omega arith) in rw (l .here _ k) (l .below _ k);
       }
+
+  -- a copy of its first cells
+  pub mini-held : {w′ : List ℕ} {at n : ℕ} → n ≤ cellsIn g * t .sectors → Holds w′ at n (tableCell g img w (t .list)) → Holds w′ at n (minisOf t img .cell)
+  mini-held h c = holds-same c (λ s q. mini-cell s (omega arith))

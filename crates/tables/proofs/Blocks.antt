@@ -18,8 +18,10 @@ use Rattle.header.specs.Sized.{F}
 use Rattle.cells.specs.Cells.{cellOf, cellRight}
 use Rattle.cells.proofs.Turns.{Passed, passed-block}
 use Rattle.tables.specs.Words.{wordIn, sectorFor, tableCell, freeFrom, blockAt}
+use Rattle.tables.specs.Work.{Holds}
 use Rattle.tables.specs.Listed.{FatListedAt, TableListed}
 use Rattle.tables.specs.declared.Block.{Block}
+use Rattle.tables.proofs.WorkLaws.{holds-same}
 use Rattle.tables.proofs.Places.{sector-inside, cells-bytes, cell-is, cell-sector, cell-index}
 
 -- the cells from `low` on, as many as the block has, are the part of the image at its place
@@ -78,14 +80,14 @@ module _ {img : Bytes} {cell : ℕ → ℕ} {low end : ℕ} {b : Block} (o : Blo
 
 module _ {img : Bytes} {cell : ℕ → ℕ} {ok t : Bool} {b : Block} where
   pub right-block : (limit special : ℕ) {n i : ℕ} → Passed (cellRight limit special cell) n ok i → (o : BlockOf img cell i n b)
-      → t ≡ allBelow (length (slice o) / 4) (cellRight limit special (cellOf (slice o))) → Passed (cellRight limit special cell) n (ok && t) (i + b .cells)
+      → t ≡ allBelow (b .cells) (cellRight limit special (cellOf (slice o))) → Passed (cellRight limit special cell) n (ok && t) (i + b .cells)
   unfolding cellRight
-  right-block limit special a o e = passed-block a _ (o .to) (rw (slice-count o) at e) (λ j h. rw (slice-cell o j h))
+  right-block limit special a o e = passed-block a _ (o .to) e (λ j h. rw (slice-cell o j h))
 
   pub free-block : (low end : ℕ) {i : ℕ} → Passed (freeFrom cell low) (end - low) ok i → (o : BlockOf img cell (low + i) end b)
-      → t ≡ allBelow (length (slice o) / 4) (isFree (cellOf (slice o))) → Passed (freeFrom cell low) (end - low) (ok && t) (i + b .cells)
+      → t ≡ allBelow (b .cells) (isFree (cellOf (slice o))) → Passed (freeFrom cell low) (end - low) (ok && t) (i + b .cells)
   unfolding freeFrom
-  free-block low end {i} a o e = passed-block a _ (omega (arith, o .to)) (rw (slice-count o) at e) (λ j h. rw (slice-cell o j h, add-assoc))
+  free-block low end {i} a o e = passed-block a _ (omega (arith, o .to)) e (λ j h. rw (slice-cell o j h, add-assoc))
 
 -- ---- the FAT is such a table
 
@@ -101,3 +103,7 @@ module _ {g : Geometry} {img : Bytes} {w : List ℕ} {n list : ℕ} (l : FatList
   pub fat-cell : (s : ℕ) → s < cellsIn g * F img → tableCell g img w list s ≡ fatCell g img s
   unfolding tableCell
   fat-cell s h = rw (l .fats _ (cell-sector (l .sized) s h)) (sym (cell-is (l .sized) s h))
+
+  -- a copy of its first cells
+  pub fat-held : {w′ : List ℕ} {at m : ℕ} → m ≤ cellsIn g * F img → Holds w′ at m (tableCell g img w list) → Holds w′ at m (fatCell g img)
+  fat-held h c = holds-same c (λ s q. fat-cell s (omega arith))

@@ -2,6 +2,7 @@
 pub mod Places
 pub mod WorkLaws
 pub mod Blocks
+pub mod Copies
 pub mod DifatLaws
 pub mod ListLaws
 pub mod MarkLaws

@@ -49,6 +49,9 @@ holds-more {w} {at} {j} {f} v h l e =
           ];
     }
 
+pub holds-same : {w : List ℕ} {at n : ℕ} {f h : ℕ → ℕ} → Holds w at n f → ((j : ℕ) → j < n → f j ≡ h j) → Holds w at n h
+holds-same a e = record { room = a .room; here = λ j l. a .here j l ∙ e j l }
+
 pub holds-kept : {b w : List ℕ} {at n a m : ℕ} {f : ℕ → ℕ} → Holds b a m f → Wrote b w at n → (a + m ≤ at) ⊎ (at + n ≤ a) → Holds w a m f
 holds-kept h r d =
     record {

@@ -9,9 +9,11 @@ ghost use Rattle.header.specs.Sized.{ImageSized, F, D};
 ghost use Rattle.cells.specs.Cells.{cellRight};
 ghost use Rattle.tables.specs.Words.{wordIn, sectorFor, tableCell, freeFrom, blockAt};
 ghost use Rattle.tables.specs.Views.{cellsOf};
+ghost use Rattle.tables.specs.Work.{Wrote, Holds};
 ghost use Rattle.tables.specs.Listed.{FatListed, TableListed, tablesOf};
 use cells::all_free;
 use cells::cells_right;
+use cells::copy_cells;
 use header::difat_count;
 use header::fat_count;
 use header::sector_count;
@@ -117,6 +119,44 @@ pub fn table_free(
         let p = b.place;
         let k = b.cells;
         ok = ok & all_free(&img[p..p + 4 * k]);
+        i += k;
+    }
+    ok
+}
+
+// Copies the first cells of a table into the work buffer, from a place on and before the list of its sectors. Whether each is below the
+// limit, which is how many they are, or one of the special values.
+pub fn copy_table(
+    img: &[u8],
+    work: &mut [u32],
+    g: Geometry,
+    list: usize,
+    limit: usize,
+    at: usize,
+    special: u32,
+) -> bool
+    requires { ⌜ TableListed (geometryOf g) (now img) (now work) list limit ⌝ }
+    requires { ⌜ (at + limit ≤ list) × (list ≤ length (now work)) ⌝ }
+    requires { ⌜ limit < 0x1_0000_0000 ⌝ }
+    ensures answer { λ r. ⌜ r
+        ≡ allBelow limit (cellRight limit special (tableCell (geometryOf g) (now (img .entry)) (now (work .entry)) list)) ⌝ }
+    ensures wrote { λ _. ⌜ Wrote (now (work .entry)) (now (work .exit)) at limit ⌝ }
+    ensures holds { λ _. ⌜ Holds (now (work .exit)) at limit (tableCell (geometryOf g) (now (img .entry)) (now (work .entry)) list) ⌝ }
+{
+    let mut ok = true;
+    let mut i = 0;
+    while i < limit {
+        let b = block_at(work, g, list, i, limit);
+        let p = b.place;
+        let k = b.cells;
+        let to = at + i;
+        ok = ok
+            & copy_cells(
+                &mut work[to..to + k],
+                &img[p..p + 4 * k],
+                limit as u32,
+                special,
+            );
         i += k;
     }
     ok

@@ -4,7 +4,7 @@ use native.Mathlib.Omega.{arith}
 use Rattle.kinds.specs.Sizes.{geometryOf}
 use Rattle.cells.proofs.Turns.{Passed, passed-none, passed-all}
 use Rattle.tables.specs.Words.{tableCell, freeFrom}
-use Rattle.tables.proofs.Blocks.{BlockOf, block-of, free-block}
+use Rattle.tables.proofs.Blocks.{BlockOf, block-of, slice-count, free-block}
 use Rattle.tables.proofs.table_free.Statement.{statement}
 use Rattle.tables.proofs.table_free.Tie as tie
 
@@ -39,5 +39,5 @@ table-free-spec =
     (λ c κs. search needs)  -- all-free-requires
     (λ c. omega (arith, block (c .before .before) .to))  -- add-i
     (λ c. omega (arith, block (c .before .before) .some, c .before .before .before .loop-test .taken))  -- loop-less
-    (λ c. free-block _ _ (c .before .before .before .before .loop .inv) (block (c .before .before)) (c .all-free .ensures))  -- loop-again
+    (λ c. let o = block (c .before .before) in free-block _ _ (c .before .before .before .before .loop .inv) o (rw (slice-count o) at (c .all-free .ensures)))  -- loop-again
     (λ c. passed-all (c .before .loop .inv) (c .loop-test .left)))  -- returns

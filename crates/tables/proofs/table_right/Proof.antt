@@ -5,7 +5,7 @@ use Rattle.kinds.specs.Sizes.{geometryOf}
 use Rattle.cells.specs.Cells.{cellRight}
 use Rattle.cells.proofs.Turns.{Passed, passed-none, passed-all}
 use Rattle.tables.specs.Words.{tableCell}
-use Rattle.tables.proofs.Blocks.{BlockOf, block-of, right-block}
+use Rattle.tables.proofs.Blocks.{BlockOf, block-of, slice-count, right-block}
 use Rattle.tables.proofs.table_right.Statement.{statement}
 use Rattle.tables.proofs.table_right.Tie as tie
 
@@ -38,5 +38,5 @@ table-right-spec =
     (λ c κs. search needs)  -- cells-right-requires
     (λ c. omega (arith, block (c .before .before) .to))  -- add-i
     (λ c. omega (arith, block (c .before .before) .some, c .before .before .before .loop-test .taken))  -- loop-less
-    (λ c. right-block _ _ (c .before .before .before .before .loop .inv) (block (c .before .before)) (c .cells-right .ensures))  -- loop-again
+    (λ c. let o = block (c .before .before) in right-block _ _ (c .before .before .before .before .loop .inv) o (rw (slice-count o) at (c .cells-right .ensures)))  -- loop-again
     (λ c. passed-all (c .before .loop .inv) (c .loop-test .left)))  -- returns
