@@ -31,8 +31,8 @@ module _ {g : Geometry} {img : Bytes} (z : ImageSized g img) where
   pub per-few : entriesIn g ≤ 32
   per-few = omega (arith, per-bytes, z .narrow)
 
-  -- four entries for each 512 bytes, and one sector of slack
-  pub entries-few : (n : ℕ) → n ≤ sectorCount g img → entriesIn g * n ≤ 4 * (length img / 512)
+  -- fewer than four entries for each 512 bytes
+  pub entries-few : (n : ℕ) → n ≤ sectorCount g img → entriesIn g * n < 4 * (length img / 512)
   entries-few n b =
       let c : 128 * (entriesIn g * n) ≡ g .sectorBytes * n = sym (mul-assoc 128 (entriesIn g) n) ∙ ap (λ w. w * n) per-bytes in
       let d = mul-le-mul-left (g .sectorBytes) b in
@@ -62,7 +62,11 @@ module _ {d : Where} {img : Bytes} {work : List ℕ} (l : DirectoryListed d img 
   count-few = omega (arith, mul-le-mul-right (d .sectors) (per-few (l .sized)), l .few, l .sized .few)
 
   pub count-most : countOf d ≤ 4 * (length img / 512)
-  count-most = entries-few (l .sized) (d .sectors) (l .few)
+  count-most = omega (arith, entries-few (l .sized) (d .sectors) (l .few))
+
+  -- the number of an entry, and one more, has 19 bits
+  pub count-short : countOf d < 0x8_0000
+  count-short = omega (arith, entries-few (l .sized) (d .sectors) (l .few), l .sized .short)
 
   -- what `count` asks
   pub countable : (d .geometry .bytes ≤ 4096) × (d .sectors < 0x1_0000_0000)

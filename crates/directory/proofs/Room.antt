@@ -126,6 +126,6 @@ module _ (g : Geometry) (img : Bytes) where
       pub tables-apart : F img + D img + length (directorySectorsOf g img) ≤ sectorCount g img
       tables-apart = omega (arith, pigeonhole (tables ++ directorySectorsOf g img) (sectorCount g img) below once, length-append tables (directorySectorsOf g img), tables-long)
 
-      -- the directory's list, three numbers for each entry, and one more
-      pub walk-room : length (directorySectorsOf g img) + 3 * (entriesIn g * length (directorySectorsOf g img)) + 1 ≤ listPlace img
+      -- the directory's list, three numbers for each entry, and two more
+      pub walk-room : length (directorySectorsOf g img) + 3 * (entriesIn g * length (directorySectorsOf g img)) + 2 ≤ listPlace img
       walk-room = let a = tables-apart in omega (arith, entries-few z n (omega arith), a, z .many)

@@ -1,6 +1,7 @@
 // The directory: its entries by number. Its sectors stand listed in the work buffer.
 ghost use mathlib.Core.Path.{_≡_};
 ghost use Prim.Native.Nat.{_≤_, _<_};
+ghost use lib.ListN.{length};
 ghost use Rattle.format.specs.Layout.Entry.{kind as kindOf, colour as colourOf, left as leftOf, right as rightOf, child as childOf, name};
 ghost use Rattle.format.specs.Rules.Trees.{isObject, less as lessOf};
 ghost use Rattle.kinds.specs.Ordering.{ordering};
@@ -11,6 +12,7 @@ use entries::colour;
 use entries::entry_type;
 use entries::left;
 use entries::names::compare;
+use entries::names::compare_alike;
 use entries::names::compare_name;
 use entries::right;
 use kinds::EntryId;
@@ -136,6 +138,21 @@ pub fn less(img: &[u8], work: &[u32], d: Directory, x: EntryId, y: EntryId) -> b
     ensures { λ r. ⌜ r ≡ lessOf (entriesOf d (now (img .entry))) (x .0) (y .0) ⌝ }
 {
     match compare(img, place(work, d, x), place(work, d, y)) {
+        Order::Less => true,
+        Order::Same => false,
+        Order::More => false,
+    }
+}
+
+// The same of two names of n units.
+pub fn less_alike(img: &[u8], work: &[u32], d: Directory, x: EntryId, y: EntryId, n: usize) -> bool
+    requires { ⌜ DirectoryListed d (now img) (now work) ⌝ }
+    requires { ⌜ NamedIn (entriesOf d (now img)) (x .0) ⌝ }
+    requires { ⌜ NamedIn (entriesOf d (now img)) (y .0) ⌝ }
+    requires { ⌜ (n ≡ length (name (entriesOf d (now img) .entry (x .0)))) × (n ≡ length (name (entriesOf d (now img) .entry (y .0)))) ⌝ }
+    ensures { λ r. ⌜ r ≡ lessOf (entriesOf d (now (img .entry))) (x .0) (y .0) ⌝ }
+{
+    match compare_alike(img, place(work, d, x), place(work, d, y), n) {
         Order::Less => true,
         Order::Same => false,
         Order::More => false,

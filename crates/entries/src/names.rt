@@ -90,20 +90,13 @@ fn compare_units(u: u16, w: u16) -> Order
     Order::Same
 }
 
-// The name of the entry at p to that of the entry at q.
-pub fn compare(img: &[u8], p: usize, q: usize) -> Order
+// The name of the entry at p to that of the entry at q, where both have n units.
+pub fn compare_alike(img: &[u8], p: usize, q: usize, n: usize) -> Order
     requires { ⌜ NamedAt (now img) p ⌝ }
     requires { ⌜ NamedAt (now img) q ⌝ }
+    requires { ⌜ (n ≡ length (nameAt (now img) p)) × (n ≡ length (nameAt (now img) q)) ⌝ }
     ensures { λ r. ⌜ r ≡ ordering (nameAt (now (img .entry)) p) (nameAt (now (img .entry)) q) ⌝ }
 {
-    let n = name_units(img, p);
-    let m = name_units(img, q);
-    if n < m {
-        return Order::Less;
-    }
-    if m < n {
-        return Order::More;
-    }
     let mut i: usize = 0;
     while i < n {
         match compare_units(name_unit(img, p, i), name_unit(img, q, i)) {
@@ -119,6 +112,23 @@ pub fn compare(img: &[u8], p: usize, q: usize) -> Order
         }
     }
     Order::Same
+}
+
+// The name of the entry at p to that of the entry at q.
+pub fn compare(img: &[u8], p: usize, q: usize) -> Order
+    requires { ⌜ NamedAt (now img) p ⌝ }
+    requires { ⌜ NamedAt (now img) q ⌝ }
+    ensures { λ r. ⌜ r ≡ ordering (nameAt (now (img .entry)) p) (nameAt (now (img .entry)) q) ⌝ }
+{
+    let n = name_units(img, p);
+    let m = name_units(img, q);
+    if n < m {
+        return Order::Less;
+    }
+    if m < n {
+        return Order::More;
+    }
+    compare_alike(img, p, q, n)
 }
 
 // A name by itself to that of the entry at q.

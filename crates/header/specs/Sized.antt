@@ -10,12 +10,12 @@ pub record ImageSized (g : Geometry) (img : Bytes) : Type 0 where
   pub wide : 512 ≤ g .sectorBytes
   pub narrow : g .sectorBytes ≤ 4096
   pub even : g .sectorBytes % 128 ≡ 0
-  -- a header, and N sectors; the last three bounds hold up to images of 64 MiB and beyond
+  -- a header, and N sectors; the last three bounds are those of images of up to 64 MiB
   pub long : length img ≡ (sectorCount g img + 1) * g .sectorBytes
   pub head : 1536 ≤ length img
   pub many : sectorCount g img < length img / 512
   pub few : sectorCount g img < 0x100_0000
-  pub short : length img < 0x1_0000_0000
+  pub short : length img ≤ 0x400_0000
 
 -- F, D and W, as arithmetic reads them
 abbrev pub F : Bytes → ℕ

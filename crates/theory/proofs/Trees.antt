@@ -6,10 +6,14 @@ pub mod Stand
 pub mod Nodes
 pub mod Sides
 pub mod Order
+pub mod Rises
 pub mod Spines
 pub mod Rules
+pub mod Tested
 pub mod Marks
 pub mod Walk
+pub mod Coming
+pub mod Descent
 pub mod Stack
 pub mod Slices
 pub mod Walking
@@ -17,6 +21,7 @@ pub mod Passes
 pub mod Verdict
 pub mod Names
 pub mod Find
+pub mod Inorder
 pub mod Paths
 pub mod PathOrder
 pub mod PathsRise

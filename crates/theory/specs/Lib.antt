@@ -7,6 +7,7 @@ pub mod Marks
 pub mod TreeViews
 pub mod TreeOrder
 pub mod TreeWalk
+pub mod TreeInorder
 pub mod TreeFind
 pub mod TreePaths
 pub mod TreeDraw

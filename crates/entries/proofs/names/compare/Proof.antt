@@ -1,72 +1,29 @@
 use borrow.Author.Needs.{needs}
 use native.Mathlib.Omega.{arith}
-use mathlib.Core.Path.{refl}
-use Prim.Native.Nat.{_-_, _<_}
-use lib.ListN.{length}
 use Rattle.format.specs.Layout.Name.{Name, fold}
 use Rattle.format.specs.Layout.Entry.{name}
-use Rattle.theory.proofs.NameCompare.{Comparing, Turn, shorter-less, comparing-start, comparing-end, turn-less, turn-more, turn-on}
+use Rattle.theory.proofs.NameCompare.{shorter-less}
 use Rattle.entries.specs.Entry.{entryAt}
-use Rattle.entries.proofs.NameLaws.{unit-inside, unit-folded}
-use Rattle.entries.proofs.Orderings.{is-less, is-same, is-more, unit-told}
+use Rattle.entries.proofs.Orderings.{is-less, is-more}
 use Rattle.entries.proofs.names.compare.Statement.{statement}
 use Rattle.entries.proofs.names.compare.Tie as tie
 
-abbrev Inv-loop : tie.InvT-loop
-Inv-loop img p q n m i₀ i = Comparing fold (name (entryAt img p)) (name (entryAt img q)) i
-
-abbrev μ-loop : tie.MeasureT-loop
-μ-loop img p q n m i₀ i = n - i
-
 -- the two names
-abbrev one : tie.After-name-units2 Inv-loop μ-loop → Name
+abbrev one : tie.After-name-units2 → Name
 one c = name (entryAt (c .before .before .before .args .img .now) (c .before .before .before .args .p))
 
-abbrev two : tie.After-name-units2 Inv-loop μ-loop → Name
+abbrev two : tie.After-name-units2 → Name
 two c = name (entryAt (c .before .before .before .args .img .now) (c .before .before .before .args .q))
-
--- where both are counted
-abbrev counted : tie.In-loop Inv-loop μ-loop → tie.After-name-units2 Inv-loop μ-loop
-counted c = c .before .before .before .before
-
-within : (c : tie.In-loop Inv-loop μ-loop) → (c .before .loop .i < length (one (counted c))) × (c .before .loop .i < length (two (counted c)))
-within c =
-    let h : c .before .loop .i < length (one (counted c)) = omega (arith, c .loop-test .taken, counted c .before .name-units .ensures) in
-    (h, omega (arith, h, c .before .loop .inv .long))
-
-abbrev going : tie.After-compare-units Inv-loop μ-loop → tie.In-loop Inv-loop μ-loop
-going c = c .before .before .before
-
-turn : (c : tie.After-compare-units Inv-loop μ-loop)
-    → Turn fold (one (counted (going c))) (two (counted (going c))) (going c .before .loop .i) (fold (c .before .before .name-unit .result)) (fold (c .before .name-unit2 .result))
-turn c =
-    record {
-      so-far = going c .before .loop .inv;
-      inside = within (going c) .0;
-      one = unit-folded _ _ _ _ (within (going c) .0) (c .before .before .name-unit .ensures) refl;
-      two = unit-folded _ _ _ _ (within (going c) .1) (c .before .name-unit2 .ensures) refl;
-    }
 
 pub compare-spec : {M : Type 1} → statement M
 compare-spec =
     tie.close
-    (tie.spec Inv-loop μ-loop
+    (tie.spec
     (λ c κs. search needs)  -- name-units-requires
     (λ c κs. search needs)  -- name-units-requires-2
     (λ c. is-less _ _ (shorter-less fold (one (c .before)) (two (c .before)) (omega (arith, c .if1 .taken, c .before .before .name-units .ensures, c .before .name-units2 .ensures))))  -- returns
     (λ c. is-more _ _ (shorter-less fold (two (c .before .before)) (one (c .before .before)) (omega (arith, c .if2 .taken, c .before .before .before .name-units .ensures, c .before .before .name-units2 .ensures))))  -- returns-2
-    (λ c. comparing-start fold (one (c .before .before)) (two (c .before .before)) (omega (arith, c .if2 .left, c .before .if1 .left, c .before .before .before .name-units .ensures, c .before .before .name-units2 .ensures)))  -- loop-holds
-    (λ c κs. unit-inside (counted c .before .before .before .pre .0) _ (within c .0))  -- name-unit-requires
-    (λ c κs. unit-inside (counted (c .before) .before .before .before .pre .1) _ (within (c .before) .1))  -- name-unit-requires-2
-    (λ c κs. search needs)  -- compare-units-requires
-    (λ c. search needs)  -- enum-told
-    (λ c. is-less _ _ (turn-less (turn (c .before .before)) (unit-told _ _ (c .before .before .compare-units .ensures) (c .enum-told .given .1))))  -- returns-3
-    (λ c. search needs)  -- enum-told-2
-    (λ c. search needs)  -- add-i
-    (λ c. search needs)  -- loop-less
-    (λ c.
-    let e = unit-told _ _ (c .before .before .compare-units .ensures) (c .enum-told2 .given .1) in
-    turn-on (turn (c .before .before)) (omega (arith, e)) (omega (arith, e)))  -- loop-again
-    (λ c. search needs)  -- enum-told-3
-    (λ c. is-more _ _ (turn-more (turn (c .before .before)) (unit-told _ _ (c .before .before .compare-units .ensures) (c .enum-told3 .given .1))))  -- returns-4
-    (λ c. is-same _ _ (comparing-end (c .before .loop .inv) (omega (arith, c .loop-test .left, c .before .before .before .before .before .name-units .ensures)))))  -- returns-5
+    (λ c κs.
+    let p = c .before .before .before .before .before .pre in
+    (p .0, (p .1, (c .before .before .before .name-units .ensures, omega (arith, c .if2 .left, c .before .if1 .left, c .before .before .before .name-units .ensures, c .before .before .name-units2 .ensures)))))  -- compare-alike-requires
+    (λ c. search needs))  -- returns-3

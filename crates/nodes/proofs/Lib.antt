@@ -1,0 +1,4 @@
+-- Laws of slots and nodes.
+pub mod Slots
+pub mod Packing
+pub mod Marks

@@ -1,0 +1,3 @@
+-- What the functions on nodes require and ensure, beside `format`.
+pub mod Slots
+pub mod Nodes
