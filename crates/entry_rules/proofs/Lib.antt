@@ -1,4 +1,6 @@
--- Laws for the functions of group 14, and what the group says of names.
+-- Laws for the functions of group 14, what the group says of names, and the nodes of entries.
 pub mod Fields
 pub mod Ruled
 pub mod Units
+pub mod Reading
+pub mod Passing

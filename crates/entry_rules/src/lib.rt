@@ -1,12 +1,15 @@
 // Group 14: the fields of each entry of the directory.
 ghost use mathlib.Core.Path.{_≡_};
-ghost use Prim.Native.Nat.{_+_, _*_, _≤_};
+ghost use mathlib.Core.Bool.{true};
+ghost use Prim.Native.Nat.{_+_, _*_, _≤_, _<_};
 ghost use lib.ListN.{length};
 ghost use Rattle.format.specs.Basics.Lists.{allBelow};
 ghost use Rattle.format.specs.Rules.Entries.{blankFields, nameFields, streamFields, storageFields, rootFields, commonFields, entryFields, entryRules};
 ghost use Rattle.entries.specs.Entry.{entryAt, Field};
-ghost use Rattle.directory.specs.Listed.{entriesOf, DirectoryListed};
-ghost use Rattle.entry_rules.specs.Names.{unitLegal, restBelow};
+ghost use Rattle.directory.specs.Listed.{entriesOf, countOf, DirectoryListed};
+ghost use Rattle.tables.specs.Work.{Wrote};
+ghost use Rattle.nodes.specs.Nodes.{EntryNode, NodesFresh};
+ghost use Rattle.entry_rules.specs.Names.{unitLegal, restBelow, ObjectNamed};
 use directory::Directory;
 use directory::place;
 use entries::child;
@@ -17,10 +20,14 @@ use entries::left;
 use entries::name_bytes;
 use entries::names::legal_unit;
 use entries::names::name_unit;
+use entries::names::name_units;
 use entries::right;
 use entries::word;
 use entries::zeros;
 use kinds::EntryId;
+use nodes::Node;
+use nodes::Slot;
+use nodes::put_node;
 
 // ---- names
 
@@ -143,6 +150,45 @@ fn entry_fields(img: &[u8], p: usize, x: EntryId) -> bool
         return storage_fields(img, p);
     }
     t.is_blank() & blank_fields(img, p)
+}
+
+// The node of an entry that keeps group 14, which stands at p.
+fn node_of(img: &[u8], p: usize, n: usize) -> Node
+    requires { ⌜ p + 128 ≤ length (now img) ⌝ }
+    requires { ⌜ (0 < n) × (n < 0x8_0000) ⌝ }
+    requires { ⌜ ObjectNamed (entryAt (now img) p) ⌝ }
+    ensures { λ r. ⌜ EntryNode n (entryAt (now (img .entry)) p) (r .a) (r .b) ⌝ }
+{
+    let t = entry_type(img, p);
+    if t.is_storage() | t.is_stream() {
+        let low = Slot::of(left(img, p), n);
+        let high = Slot::of(right(img, p), n);
+        let below = Slot::of(child(img, p), n);
+        let units = name_units(img, p) as u32;
+        return Node::pack(low, high, below, units, colour(img, p) == 0);
+    }
+    Node::OTHER
+}
+
+// Group 14, and the node of each entry at the start of the work buffer.
+pub fn read_entries(img: &[u8], work: &mut [u32], d: Directory) -> bool
+    requires { ⌜ DirectoryListed d (now img) (now work) ⌝ }
+    requires { ⌜ 2 * countOf d + 2 ≤ d .list ⌝ }
+    ensures answer { λ r. ⌜ r ≡ entryRules (entriesOf d (now (img .entry))) ⌝ }
+    ensures nodes { λ r. ⌜ (r ≡ true → NodesFresh (entriesOf d (now (img .entry))) (now (work .exit))) ⌝ }
+    ensures wrote { λ _. ⌜ Wrote (now (work .entry)) (now (work .exit)) 0 (2 * countOf d + 2) ⌝ }
+{
+    let n = d.count();
+    let mut x = EntryId::ROOT;
+    while x.index() < n {
+        let p = place(work, d, x);
+        if !entry_fields(img, p, x) {
+            return false;
+        }
+        put_node(work, Slot::at(x), node_of(img, p, n));
+        x = x.next();
+    }
+    true
 }
 
 pub fn entry_rules(img: &[u8], work: &[u32], d: Directory) -> bool
