@@ -11,7 +11,6 @@ use entries::child;
 use entries::colour;
 use entries::entry_type;
 use entries::left;
-use entries::names::compare;
 use entries::names::compare_alike;
 use entries::names::compare_name;
 use entries::right;
@@ -130,21 +129,7 @@ pub fn lowest_blank(img: &[u8], work: &[u32], d: Directory) -> Blank
 
 // ---- names
 
-// Whether the name of x comes before that of y.
-pub fn less(img: &[u8], work: &[u32], d: Directory, x: EntryId, y: EntryId) -> bool
-    requires { ⌜ DirectoryListed d (now img) (now work) ⌝ }
-    requires { ⌜ NamedIn (entriesOf d (now img)) (x .0) ⌝ }
-    requires { ⌜ NamedIn (entriesOf d (now img)) (y .0) ⌝ }
-    ensures { λ r. ⌜ r ≡ lessOf (entriesOf d (now (img .entry))) (x .0) (y .0) ⌝ }
-{
-    match compare(img, place(work, d, x), place(work, d, y)) {
-        Order::Less => true,
-        Order::Same => false,
-        Order::More => false,
-    }
-}
-
-// The same of two names of n units.
+// Whether the name of x comes before that of y, where both have n units.
 pub fn less_alike(img: &[u8], work: &[u32], d: Directory, x: EntryId, y: EntryId, n: usize) -> bool
     requires { ⌜ DirectoryListed d (now img) (now work) ⌝ }
     requires { ⌜ NamedIn (entriesOf d (now img)) (x .0) ⌝ }

@@ -114,23 +114,6 @@ pub fn compare_alike(img: &[u8], p: usize, q: usize, n: usize) -> Order
     Order::Same
 }
 
-// The name of the entry at p to that of the entry at q.
-pub fn compare(img: &[u8], p: usize, q: usize) -> Order
-    requires { ⌜ NamedAt (now img) p ⌝ }
-    requires { ⌜ NamedAt (now img) q ⌝ }
-    ensures { λ r. ⌜ r ≡ ordering (nameAt (now (img .entry)) p) (nameAt (now (img .entry)) q) ⌝ }
-{
-    let n = name_units(img, p);
-    let m = name_units(img, q);
-    if n < m {
-        return Order::Less;
-    }
-    if m < n {
-        return Order::More;
-    }
-    compare_alike(img, p, q, n)
-}
-
 // A name by itself to that of the entry at q.
 pub fn compare_name(want: &[u16], img: &[u8], q: usize) -> Order
     requires { ⌜ NamedAt (now img) q ⌝ }

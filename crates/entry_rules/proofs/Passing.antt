@@ -1,8 +1,8 @@
 -- The pass over all entries: each that was passed keeps group 14 and has its node.
-use Prim.Native.Nat.{ℕ, zero, _+_, _*_, _≤_, _<_}
+use Prim.Native.Nat.{ℕ, _+_, _*_, _≤_, _<_}
 use mathlib.Core.Path.{_≡_, refl, sym, ap, _∙_}
-use mathlib.Core.Logic.{_≢_, _⊎_, inl, inr}
-use mathlib.Core.Bool.{Bool, true, false, not, _&&_, _||_}
+use mathlib.Core.Logic.{_≢_}
+use mathlib.Core.Bool.{true, false, not, _&&_, _||_}
 use mathlib.Core.List.{List}
 use native.Mathlib.Omega.{arith}
 use native.Mathlib.Decide.{ℕ-discrete}
@@ -19,11 +19,10 @@ use Rattle.theory.proofs.Tests.{both, clash, below-at}
 use Rattle.theory.proofs.Loops.{below-none, below-more, below-not}
 use Rattle.tables.specs.Work.{Wrote}
 use Rattle.tables.proofs.WorkLaws.{wrote-none, wrote-set}
-use Rattle.entries.specs.Entry.{entryAt}
-use Rattle.directory.specs.Listed.{entriesOf, countOf, placeOf, DirectoryListed}
+use Rattle.directory.specs.Listed.{entriesOf, countOf, DirectoryListed}
 use Rattle.directory.specs.declared.Directory.{Directory as Where}
-use Rattle.directory.proofs.Places.{count-is, count-short, directory-kept, entry-is, root-inside}
-use Rattle.nodes.specs.Nodes.{nodeReached, nodeA, nodeB, EntryNode, NodeStands, NodesStand, NodesFresh}
+use Rattle.directory.proofs.Places.{count-is, directory-kept}
+use Rattle.nodes.specs.Nodes.{nodeReached, nodeA, nodeB, EntryNode, NodeStands, NodesFresh}
 use Rattle.entry_rules.specs.Names.{ObjectNamed}
 use Rattle.entry_rules.proofs.Fields.{fields-first, name-fits}
 

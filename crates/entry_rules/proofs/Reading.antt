@@ -1,6 +1,6 @@
 -- The node of an entry, packed from its fields.
 use Prim.Native.Nat.{ℕ, _<_}
-use mathlib.Core.Path.{_≡_, refl, sym, ap, _∙_}
+use mathlib.Core.Path.{_≡_, sym, ap, _∙_}
 use mathlib.Core.Bool.{Bool, true, false, not, _||_}
 use native.Mathlib.Omega.{arith}
 use lib.Dec.{eqb}
@@ -10,7 +10,7 @@ use Rattle.format.specs.Layout.Entry.{name, colour, left, right, child, isStora
 use Rattle.theory.proofs.Tests.{clash}
 use Rattle.entries.proofs.NameLaws.{name-length}
 use Rattle.nodes.specs.Slots.{slotOf}
-use Rattle.nodes.specs.Nodes.{nodeReached, Packable, Packed, EntryNode}
+use Rattle.nodes.specs.Nodes.{Packable, Packed, EntryNode}
 use Rattle.nodes.proofs.Slots.{slot-most}
 use Rattle.entry_rules.specs.Names.{ObjectNamed}
 

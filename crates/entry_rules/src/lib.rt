@@ -190,18 +190,3 @@ pub fn read_entries(img: &[u8], work: &mut [u32], d: Directory) -> bool
     }
     true
 }
-
-pub fn entry_rules(img: &[u8], work: &[u32], d: Directory) -> bool
-    requires { ⌜ DirectoryListed d (now img) (now work) ⌝ }
-    ensures { λ r. ⌜ r ≡ entryRules (entriesOf d (now (img .entry))) ⌝ }
-{
-    let n = d.count();
-    let mut x = EntryId::ROOT;
-    while x.index() < n {
-        if !entry_fields(img, place(work, d, x), x) {
-            return false;
-        }
-        x = x.next();
-    }
-    true
-}

@@ -1,3 +1,2 @@
--- Laws for the functions on the trees of the directory.
-pub mod Standing
-pub mod Verdicts
+-- What the answers of the walk say.
+pub mod Passes

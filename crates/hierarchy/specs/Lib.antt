@@ -1,2 +1,2 @@
--- The tests of one entry's place in its tree.
-pub mod Places
+-- What the walk over the trees answers, and the test of the last pass.
+pub mod Walked

@@ -5,7 +5,7 @@ use mathlib.Core.Bool.{Bool, true, false}
 use native.Mathlib.Omega.{arith}
 use borrow.Author.Tests.{eq-eqb, ne-eqb, eqb-false}
 use lib.Dec.{eqb}
-use Rattle.nodes.specs.Nodes.{nodeLeft, nodeRight, nodeChild, nodeUnits, nodeRed, nodeReached, nodeReach, Packable, Packed}
+use Rattle.nodes.specs.Nodes.{nodeLeft, nodeChild, nodeUnits, nodeRed, nodeReached, nodeReach, Packable, Packed}
 
 -- a bit of a number
 clear-bit : (k : ℕ) → k ≡ 0 → eqb k 1 ≡ false

@@ -1,7 +1,7 @@
 // Nodes: the place of each entry in the trees, packed into two numbers of the work buffer. They name each other by slots.
 ghost use mathlib.Core.Path.{_≡_};
 ghost use mathlib.Core.Bool.{false};
-ghost use Prim.Native.Nat.{_+_, _*_, _≤_, _<_};
+ghost use Prim.Native.Nat.{_+_, _*_, _<_};
 ghost use lib.Dec.{eqb};
 ghost use lib.ListN.{length, getD, set};
 ghost use Rattle.nodes.specs.Slots.{slotOf, entryOf};

@@ -40,6 +40,11 @@ module _ (p : ℕ → Bool) where
   unfolding allBelow
   below-more n a b = rw (add-one, a, b)
 
+  -- the same of a test that goes on
+  pub below-next : (n : ℕ) → allBelow (n + 1) p ≡ (allBelow n p && p n)
+  unfolding allBelow
+  below-next n = rw add-one
+
   pub below-not : (n i : ℕ) → i < n → p i ≡ false → allBelow n p ≡ false
   unfolding allBelow
   below-not zero i h e = absurd (omega arith)

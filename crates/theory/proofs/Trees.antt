@@ -5,7 +5,6 @@ pub mod Depth
 pub mod Stand
 pub mod Nodes
 pub mod Sides
-pub mod Order
 pub mod Rises
 pub mod Spines
 pub mod Rules
@@ -14,11 +13,6 @@ pub mod Marks
 pub mod Walk
 pub mod Coming
 pub mod Descent
-pub mod Stack
-pub mod Slices
-pub mod Walking
-pub mod Passes
-pub mod Verdict
 pub mod Names
 pub mod Find
 pub mod Inorder

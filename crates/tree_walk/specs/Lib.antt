@@ -1,2 +1,2 @@
--- What the walk over the trees requires and leaves.
-pub mod Lent
+-- What the turns of the walk over the trees require and leave.
+pub mod Walking

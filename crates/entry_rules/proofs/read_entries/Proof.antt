@@ -1,17 +1,15 @@
 use borrow.Author.Needs.{needs}
 use Prim.Native.Nat.{_+_, _-_, _*_, _≤_, _<_}
 use mathlib.Core.Path.{_≡_, refl, sym, ap, _∙_}
-use mathlib.Core.Bool.{true, false}
 use native.Mathlib.Omega.{arith}
 use borrow.Author.Tests.{not-true, not-false}
 use lib.ListN.{length}
 use Rattle.format.specs.Rules.Entries.{entryFields, entryRight}
 use Rattle.theory.proofs.Tests.{clash}
 use Rattle.entries.specs.Entry.{entryAt}
-use Rattle.directory.specs.Listed.{entriesOf, placeOf, DirectoryListed}
+use Rattle.directory.specs.Listed.{entriesOf, DirectoryListed}
 use Rattle.directory.proofs.Places.{countable, count-is, count-short, placed, place-inside, entry-is, root-inside}
 use Rattle.nodes.specs.Nodes.{EntryNode}
-use Rattle.entry_rules.proofs.Ruled.{entry-tested}
 use Rattle.entry_rules.proofs.Passing.{Passed, object-named, passed-start, passed-listed, passed-wrong, passed-more, passed-rules, passed-nodes}
 use Rattle.entry_rules.proofs.read_entries.Statement.{statement}
 use Rattle.entry_rules.proofs.read_entries.Tie as tie
@@ -70,10 +68,13 @@ read-entries-spec =
     (λ c κs. let t = c .before .before .before .before .before in omega (arith, inside t, few t))  -- at-requires
     (λ c κs.
     let at = c .before .before .before .before in
-    let t = at .before .before in
-    (omega (arith, at .place .ensures, place-inside (listed t) _ (inside t)),
-    ((omega (arith, count t, inside t), omega (arith, count t, few t)),
-    object-named _ _ (sym (c .before .before .before .entry-fields .ensures) ∙ not-false _ (c .before .before .if2 .left)))))  -- node-of-requires
+    let t = at .before .before in (
+      omega (arith, at .place .ensures, place-inside (listed t) _ (inside t)),
+      (
+        (omega (arith, count t, inside t), omega (arith, count t, few t)),
+        object-named _ _ (sym (c .before .before .before .entry-fields .ensures) ∙ not-false _ (c .before .before .if2 .left)),
+      ),
+    ))  -- node-of-requires
     (λ c κs. let t = c .before .before .before .before .before .before .before in omega (arith, c .before .at .ensures, room t, inside t))  -- put-node-requires
     (λ c κs. let t = c .before .before .before .before .before .before .before .before .before .before in omega (arith, inside t, few t))  -- next-requires
     (λ c. let t = c .before .before .before .before .before .before .before .before .before .before .before in omega (arith, c .next .ensures, inside t, count t))  -- loop-less

@@ -46,7 +46,7 @@ repair-directory-spec =
     (λ c κs. hold (c .before .before .before))  -- open-directory-requires
     (λ c κs. let o = c .before .before .before .before .open-directory .ensures in (o .1 .0, rw (o .0) (hold (c .before .before .before .before .before .before .before .before) .chained)))  -- blacken-entries-requires
     (λ c κs.
-    let o = c .before .before .before .before .before .before .before .before .before .open-directory .ensures .1 .1 .1 in
+    let o = c .before .before .before .before .before .before .before .before .before .open-directory .ensures .1 .1 in
     let n = c .before .before .before .before .before .before .before .before .before .before .before .before .before in
     second-passed _ (c .before .before .before .before .before .before .before .before .before .before .before .before .before .before .before .before .before .before .before .before .before .before .pre) (right n) (many n) (black (c .before .before .before .before)) (o .0) (o .1 .long))  -- repair-entries-requires
     (λ c. search needs)  -- same-length-3
@@ -55,4 +55,4 @@ repair-directory-spec =
     let p = c .before .before .before .before .before .before .before .before .before .before .before .before .before .before .before .before .before .before .before .before .before .before .before .before .before .before .before .args in
     let b = c .before .before .before .before .before .before .before .before .before in
     let r = c .before .before .before .before .repair-entries .ensures in
-    (r .0 ∙ ap (thirdStep (geometryOf (p .g))) (black b) ∙ sym (second-taken _ _ (right (c .before .before .before .before .before .before .before .before .before .before .before .before .before .before .before .before .before .before))), wrote-two (c .before .before .before .before .before .before .before .before .before .before .before .before .before .before .open-directory .ensures .1 .1 .1 .1) (rw (b .blacken-entries .kept .0) at (r .1)))))  -- returns-2
+    (r .0 ∙ ap (thirdStep (geometryOf (p .g))) (black b) ∙ sym (second-taken _ _ (right (c .before .before .before .before .before .before .before .before .before .before .before .before .before .before .before .before .before .before))), wrote-two (c .before .before .before .before .before .before .before .before .before .before .before .before .before .before .open-directory .ensures .1 .1 .1) (rw (b .blacken-entries .kept .0) at (r .1)))))  -- returns-2

@@ -1,10 +1,10 @@
 -- The walk in rising order: what is still to come of a tree's siblings.
-use mathlib.Core.Path.{_≡_, refl, sym, ap, _∙_}
-use mathlib.Core.List.{List, [], _∷_, _++_, append-assoc}
+use mathlib.Core.Path.{_≡_}
+use mathlib.Core.List.{List, [], _∷_, append-assoc}
 use Prim.Native.Nat.{ℕ}
 use Rattle.format.specs.Layout.Entry.{NOSTREAM}
 use Rattle.format.specs.Layout.Directory.{Directory}
-use Rattle.format.specs.Layout.Tree.{Forest, siblings}
+use Rattle.format.specs.Layout.Tree.{siblings}
 use Rattle.theory.specs.TreeViews.{rows, at, leftOf, rightOf, Standing}
 use Rattle.theory.proofs.Trees.Grow.{grow-none}
 use Rattle.theory.proofs.Trees.Stand.{standing}

@@ -1,6 +1,6 @@
 -- The walk in rising order reaches what the walk of `theory` reaches: what is pending is the entry to go down to, the fields of those on the stack,
 -- and the trees that are still to be walked.
-use Prim.Native.Nat.{ℕ, _+_, _≤_, _<_}
+use Prim.Native.Nat.{ℕ, _+_}
 use mathlib.Core.Path.{_≡_, refl, sym, ap, _∙_}
 use mathlib.Core.Logic.{_≢_}
 use mathlib.Core.Bool.{Bool, true, false, _&&_}

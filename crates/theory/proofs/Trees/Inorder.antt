@@ -1,20 +1,20 @@
 -- The walk in order, turn by turn: its start, a turn that goes down, visits an entry or begins the next tree, what fails, and its end.
 use mathlib.Core.Path.{_≡_, refl, sym, ap, _∙_}
 use mathlib.Core.Logic.{_≢_}
-use mathlib.Core.Bool.{Bool, true, false, not, _&&_, and-true, and-false}
+use mathlib.Core.Bool.{Bool, true, false, not, _&&_, and-true}
 use mathlib.Core.List.{List, [], _∷_, _++_, append-nil}
-use Prim.Native.Nat.{ℕ, zero, suc, _+_, _≤_}
+use Prim.Native.Nat.{ℕ, zero, suc, _+_}
 use native.Mathlib.Omega.{arith}
 use borrow.Author.Tests.{lt-ltb}
 use lib.ListN.{length, getD, set}
 use Rattle.format.specs.Basics.Lists.{all}
 use Rattle.format.specs.Layout.Entry.{NOSTREAM}
 use Rattle.format.specs.Layout.Directory.{Directory}
-use Rattle.format.specs.Layout.Tree.{Forest, empty, siblings}
+use Rattle.format.specs.Layout.Tree.{siblings}
 use Rattle.format.specs.Rules.Trees.{sound, less, red, treeRules}
 use Rattle.theory.specs.TreeViews.{rows, leftOf, rightOf, childOf, at, whole, soundAt, shapeOk, Standing}
-use Rattle.theory.specs.TreeWalk.{Walk, fresh, covered}
-use Rattle.theory.specs.TreeInorder.{after, rising, nodesRight, treeRight, unwind, toCome, behind, follows, following, stackRight, rightAt, leftToTest, objectIn, LastIn, Inorder}
+use Rattle.theory.specs.TreeWalk.{fresh, covered}
+use Rattle.theory.specs.TreeInorder.{after, rising, nodesRight, treeRight, unwind, toCome, behind, follows, following, stackRight, rightAt, leftToTest, objectIn, Inorder}
 use Rattle.theory.proofs.Tests.{both, and-true-of, false-of, clash}
 use Rattle.theory.proofs.Trees.Grow.{grow-none}
 use Rattle.theory.proofs.Trees.Depth.{named-inside}

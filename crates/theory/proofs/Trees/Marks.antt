@@ -1,18 +1,16 @@
 -- Marks: what a mark set changes, and what it says that an entry is fresh.
 use mathlib.Core.Path.{_≡_, refl}
-use mathlib.Core.Logic.{_≢_}
-use mathlib.Core.Bool.{true, false, _&&_, and-false}
+use mathlib.Core.Bool.{true, _&&_}
 use mathlib.Core.List.{List, [], _∷_}
-use Prim.Native.Nat.{ℕ, zero, suc, _≤_, _<_}
+use Prim.Native.Nat.{ℕ, zero, suc, _<_}
 use native.Mathlib.Omega.{arith}
-use borrow.Author.Tests.{lt-ltb, le-ltb, eqb-true}
+use borrow.Author.Tests.{eqb-true}
 use lib.Dec.{eqb}
 use lib.ListN.{length, getD, set}
 use Rattle.format.specs.Basics.Lists.{bit}
 use Rattle.format.specs.Layout.Directory.{Directory}
 use Rattle.format.specs.Layout.Tree.{named}
 use Rattle.format.specs.Rules.Trees.{isObject}
-use Rattle.theory.specs.TreeViews.{rows}
 use Rattle.theory.specs.TreeWalk.{zeros, fresh}
 use Rattle.theory.proofs.Tests.{both}
 
@@ -38,17 +36,3 @@ module _ (d : Directory) (m : List ℕ) (x : ℕ) where
       let u = both (named d x) (isObject d x && eqb (getD m x 0) 0) e in
       let v = both (isObject d x) (eqb (getD m x 0) 0) (u .1) in
       (u .0, v .0, eqb-true (getD m x 0) 0 (v .1))
-
-  -- ---- the test, step by step
-
-  pub fresh-zero : x ≡ 0 → fresh d m x ≡ false
-  unfolding fresh
-  fresh-zero e = rw (le-ltb 0 x (omega arith))
-
-  pub fresh-past : rows d ≤ x → fresh d m x ≡ false
-  unfolding fresh
-  fresh-past h = rw (le-ltb x (rows d) h, and-false)
-
-  pub fresh-inside : x ≢ 0 → x < rows d → fresh d m x ≡ (isObject d x && eqb (getD m x 0) 0)
-  unfolding fresh
-  fresh-inside a b = rw (lt-ltb 0 x (omega arith), lt-ltb x (rows d) b)

@@ -114,10 +114,6 @@ module _ (d : Directory) where
     entries-few = pigeonhole (entries (whole d)) (rows d) (λ x c. entry-stands d (childOf d 0) shape-sound x c .inside) entries-once
 
     module _ (q : NodeTest) where
-      pub nodes-objects : everyNode q (whole d) ≡ true → (x : ℕ) → x < rows d → isObject d x ≡ true → testAt d q x ≡ true
-      nodes-objects t x l o =
-          all-at (testAt d q) (entries (whole d)) (sym (everyNode-all q (childOf d 0) shape-sound) ∙ t) x (object-counts x l o)
-
       pub objects-nodes : ((x : ℕ) → x < rows d → isObject d x ≡ true → testAt d q x ≡ true) → everyNode q (whole d) ≡ true
       objects-nodes h =
           everyNode-all q (childOf d 0) shape-sound

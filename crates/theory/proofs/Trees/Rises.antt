@@ -1,5 +1,5 @@
 -- Whole sides are in order exactly if the siblings of each tree rise.
-use mathlib.Core.Path.{_≡_, refl, sym, _∙_}
+use mathlib.Core.Path.{_≡_, refl}
 use mathlib.Core.Bool.{Bool, true, _&&_}
 use mathlib.Core.List.{List, [], _∷_, _++_}
 use Prim.Native.Nat.{ℕ}
@@ -10,7 +10,7 @@ use Rattle.format.specs.Rules.Trees.{less, greater, sidesOrdered, everyNode}
 use Rattle.theory.specs.TreeOrder.{Ordered}
 use Rattle.theory.proofs.Tests.{both, and-true-of, all-weaker}
 use Rattle.theory.proofs.Trees.Lists.{same-test}
-use Rattle.theory.proofs.Trees.Nodes.{everyNode-apart, everyNode-join}
+use Rattle.theory.proofs.Trees.Nodes.{everyNode-join}
 use Rattle.theory.proofs.Trees.Sides.{Sorted, sorted-apart}
 use Rattle.theory.specs.TreeInorder.{after, rising, belowRise, treeRises}
 

@@ -6,7 +6,6 @@ use Rattle.format.specs.Basics.Lists.{all}
 use Rattle.format.specs.Layout.Directory.{Directory}
 use Rattle.format.specs.Layout.Tree.{Forest, empty, broken, node, siblings}
 use Rattle.format.specs.Rules.Trees.{less, greater, sidesOrdered, everyNode}
-use Rattle.theory.specs.TreeOrder.{firstOr}
 use Rattle.theory.proofs.Tests.{both, all-append}
 use Rattle.theory.proofs.Trees.Nodes.{everyNode-apart}
 use Rattle.format.specs.Layout.Siblings.{greatest}
@@ -24,18 +23,12 @@ pub siblings-join : (p : ℕ → Bool) (l : Forest) (e : ℕ) (b r : Forest)
 unfolding siblings all
 siblings-join p l e b r s t u = rw (all-append, s, t, u)
 
--- the last and the first pass what all pass
+-- the last passes what all pass
 pub last-passes : (p : ℕ → Bool) (z : ℕ) (t : Forest) → p z ≡ true → all p (siblings t) ≡ true → p (greatest z t) ≡ true
 unfolding greatest
 last-passes p z empty h a = h
 last-passes p z broken h a = h
 last-passes p z (node l e b r) h a = let u = siblings-apart p l e b r a in last-passes p e r (u .1) (u .2)
-
-pub first-passes : (p : ℕ → Bool) (z : ℕ) (t : Forest) → p z ≡ true → all p (siblings t) ≡ true → p (firstOr z t) ≡ true
-unfolding firstOr
-first-passes p z empty h a = h
-first-passes p z broken h a = h
-first-passes p z (node l e b r) h a = let u = siblings-apart p l e b r a in first-passes p e l (u .1) (u .0)
 
 module _ (d : Directory) where
   abbrev pub Sorted : Forest → Type 0

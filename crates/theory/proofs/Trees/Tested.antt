@@ -1,10 +1,9 @@
 -- Group 15 is the right shape, and order and colours in one test.
-use mathlib.Core.Path.{_≡_, refl, sym, ap, _∙_}
+use mathlib.Core.Path.{_≡_, refl, sym, _∙_}
 use mathlib.Core.Bool.{Bool, true, false, not, _&&_, _||_}
-use Prim.Native.Nat.{ℕ}
 use Rattle.format.specs.Layout.Directory.{Directory}
 use Rattle.format.specs.Layout.Tree.{Forest, empty, broken, node, siblings}
-use Rattle.format.specs.Rules.Trees.{everyNode, less, red, sidesOrdered, topBlack, coloured, treeRules}
+use Rattle.format.specs.Rules.Trees.{everyNode, less, red, topBlack, coloured, treeRules}
 use Rattle.theory.specs.TreeViews.{whole, shapeOk}
 use Rattle.theory.specs.TreeOrder.{Ordered}
 use Rattle.theory.specs.TreeInorder.{rising, belowRise, treeRises, nodesRight, treeRight}

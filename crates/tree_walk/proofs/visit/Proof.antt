@@ -1,33 +1,59 @@
 use borrow.Author.Needs.{needs}
-use Prim.Native.Nat.{_+_, _<_}
+use Prim.Native.Nat.{_+_, _-_, _*_, _<_}
+use mathlib.Core.Path.{refl, ap, _∙_}
 use native.Mathlib.Omega.{arith}
-use lib.ListN.{length, length-set}
-use Rattle.directory.proofs.Places.{count-is}
+use lib.ListN.{length}
+use Rattle.theory.proofs.Loops.{said-yes, said-no}
+use Rattle.tables.proofs.WorkLaws.{wrote-none}
+use Rattle.tree_walk.specs.Walking.{waitTops, waitWork}
+use Rattle.tree_walk.proofs.Lends.{rows-are, room, height, met-most}
+use Rattle.tree_walk.proofs.Visits.{visit-in, visited, visit-falls, wait-in, visit-go}
 use Rattle.tree_walk.proofs.visit.Statement.{statement}
 use Rattle.tree_walk.proofs.visit.Tie as tie
 
--- the mark lies in the work buffer
-mark-in : (c : tie.After-index) → let p = c .before .before .before .before .before .before .before .before .before .args in p .base + c .index .result < length (p .work .now)
-mark-in c = let r = c .before .before .before .before .before .before .before .before .before .pre .0 in omega (arith, c .index .ensures, c .before .before .before .before .before .before .before .before .before .pre .1 .0, count-is (r .listed), r .room)
+-- the place of the nearest above
+up-in : (c : tie.After-struct-known) → 2 * c .before .count .result + 2 + (c .before .before .before .before .args .s .ups - 1) < length (c .before .before .before .before .args .work .now)
+up-in c = let g = c .before .before .before .before .pre .0 in omega (arith, c .before .count .ensures, rows-are (g .lent), room (g .lent), height g, met-most g, c .before .before .before .before .pre .1 .1)
 
 pub visit-spec : {M : Type 1} → statement M
 visit-spec =
     tie.close
     (tie.spec
-    (λ c κs. let p = c .before .before .before .pre in (p .0 .listed, p .1 .0))  -- left-of-requires
-    (λ c κs. let p = c .before .before .before .before .before .pre in (p .0 .listed, p .1 .0))  -- child-of-requires
-    (λ c κs. let p = c .before .before .before .before .before .before .before .pre in (p .0 .listed, p .1 .0))  -- right-of-requires
-    (λ c κs. search needs)  -- index-requires
-    (λ c. omega (arith, mark-in c))  -- add-work
-    (λ c. omega (arith, mark-in c))  -- mul-work
-    (λ c. mark-in c)  -- slice-write-work
-    (λ c. omega (arith, c .before .before .before .before .before .before .before .before .before .pre .1 .1))  -- mul-work-2
-    (λ c. simp length-set (omega (arith, c .before .before .before .before .before .before .before .before .before .pre .1 .1)))  -- slice-write-work-2
-    (λ c. omega (arith, c .before .before .before .before .before .before .before .before .before .pre .1 .1))  -- add-work-2
-    (λ c. omega (arith, c .before .before .before .before .before .before .before .before .before .pre .1 .1))  -- mul-work-3
-    (λ c. simp length-set (omega (arith, c .before .before .before .before .before .before .before .before .before .pre .1 .1)))  -- slice-write-work-3
-    (λ c. omega (arith, c .before .before .before .before .before .before .before .before .before .pre .1 .1))  -- add-work-3
-    (λ c. omega (arith, c .before .before .before .before .before .before .before .before .before .pre .1 .1))  -- mul-work-4
-    (λ c. simp length-set (omega (arith, c .before .before .before .before .before .before .before .before .before .pre .1 .1)))  -- slice-write-work-4
+    (λ c κs. search needs)  -- count-requires
+    (λ c. search needs)  -- sub-ups
+    (λ c. search needs)  -- mul-up
+    (λ c. search needs)  -- add-up
+    (λ c. omega (arith, up-in c))  -- add-up-2
+    (λ c. omega (arith, up-in c))  -- mul-t11
+    (λ c. up-in (c .before))  -- slice-read-t14
+    (λ c κs.
+    let p = c .before .before .before .before .before .before .pre in
+    visit-in (p .0) (p .1 .0) (p .1 .1) (c .before .before .before .count .ensures) refl)  -- node-at-requires
+    (λ c κs. search needs)  -- units-requires
+    (λ c κs.
+    let k = c .before .before in
+    let p = k .before .before .before .before .before .before .before .pre in
+    visited (p .0) (p .1 .0) (p .1 .1) (k .before .before .before .before .count .ensures) refl (k .node-at .ensures .0) (k .node-at .ensures .1) (c .units .ensures))  -- rises-requires
     (λ c. search needs)  -- same-length
-    (λ c. rw (c .index .ensures, c .before .right-of .ensures, c .before .before .before .child-of .ensures, c .before .before .before .before .before .left-of .ensures)))  -- returns
+    (λ c.
+    let k = c .before .before .before .before in
+    let p = k .before .before .before .before .before .before .before .pre in
+    record {
+      turned = visit-falls (p .0) (p .1 .0) (p .1 .1) (k .before .before .before .before .count .ensures) refl (k .node-at .ensures .0) (k .node-at .ensures .1) (said-no (c .if1 .taken) (c .before .rises .ensures));
+      wrote = wrote-none _ 0 _;
+    })  -- returns
+    (λ c κs. search needs)  -- child-requires
+    (λ c κs.
+    let k = c .before .before .before .before .before .before in
+    let p = k .before .before .before .before .before .before .before .pre in
+    wait-in (p .0) (p .1 .0) (p .1 .1) (k .before .before .before .before .count .ensures) refl (k .node-at .ensures .0) (k .node-at .ensures .1))  -- wait-requires
+    (λ c κs. search needs)  -- right-requires
+    (λ c κs. search needs)  -- is-red-requires
+    (λ c. search needs)  -- same-length-2
+    (λ c.
+    let u = c .before .before .before .before in
+    let k = u .before .before .before .before .before .before .before in
+    let p = k .before .before .before .before .before .before .before .pre in
+    visit-go (p .0) (p .1 .0) (p .1 .1) (k .before .before .before .before .count .ensures) refl (k .node-at .ensures .0) (k .node-at .ensures .1) (said-yes (u .before .before .before .if1 .left) (u .before .before .before .before .rises .ensures)) _
+    (c .before .right .ensures) (c .is-red .ensures) refl refl
+    (u .wait .ensures .1 ∙ ap (waitWork _ _ _) (u .before .child .ensures)) (u .wait .ensures .0 ∙ ap (waitTops _) (u .before .child .ensures))))  -- returns-2
