@@ -1,12 +1,12 @@
 -- The rules on cells in any space, by the tests over the cells of its table.
-use Prim.Native.Nat.{ℕ, _+_, _-_, _≤_, _<_}
+use Prim.Native.Nat.{ℕ, _+_, _-_, _<_}
 use mathlib.Core.Path.{_≡_, refl, sym, _∙_, ap₂}
 use mathlib.Core.Logic.{inl, inr}
 use mathlib.Core.Bool.{Bool, true, false, _||_, or-assoc, or-true}
 use native.Mathlib.Decide.{decLt}
 use native.Mathlib.Omega.{arith}
 use lib.Dec.{eqb, ltb, leb}
-use borrow.Author.Tests.{le-leb, lt-leb, ne-eqb}
+use borrow.Author.Tests.{le-leb, lt-leb}
 use Rattle.format.specs.Basics.Lists.{allBelow}
 use Rattle.format.specs.Layout.Chain.{END, FREE, FATSECT, DIFSECT}
 use Rattle.format.specs.Layout.Space.{Space}

@@ -2,22 +2,22 @@
 use Prim.Native.Nat.{ℕ, zero, suc, _+_, _-_, _*_, _≤_, _<_}
 use mathlib.Core.Path.{_≡_, refl, sym, _∙_}
 use mathlib.Core.Logic.{_⊎_, inl, inr}
-use mathlib.Core.Bool.{Bool, not, _&&_, _||_}
+use mathlib.Core.Bool.{not, _&&_, _||_}
 use mathlib.Core.List.{List}
 use native.Mathlib.Nat.{zero-add, add-zero}
 use native.Mathlib.Omega.{arith}
-use lib.Dec.{eqb, ltb, leb}
+use lib.Dec.{eqb, leb}
 use lib.ListN.{length}
 use borrow.Author.Tests.{lt-ltb, le-ltb}
 use Rattle.format.specs.Basics.Lists.{allBelow}
 use Rattle.format.specs.Basics.Bytes.{Bytes}
 use Rattle.format.specs.Layout.Geometry.{Geometry, countsDirectory, sectorCount, cellsIn}
 use Rattle.format.specs.Layout.Header.{fatCount, directoryCount, directoryStart}
-use Rattle.format.specs.Layout.Chain.{END, FREE, FATSECT, DIFSECT, chain, follow}
+use Rattle.format.specs.Layout.Chain.{END, chain, follow}
 use Rattle.format.specs.Layout.Tables.{fatCell, fatCells, sectorSpace}
 use Rattle.format.specs.Layout.Directory.{directorySectors}
 use Rattle.format.specs.Layout.Volume.{directorySectorsOf, volume}
-use Rattle.format.specs.Rules.Cells.{plainCell, tableMark, fatCellRight, restFree, cellRules}
+use Rattle.format.specs.Rules.Cells.{fatCellRight, restFree, cellRules}
 use Rattle.format.specs.Rules.Directory.{someChain, countRight, directoryRules}
 use Rattle.theory.proofs.Marks.{chain-end, chain-step}
 use Rattle.header.specs.Sized.{F}

@@ -4,3 +4,4 @@ pub mod Owners
 pub mod Listing
 pub mod Cells
 pub mod Groups
+pub mod Copied

@@ -14,13 +14,16 @@ ghost use Rattle.kinds.specs.Sizes.{geometryOf};
 ghost use Rattle.tables.specs.Work.{Wrote, Holds};
 ghost use Rattle.tables.specs.Views.{volumeOf, sectorCountOf, cellsOf, sectorsOf};
 ghost use Rattle.tables.specs.Listed.{FatListed};
-ghost use Rattle.chains.specs.Answers.{isBroken, isShared, andThen, SectorMarks, SectorsWalked, unitAt, lengthAnswer};
+ghost use Rattle.theory.specs.Marks.{isMark};
+ghost use Rattle.chains.specs.Answers.{isBroken, isShared, andThen, CellsCopied, UnitsWalked, unitAt, lengthAnswer};
 use header::count_right;
 use header::directory_start;
 use header::fat_count;
+use kinds::Geometry;
 use kinds::Sector;
 use tables::Tables;
 use tables::cell_at;
+use tables::copy_table;
 use tables::table_free;
 use tables::table_right;
 
@@ -70,29 +73,48 @@ impl Marked {
     }
 }
 
-// Marks the n sectors of a chain, each with how many are left from there.
-pub fn mark_chain(img: &[u8], work: &mut [u32], t: Tables, start: Sector, n: u32) -> Marked
-    requires { ⌜ SectorMarks t (now img) (now work) ⌝ }
-    ensures { λ r. ⌜ SectorsWalked t (now (img .entry)) n (start .0) (now (work .entry)) (now (work .exit)) r ⌝ }
+// Whether a number is a mark, and not a cell.
+pub fn is_mark(v: u32) -> bool
+    ensures { λ r. ⌜ r ≡ isMark v ⌝ }
 {
+    (0x8000_0000 < v) & (v < 0xFFFF_FFFC)
+}
+
+// The number of a unit of either kind as an index.
+fn index(unit: u32) -> usize
+    ensures { λ r. ⌜ (r ≡ unit) × (r < 0x1_0000_0000) ⌝ }
+{
+    unit as usize
+}
+
+// Marks the n units of a chain of either kind, each in the place of its cell with how many are left from there. The numbers of the units, `limit`
+// of them, stand from `at` on. A chain of more units than there are is broken without a walk.
+pub fn mark_chain(work: &mut [u32], at: usize, limit: usize, start: u32, n: u64) -> Marked
+    requires { ⌜ (at + limit ≤ length (now work)) × (limit < 0x1000_0000) ⌝ }
+    ensures { λ r. ⌜ UnitsWalked at limit n start (now (work .entry)) (now (work .exit)) r ⌝ }
+{
+    if (limit as u64) < n {
+        return Marked::Broken;
+    }
     let mut s = start;
-    let mut k = n;
+    let mut k = n as u32;
     while 0 < k {
-        if !s.below(t.sectors) {
+        let u = index(s);
+        if limit <= u {
             return Marked::Broken;
         }
-        let m = work[s.index()];
-        if 0 < m {
-            if m == k {
+        let v = work[at + u];
+        if is_mark(v) {
+            if v == 0x8000_0000 + k {
                 return Marked::Shared;
             }
             return Marked::Broken;
         }
-        work[s.index()] = k;
-        s = cell_at(img, work, t, s);
+        work[at + u] = 0x8000_0000 + k;
+        s = v;
         k -= 1;
     }
-    if s.is_end() {
+    if s == Sector::END.0 {
         return Marked::Fresh;
     }
     Marked::Broken
@@ -109,17 +131,19 @@ pub fn units_for(size: u64, unit: u64) -> u64
     size / unit + 1
 }
 
-// Marks the sectors of a chain that holds so many bytes. One of more sectors than there are is broken without a walk.
-pub fn mark_bytes(img: &[u8], work: &mut [u32], t: Tables, start: Sector, size: u64) -> Marked
-    requires { ⌜ SectorMarks t (now img) (now work) ⌝ }
-    ensures { λ r. ⌜ SectorsWalked t (now (img .entry)) (roundUp size (t .geometry .bytes)) (start .0) (now (work .entry)) (now (work .exit)) r ⌝ }
+// How many sectors hold so many bytes. Each version's size stands here as a constant, so that nothing is divided by a number that the compiler does
+// not know.
+pub fn sectors_for(size: u64, g: Geometry) -> u64
+    requires { ⌜ 1 < g .bytes ⌝ }
+    ensures { λ r. ⌜ r ≡ roundUp size (g .bytes) ⌝ }
 {
-    let g = t.geometry;
-    let n = units_for(size, g.bytes as u64);
-    if (t.sectors as u64) < n {
-        return Marked::Broken;
+    if g.bytes == Geometry::V3.bytes {
+        return units_for(size, 512);
     }
-    mark_chain(img, work, t, start, n as u32)
+    if g.bytes == Geometry::V4.bytes {
+        return units_for(size, 4096);
+    }
+    units_for(size, g.bytes as u64)
 }
 
 // ---- listing a chain
@@ -168,6 +192,17 @@ pub fn cell_rules(img: &[u8], work: &[u32], t: Tables) -> bool
     ensures { λ r. ⌜ r ≡ cellRules (sectorsOf t (now (img .entry))) ⌝ }
 {
     cells_below(img, work, t) & cells_rest(img, work, t)
+}
+
+// Copies the FAT's cells to the start of the work buffer, where chains can be marked then.
+pub fn copy_fat(img: &[u8], work: &mut [u32], t: Tables)
+    requires { ⌜ FatListed t (now img) (now work) ⌝ }
+    requires { ⌜ cellRules (sectorsOf t (now img)) ≡ true ⌝ }
+    ensures copied { λ _. ⌜ CellsCopied (sectorsOf t (now (img .entry))) 0 (now (work .exit)) ⌝ }
+    ensures wrote { λ _. ⌜ Wrote (now (work .entry)) (now (work .exit)) 0 (sectorCountOf t (now (img .entry))) ⌝ }
+{
+    let g = t.geometry;
+    copy_table(img, work, g, t.list, t.sectors, 0, Sector::DIFSECT.0);
 }
 
 // ---- group 13

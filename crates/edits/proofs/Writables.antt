@@ -2,6 +2,7 @@
 use Prim.Native.Nat.{ℕ, _+_, _*_, _≤_, _<_}
 use mathlib.Core.Path.{_≡_, subst}
 use mathlib.Core.List.{List}
+use native.Mathlib.Omega.{arith}
 use lib.ListN.{length, getD, take}
 use lib.Seq.{length-take-le, getD-take}
 use Rattle.format.specs.Basics.Lists.{count}
@@ -29,7 +30,7 @@ module _ {v : Opened} {img : Bytes} {work : List ℕ} (r : Readied v img work) (
     writable =
         record {
           room = l;
-          short = r .lists .mini .fat .sized .short;
+          short = omega (arith, r .lists .mini .fat .sized .short);
           some = unit-some;
           cells = λ j h. cell-listed r k (getD work j 0) (unit-below j h);
           cellRoom = λ j h. rw (cell-place r k (getD work j 0) (unit-below j h)) (cell-inside r k (getD work j 0) (unit-below j h));

@@ -4,7 +4,7 @@ use mathlib.Core.Path.{_≡_, _∙_}
 use mathlib.Core.Logic.{_⊎_, inl, inr}
 use mathlib.Core.List.{List}
 use native.Mathlib.Omega.{arith}
-use lib.ListN.{length, getD, set}
+use lib.ListN.{length, set}
 use borrow.Author.Tests.{lt-ltb}
 use Rattle.format.specs.Basics.Bytes.{Bytes}
 use Rattle.format.specs.Layout.Geometry.{Geometry, placeIn, cellsIn}
@@ -17,7 +17,7 @@ use Rattle.tables.specs.Words.{wordIn, tableCell}
 use Rattle.tables.specs.Work.{Wrote, Holds}
 use Rattle.tables.specs.Listed.{TableListed}
 use Rattle.tables.proofs.Places.{cells-some, cells-bytes, cells-short as short}
-use Rattle.tables.proofs.WorkLaws.{wrote-none, wrote-set, holds-same}
+use Rattle.tables.proofs.WorkLaws.{holds-same}
 use Rattle.minis.specs.Listed.{MiniListed, minisOf}
 use Rattle.minis.specs.declared.Minis.{Minis}
 
@@ -49,19 +49,11 @@ module _ {t : Minis} {img : Bytes} {w : List ℕ} (l : MiniListed t img w) where
   abbrev g : Geometry
   g = geometryOf (t .geometry)
 
-  pub listed-set : (u v : ℕ) → u < t .units → MiniListed t img (set w u v)
-  listed-set u v h =
-      let k : Wrote w (set w u v) 0 (t .units) = wrote-set u v (wrote-none w 0 _) (omega arith) (omega arith) in
-      listed-kept l k (omega (arith, l .apart))
-
   -- ---- bounds
 
   -- no mini sector has one of the special values for its number
   pub units-few : minisOf t img .limit ≤ 0x400_0000
   units-few = omega (arith, l .counts .count, l .counts .few, l .sized .short)
-
-  pub units-in-work : minisOf t img .limit ≤ length w
-  units-in-work = omega (arith, l .counts .count, l .apart, l .room)
 
   -- every mini sector has a cell
   pub cells-cover : t .units ≤ cellsIn g * t .sectors

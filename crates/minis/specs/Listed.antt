@@ -1,22 +1,23 @@
 -- The mini FAT's sectors stand listed in the work buffer, so that every cell can be looked up at once.
 use Prim.Native.Nat.{ℕ, _+_, _*_, _/_, _≤_, _<_}
 use mathlib.Core.Path.{_≡_}
-use mathlib.Core.Bool.{true}
+use mathlib.Core.Bool.{Bool, true}
 use mathlib.Core.List.{List}
 use lib.ListN.{length, getD}
 use Rattle.format.specs.Basics.Bytes.{Bytes}
+use Rattle.format.specs.Basics.Lists.{allBelow}
 use Rattle.format.specs.Layout.Geometry.{Geometry, sectorCount, cellsIn}
 use Rattle.format.specs.Layout.Chain.{chain}
 use Rattle.format.specs.Layout.Space.{Space}
 use Rattle.format.specs.Layout.Header.{miniFatCount, miniFatStart}
 use Rattle.format.specs.Layout.Tables.{fatCell}
 use Rattle.format.specs.Layout.Volume.{miniFatSectors, miniSpace}
-use Rattle.theory.specs.Marks.{marks, Closed}
+use Rattle.format.specs.Rules.Mini.{miniCellRight}
 use Rattle.kinds.specs.Sizes.{geometryOf}
 use Rattle.header.specs.Sized.{ImageSized}
+use Rattle.tables.specs.Work.{Wrote}
 use Rattle.tables.specs.declared.Tables.{Tables}
-use Rattle.chains.specs.Answers.{ChainWalked}
-use Rattle.chains.specs.declared.Marked.{Marked}
+use Rattle.chains.specs.Answers.{CellsCopied}
 use Rattle.minis.specs.declared.Minis.{Minis}
 
 -- K mini sectors, no more than an image has place for or the mini FAT has cells for; the mini FAT is a chain
@@ -45,16 +46,8 @@ pub record MiniListed (t : Minis) (img : Bytes) (work : List ℕ) : Type 0 where
   pub here : (k : ℕ) → k < t .sectors → getD work (t .list + k) 0 ≡ getD (miniFatSectors (geometryOf (t .geometry)) img) k 0
   pub below : (k : ℕ) → k < t .sectors → getD (miniFatSectors (geometryOf (t .geometry)) img) k 0 < sectorCount (geometryOf (t .geometry)) img
 
--- ---- marks
-
--- the marks of mini sectors agree with the mini FAT
-abbrev pub MinisClosed : Minis → Bytes → List ℕ → Type 0
-MinisClosed t img work = Closed (minisOf t img .cell) (minisOf t img .limit) (marks work)
-
--- and its sectors stand listed: chains may be marked
-pub record MiniMarks (t : Minis) (img : Bytes) (work : List ℕ) : Type 0 where
-  pub listed : MiniListed t img work
-  pub closed : MinisClosed t img work
-
-abbrev pub MinisWalked : Minis → Bytes → ℕ → ℕ → List ℕ → List ℕ → Marked → Type 0
-MinisWalked t img n s before after a = ChainWalked (minisOf t img .cell) (minisOf t img .limit) n s before after a
+-- The cells of the mini sectors have been copied into the work buffer from a place on, if they are right.
+pub record MinisCopied (t : Minis) (img : Bytes) (at : ℕ) (before after : List ℕ) (r : Bool) : Type 0 where
+  pub answer : r ≡ allBelow (minisOf t img .limit) (miniCellRight (minisOf t img))
+  pub copied : r ≡ true → CellsCopied (minisOf t img) at after
+  pub wrote : Wrote before after at (t .units)

@@ -54,7 +54,7 @@ module _ {v : Volume} {img : Bytes} {w : List ℕ} (s : OpenVolume v img w) wher
   opened-zero n h = verdict-accepted g img n opened-accepted ∙ ap (λ t. cond t 0 2) (le-leb (workNeed (length img)) n h)
 
   pub opened-short : length img < 0x1_0000_0000
-  opened-short = s .opened .ready .lists .mini .fat .sized .short
+  opened-short = omega (arith, s .opened .ready .lists .mini .fat .sized .short)
 
   -- ---- what it gives
 

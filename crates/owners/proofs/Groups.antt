@@ -1,52 +1,25 @@
--- Groups 17 and 18 by what the functions on streams and owners answer.
+-- Group 18 by the marks.
 use Prim.Native.Nat.{ℕ, _<_}
-use mathlib.Core.Path.{_≡_, refl, sym, _∙_}
+use mathlib.Core.Path.{_≡_, _∙_}
 use mathlib.Core.Logic.{⊎-elim}
-use mathlib.Core.Bool.{Bool, true, false, not, cond, _&&_, _||_, and-true}
+use mathlib.Core.Bool.{Bool, true, not, _&&_}
 use mathlib.Core.List.{List, [], _++_, append-assoc}
 use native.Mathlib.Decide.{decLt}
 use native.Mathlib.Omega.{arith}
-use lib.Dec.{ltb}
 use borrow.Author.Tests.{lt-ltb, ltb-true}
 use Rattle.format.specs.Basics.Bytes.{Bytes}
 use Rattle.format.specs.Basics.Lists.{allBelow, joinBelow, count, member}
-use Rattle.format.specs.Layout.Need.{cutoff}
 use Rattle.format.specs.Layout.Geometry.{Geometry, sectorCount}
-use Rattle.format.specs.Layout.Space.{Space, chainFor}
-use Rattle.format.specs.Layout.Entry.{isStream, start}
 use Rattle.format.specs.Layout.Tables.{fatCell, fatSectors, difatSectors, sectorSpace}
-use Rattle.format.specs.Layout.Volume.{Volume, volume, systemSectors, miniSpace}
-use Rattle.format.specs.Layout.Stream.{spaceFor, streamSize}
+use Rattle.format.specs.Layout.Volume.{volume, systemSectors, miniSpace}
 use Rattle.format.specs.Rules.Tables.{tableRules}
-use Rattle.format.specs.Rules.Streams.{streamChain, streamRight, streamRules}
 use Rattle.format.specs.Rules.Owners.{ownSectors, ownedSectors, ownedMinis, ownersIn}
 use Rattle.theory.specs.Marks.{Owning, covered}
 use Rattle.theory.proofs.Counts.{count-append}
 use Rattle.theory.proofs.OwnerMarks.{owners-by-marks}
-use Rattle.theory.proofs.Tests.{leb-not, below-ext, below-both}
 use Rattle.header.specs.Sized.{ImageSized}
 use Rattle.directory.proofs.Room.{table-once, unmarked}
 use Rattle.system_chains.specs.System.{systemChains}
-use Rattle.owners.specs.Streams.{largeRight, smallRight}
-
--- ---- group 17: the chains of the large streams and those of the small ones
-
-by-space : (f : Space → Bool) (m s : Space) (b c : Bool) → (not b || f (cond c m s)) ≡ ((not (b && not c) || f s) && (not (b && c) || f m))
-by-space f m s false c = refl
-by-space f m s true true = refl
-by-space f m s true false = sym (and-true (f s))
-
-stream-right : (v : Volume) (i : ℕ) → streamRight v i ≡ (largeRight v i && smallRight v i)
-unfolding streamRight streamChain largeRight smallRight spaceFor streamSize
-stream-right v i =
-    let e = v .directory .entry i in
-    rw (leb-not cutoff (streamSize v i)) (by-space (λ sp. chainFor sp (streamSize v i) (start e)) (v .minis) (v .sectors) (isStream e) (ltb (streamSize v i) cutoff))
-
-pub stream-rules : (v : Volume) → streamRules v ≡ (allBelow (v .directory .count) (largeRight v) && allBelow (v .directory .count) (smallRight v))
-unfolding streamRules
-stream-rules v =
-    let n = v .directory .count in
-    below-ext n (λ i. largeRight v i && smallRight v i) (streamRight v) (λ i l. stream-right v i) ∙ below-both n (largeRight v) (smallRight v)
 
 -- ---- group 18
 

@@ -1,4 +1,5 @@
 -- Laws for streams and owners.
+pub mod Both
 pub mod StreamLaws
 pub mod Marking
 pub mod Covered

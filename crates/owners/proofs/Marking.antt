@@ -1,21 +1,27 @@
--- The loop over all entries that marks the chain of each, in any space.
+-- The loop over all entries that marks the chain of each stream.
 use Prim.Native.Nat.{ℕ, _+_, _≤_, _<_}
-use mathlib.Core.Path.{_≡_, refl, sym, _∙_}
-use mathlib.Core.Bool.{Bool, true, false}
+use mathlib.Core.Path.{_≡_, refl, sym, _∙_, subst}
+use mathlib.Core.Bool.{true, false}
 use mathlib.Core.List.{List, [], _++_}
 use native.Mathlib.Numerals.{add-one}
 use native.Mathlib.Omega.{arith}
 use borrow.Author.Tests.{not-true, not-false}
+use Rattle.format.specs.Basics.Bytes.{Bytes}
 use Rattle.format.specs.Basics.Lists.{allBelow, joinBelow}
-use Rattle.format.specs.Layout.Space.{Space}
-use Rattle.theory.specs.Marks.{marks, Closed}
+use Rattle.format.specs.Layout.Volume.{Volume}
+use Rattle.format.specs.Rules.Streams.{streamRight, streamRules}
+use Rattle.format.specs.Rules.Owners.{ownSectors, ownMinis, ownedMinis}
 use Rattle.theory.proofs.Loops.{below-none, below-more, below-not}
-use Rattle.theory.proofs.Tests.{clash}
+use Rattle.tables.specs.Views.{volumeOf}
+use Rattle.tables.specs.declared.Tables.{Tables}
 use Rattle.tables.proofs.WorkLaws.{wrote-two}
-use Rattle.chains.specs.Answers.{isBroken, andThen, ChainsMarked}
+use Rattle.chains.specs.Answers.{isBroken, andThen}
 use Rattle.chains.specs.declared.Marked.{Marked}
 use Rattle.chains.specs.declared.Marked.the-variants.{Broken, Fresh}
-use Rattle.chains.proofs.Owners.{marked-none, marked-both}
+use Rattle.directory.specs.declared.Directory.{Directory}
+use Rattle.minis.specs.declared.Minis.{Minis}
+use Rattle.owners.specs.Streams.{StreamsMarkable, BothMarked, StreamMarked, StreamsMarked}
+use Rattle.owners.proofs.Both.{both-none, both-then, both-broken}
 
 join-none : (f : ℕ → List ℕ) → joinBelow 0 f ≡ []
 unfolding joinBelow
@@ -25,31 +31,39 @@ join-more : (n : ℕ) (f : ℕ → List ℕ) → joinBelow (n + 1) f ≡ joinBel
 unfolding joinBelow
 join-more n f = rw add-one
 
--- of n entries the first i are right and have been marked; `a` is the answer so far
-pub record Marking (sp : Space) (right : ℕ → Bool) (own : ℕ → List ℕ) (n i : ℕ) (w₀ w : List ℕ) (a : Marked) : Type 0 where
-  pub within : i ≤ n
-  pub rights : allBelow i right ≡ true
-  pub marked : ChainsMarked sp true (joinBelow i own) w₀ w a
+module _ (t : Tables) (m : Minis) (d : Directory) (img : Bytes) where
+  abbrev v : Volume
+  v = volumeOf (t .geometry) img
 
-pub marking-start : (sp : Space) (right : ℕ → Bool) (own : ℕ → List ℕ) (n : ℕ) {w : List ℕ} → Closed (sp .cell) (sp .limit) (marks w) → Marking sp right own n 0 w w Fresh
-marking-start sp right own n {w} c = record { within = omega arith; rights = below-none right; marked = rw join-none (marked-none sp w c) }
+  -- the first i entries are right and have been marked; `a` is the answer so far
+  pub record Marking (i : ℕ) (w₀ w : List ℕ) (a : Marked) : Type 0 where
+    pub within : i ≤ v .directory .count
+    pub rights : allBelow i (streamRight v) ≡ true
+    pub marked : BothMarked t m d img true (joinBelow i (ownSectors v)) (joinBelow i (ownMinis v)) w₀ w a
 
-module _ {sp : Space} {right : ℕ → Bool} {own : ℕ → List ℕ} {n i : ℕ} {w₀ w : List ℕ} {a : Marked} (m : Marking sp right own n i w₀ w a) where
-  module _ (l : i < n) {w′ : List ℕ} {b : Marked} (k : ChainsMarked sp (right i) (own i) w w′ b) where
-    pub marking-step : isBroken b ≡ false → Marking sp right own n (i + 1) w₀ w′ (andThen a b)
-    marking-step e =
-        let h : right i ≡ true = not-false (right i) (sym (k .answer) ∙ e) in
-        record { within = omega arith; rights = below-more right i (m .rights) h; marked = rw join-more (marked-both sp (m .marked) (rw h at k)) }
+module _ {t : Tables} {m : Minis} {d : Directory} {img : Bytes} where
+  pub marking-start : {w : List ℕ} → StreamsMarkable t m d img w → Marking t m d img 0 w w Fresh
+  marking-start z = record { within = omega arith; rights = below-none _; marked = rw (join-none (ownSectors (v t m d img)), join-none (ownMinis (v t m d img))) (both-none z) }
 
-    pub marking-broken : isBroken b ≡ true → ChainsMarked sp (allBelow n right) (joinBelow n own) w₀ w′ Broken
-    marking-broken e =
-        let h : allBelow n right ≡ false = below-not right n i l (not-true (right i) (sym (k .answer) ∙ e)) in
-        record {
-          answer = rw h;
-          closed = λ t. absurd (clash t h);
-          owners = λ t. absurd (clash t h);
-          wrote = wrote-two (m .marked .wrote) (k .wrote);
-        }
+  module _ {i : ℕ} {w₀ w : List ℕ} {a : Marked} (h : Marking t m d img i w₀ w a) where
+    module _ (l : i < v t m d img .directory .count) {w′ : List ℕ} {b : Marked} (k : StreamMarked t m d img i w w′ b) where
+      pub marking-step : isBroken b ≡ false → Marking t m d img (i + 1) w₀ w′ (andThen a b)
+      marking-step e =
+          let x : streamRight (v t m d img) i ≡ true = not-false _ (sym (k .answer) ∙ e) in
+          record {
+            within = omega arith;
+            rights = below-more (streamRight (v t m d img)) i (h .rights) x;
+            marked = rw (join-more i (ownSectors (v t m d img)), join-more i (ownMinis (v t m d img))) (both-then (h .marked) (rw x at k));
+          }
 
-  pub marking-end : n ≤ i → ChainsMarked sp (allBelow n right) (joinBelow n own) w₀ w a
-  marking-end l = let e : i ≡ n = omega (arith, m .within) in rw (← e, m .rights) (m .marked)
+      pub marking-broken : isBroken b ≡ true → StreamsMarked t m d img w₀ w′ Broken
+      unfolding streamRules
+      marking-broken e =
+          let x = below-not (streamRight (v t m d img)) _ i l (not-true _ (sym (k .answer) ∙ e)) in
+          both-broken _ _ x (wrote-two (h .marked .wrote) (k .wrote))
+
+    pub marking-end : v t m d img .directory .count ≤ i → StreamsMarked t m d img w₀ w a
+    unfolding streamRules ownedMinis
+    marking-end l =
+        let e : i ≡ v t m d img .directory .count = omega (arith, h .within) in
+        subst (λ k. BothMarked t m d img (allBelow k (streamRight (v t m d img))) (joinBelow k (ownSectors (v t m d img))) (joinBelow k (ownMinis (v t m d img))) w₀ w a) e (rw (h .rights) (h .marked))

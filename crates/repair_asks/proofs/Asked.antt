@@ -63,6 +63,10 @@ module _ (g : Geometry) (img : Bytes) where
   unfolding directoryHolds
   directory-says h = both (cellRules (volume g img .sectors)) (directoryRules (volume g img)) h .1
 
+  pub cells-say : directoryHolds (volume g img) ≡ true → cellRules (sectorSpace g img) ≡ true
+  unfolding directoryHolds volume
+  cells-say h = both (cellRules (volume g img .sectors)) (directoryRules (volume g img)) h .0
+
   -- ---- 14 to 16
 
   pub fields-wrong : entryRules (directory g img) ≡ false → entriesHold (volume g img) ≡ false

@@ -30,8 +30,7 @@ use Rattle.repair_laws.proofs.Freeing.{between-mini}
 use Rattle.repair_writes.specs.Cells.{cellByte, tableIn, TableRoom, CellsApart, mayFree}
 use Rattle.repair_writes.proofs.Tables.{fat-room, fat-apart, mini-place, mini-room, mini-sized, mini-chain, mini-apart}
 use Rattle.repair_writes.proofs.Owners.{sectors-freed, minis-freed}
-use Rattle.repair_owners.specs.Streams.{sectorMarks, StreamsMarked}
-use Rattle.repair_owners.proofs.Marking.{marks-room, in-work}
+use Rattle.repair_owners.specs.Streams.{StreamsMarked}
 
 -- ---- the mini FAT's cells, when the FAT's are freed
 
@@ -85,9 +84,6 @@ module _ (s : System) {img : Bytes} {work : List ℕ} (h : StreamsMarked s img w
   pub sectors-apart : CellsApart g work (s .tables .list) (s .tables .sectors)
   sectors-apart x y i j q hx hy = fat-apart (h .lists .mini .fat) tables x y i j q (omega (arith, fats-few)) (omega (arith, fats-few))
 
-  pub marks-in-work : sectorMarks img + s .tables .sectors ≤ length work
-  marks-in-work = omega (arith, marks-room (h .lists), in-work (h .lists))
-
   pub mini-cells-room : (b : Bytes) → length b ≡ length img → TableRoom gs work (s .minis .list) (length b) (s .minis .units)
   mini-cells-room b e u l = rw e (mini-room (h .lists .minis) u (omega (arith, cells-cover (h .lists .minis))))
 
@@ -101,20 +97,20 @@ module _ (s : System) {img : Bytes} {work : List ℕ} (h : StreamsMarked s img w
   between = unownedFreedIn (volumeOf (s .minis .geometry) img .sectors) (ownedSectors (volumeOf (s .minis .geometry) img)) img
 
   between-is : (b : Bytes)
-      → b ≡ release (tableIn g work (s .tables .list) (s .tables .sectors) (s .tables .sectors)) (pickBelow (s .tables .sectors) (mayFree g work (s .tables .list) (sectorMarks img) img)) img
+      → b ≡ release (tableIn g work (s .tables .list) (s .tables .sectors) (s .tables .sectors)) (pickBelow (s .tables .sectors) (mayFree g work (s .tables .list) 0 img)) img
       → b ≡ between
   unfolding volume
   between-is b e =
-      e ∙ sym (sectors-freed (h .lists .mini .fat) tables (sectorMarks img) (h .sectors))
+      e ∙ sym (sectors-freed (h .lists .mini .fat) tables 0 (h .sectors))
       ∙ ap (λ q. unownedFreedIn (volumeOf q img .sectors) (ownedSectors (volumeOf q img)) img) (sym (h .lists .same))
 
   module _ (r : allBelow (minisOf (s .minis) img .limit) (miniCellRight (minisOf (s .minis) img)) ≡ true) where
     pub freed-is : (b c : Bytes)
-        → b ≡ release (tableIn g work (s .tables .list) (s .tables .sectors) (s .tables .sectors)) (pickBelow (s .tables .sectors) (mayFree g work (s .tables .list) (sectorMarks img) img)) img
-        → c ≡ release (tableIn gs work (s .minis .list) (s .minis .units) (s .minis .units)) (pickBelow (s .minis .units) (mayFree gs work (s .minis .list) 0 b)) b
+        → b ≡ release (tableIn g work (s .tables .list) (s .tables .sectors) (s .tables .sectors)) (pickBelow (s .tables .sectors) (mayFree g work (s .tables .list) 0 img)) img
+        → c ≡ release (tableIn gs work (s .minis .list) (s .minis .units) (s .minis .units)) (pickBelow (s .minis .units) (mayFree gs work (s .minis .list) (s .tables .sectors) b)) b
         → c ≡ unownedFreed (volumeOf (s .tables .geometry) img) img
     unfolding unownedFreed volume
     freed-is b c e f =
         rw (between-is b e) at f
-        ∙ sym (minis-freed (h .lists .minis) 0 (h .minis) r between (cells-stay (h .lists .minis) mini-tables))
+        ∙ sym (minis-freed (h .lists .minis) (s .tables .sectors) (rw (h .lists .mini .fat .count) (h .minis)) r between (cells-stay (h .lists .minis) mini-tables))
         ∙ ap (λ q. unownedFreedIn (volumeOf q img .minis) (ownedMinis (volumeOf q img)) (unownedFreedIn (volumeOf q img .sectors) (ownedSectors (volumeOf q img)) img)) (h .lists .same)

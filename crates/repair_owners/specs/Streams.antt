@@ -1,5 +1,5 @@
 -- The chains of all streams are marked beside those of the system.
-use Prim.Native.Nat.{ℕ, _*_, _/_}
+use Prim.Native.Nat.{ℕ}
 use mathlib.Core.Path.{_≡_}
 use mathlib.Core.Bool.{Bool, true, cond, _&&_}
 use mathlib.Core.List.{List, _++_}
@@ -25,10 +25,6 @@ use Rattle.repair_writes.specs.Cells.{MarksSay}
 abbrev pub systemHolds : Geometry → Bytes → Bool
 systemHolds g img = tablesHold g img && directoryHolds (volume g img) && entriesHold (volume g img)
 
--- where the marks of sectors stand while mini sectors are marked: no image has so many mini sectors
-abbrev pub sectorMarks : Bytes → ℕ
-sectorMarks img = 8 * (length img / 512)
-
 -- the sectors of all chains: the system's and the streams'
 abbrev pub chainSectors : Geometry → Bytes → List ℕ
 chainSectors g img = systemChains g img ++ joinBelow (volume g img .directory .count) (ownSectors (volume g img))
@@ -36,8 +32,8 @@ chainSectors g img = systemChains g img ++ joinBelow (volume g img .directory .c
 -- the lists stand, and the marks are those of all chains
 pub record StreamsMarked (s : System) (img : Bytes) (work : List ℕ) : Type 0 where
   pub lists : ListsStand (s .tables) (s .directory) (s .minis) img work
-  pub sectors : MarksSay work (sectorMarks img) (sectorCountOf (s .tables) img) (chainSectors (geometryOf (s .tables .geometry)) img)
-  pub minis : MarksSay work 0 (minisOf (s .minis) img .limit) (ownedMinis (volumeOf (s .minis .geometry) img))
+  pub sectors : MarksSay work 0 (sectorCountOf (s .tables) img) (chainSectors (geometryOf (s .tables .geometry)) img)
+  pub minis : MarksSay work (sectorCountOf (s .tables) img) (minisOf (s .minis) img .limit) (ownedMinis (volumeOf (s .minis .geometry) img))
 
 -- group 17's answer, and that they are marked where it holds
 pub record StreamsLeft (s : System) (img : Bytes) (before after : List ℕ) (r : Bool) : Type 0 where

@@ -2,7 +2,7 @@
 // byte is written.
 ghost use mathlib.Core.Path.{_≡_};
 ghost use mathlib.Core.Bool.{true};
-ghost use Prim.Native.Nat.{_+_, _≤_};
+ghost use Prim.Native.Nat.{_≤_};
 ghost use lib.ListN.{length};
 ghost use Rattle.format.specs.Basics.Lists.{allBelow};
 ghost use Rattle.format.specs.Rules.Length.{workNeed};
@@ -10,18 +10,14 @@ ghost use Rattle.format.specs.Rules.Mini.{miniCellRight};
 ghost use Rattle.format.specs.Calls.RepairSteps.{unownedFreed, fourthStep};
 ghost use Rattle.kinds.specs.Sizes.{geometryOf};
 ghost use Rattle.header.specs.Sized.{ImageSized, W};
-ghost use Rattle.theory.specs.Marks.{marks};
-ghost use Rattle.tables.specs.Work.{Wrote, Holds};
+ghost use Rattle.tables.specs.Work.{Wrote};
 ghost use Rattle.tables.specs.Views.{volumeOf};
 ghost use Rattle.minis.specs.Listed.{minisOf};
 ghost use Rattle.volume.specs.Passed.{SystemMarked, SystemLeft};
 ghost use Rattle.repair_owners.specs.Streams.{systemHolds, StreamsMarked, StreamsLeft, streamsFreed};
 use chains::Length;
 use kinds::Geometry;
-use le::zero_first;
 use minis::cells_rest;
-use owners::mark_large_streams;
-use owners::mark_small_streams;
 use repair_asks::directory_holds;
 use repair_asks::entries_hold;
 use repair_asks::tables_hold;
@@ -32,33 +28,12 @@ use volume::mini_stage::SystemTables;
 
 // ---- marks
 
-// Copies the marks of the first n units to a place behind them.
-fn copy_marks(work: &mut [u32], n: usize, to: usize)
-    requires { ⌜ n ≤ to ⌝ }
-    requires { ⌜ to + n ≤ length (now work) ⌝ }
-    ensures wrote { λ _. ⌜ Wrote (now (work .entry)) (now (work .exit)) to n ⌝ }
-    ensures holds { λ _. ⌜ Holds (now (work .exit)) to n (marks (now (work .entry))) ⌝ }
-{
-    let mut u = 0;
-    while u < n {
-        work[to + u] = work[u];
-        u += 1;
-    }
-}
-
-// Group 17. Where it holds, the chains of all streams are marked beside those of the system, the sectors behind the mini sectors.
+// Group 17. Where it holds, the chains of all streams are marked beside those of the system.
 fn mark_streams(img: &[u8], work: &mut [u32], s: System) -> bool
     requires { ⌜ SystemMarked (s .tables) (s .directory) (s .minis) (now img) (now work) (s .shared) ⌝ }
     ensures { λ r. ⌜ StreamsLeft s (now (img .entry)) (now (work .entry)) (now (work .exit)) r ⌝ }
 {
-    let large = mark_large_streams(img, work, s.tables, s.directory);
-    if large.is_broken() {
-        return false;
-    }
-    copy_marks(work, s.tables.sectors, 8 * (img.len() / 512));
-    zero_first(work, s.minis.units);
-    let small = mark_small_streams(img, work, s.minis, s.directory);
-    !small.is_broken()
+    !owners::mark_streams(img, work, s.tables, s.minis, s.directory).is_broken()
 }
 
 // ---- what is asked
@@ -89,9 +64,8 @@ fn free_cells(img: &mut [u8], work: &[u32], s: System)
 {
     let t = s.tables;
     let m = s.minis;
-    let at = 8 * (img.len() / 512);
-    free_unowned(img, work, t.geometry, t.list, t.sectors, at);
-    free_unowned(img, work, m.geometry, m.list, m.units, 0);
+    free_unowned(img, work, t.geometry, t.list, t.sectors, 0);
+    free_unowned(img, work, m.geometry, m.list, m.units, t.sectors);
 }
 
 // Group 17 and the cells: where it holds, those of units that nobody owns become free. The chains of the system are marked.

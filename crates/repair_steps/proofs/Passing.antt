@@ -19,7 +19,7 @@ use Rattle.volume.specs.declared.mini_stage.System.{System}
 use Rattle.volume.specs.declared.mini_stage.SystemTables.{SystemTables}
 use Rattle.volume.specs.declared.mini_stage.SystemTables.the-variants.{Right}
 use Rattle.volume.proofs.MiniStage.{system-tables, system-marked}
-use Rattle.repair_asks.proofs.Asked.{tables-say, directory-says}
+use Rattle.repair_asks.proofs.Asked.{tables-say, cells-say, directory-says}
 use Rattle.repair_laws.specs.Tables.{Tabled}
 use Rattle.repair_laws.proofs.Tabled.{tabled-of, first-tables}
 use Rattle.repair_laws.proofs.Blackening.{second-tables}
@@ -52,7 +52,7 @@ module _ (s : Sizes) {A : Bytes} {w : List ℕ} (p : TablesPassed (geometryOf s)
 
   module _ (h : directoryHolds (volume g A) ≡ true) {n : ℕ} (c : n ≡ length (directorySectorsOf g A)) where
     pub second-asked : TablesHold g A w n
-    second-asked = record { listed = p .listed; whole = p .whole; tables = tables-say g A (p .tables); chained = directory-says g A h; count = c }
+    second-asked = record { listed = p .listed; whole = p .whole; tables = tables-say g A (p .tables); cells = cells-say g A h; chained = directory-says g A h; count = c }
 
     pub second-passed : {B : Bytes} {w′ : List ℕ} → B ≡ blackened (volume g A) A → FatListedAt g A w′ (sectorCount g A) (listPlace A) → length w′ ≡ length w → DirectoryPassed g B w′ n
     second-passed e l q =
@@ -67,6 +67,7 @@ module _ (s : Sizes) {A : Bytes} {w : List ℕ} (p : TablesPassed (geometryOf s)
             listed = listed-same k l;
             whole = rw (k .size, q) (p .whole);
             tables = tables-say g (blackened (volume g A) A) t;
+            cells = cells-say g (blackened (volume g A) A) d;
             chained = directory-says g (blackened (volume g A) A) d;
             count = c ∙ ap length (sym (second-dirs g z A tables h));
           };

@@ -20,14 +20,13 @@ use Rattle.format.specs.Rules.Mini.{miniCellRight}
 use Rattle.format.specs.Rules.Owners.{ownSectors, ownedSectors, ownedMinis}
 use Rattle.format.specs.Calls.SetLength.{release}
 use Rattle.format.specs.Calls.RepairSteps.{isUnowned, unownedFreedIn}
-use Rattle.theory.specs.Marks.{unmarked}
+use Rattle.theory.specs.Marks.{unmarked, marksAt}
 use Rattle.theory.proofs.OwnerMarks.{member-append}
 use Rattle.theory.proofs.Picks.{pick-same}
 use Rattle.theory.proofs.Counts.{eqb-cases}
 use Rattle.theory.proofs.Tests.{clash, below-at}
 use Rattle.kinds.specs.Sizes.{geometryOf}
 use Rattle.tables.specs.Listed.{FatListed}
-use Rattle.tables.specs.Stages.{listed}
 use Rattle.tables.specs.Views.{volumeOf, sectorsOf}
 use Rattle.tables.specs.declared.Tables.{Tables}
 use Rattle.minis.specs.Listed.{MiniListed, minisOf}
@@ -90,10 +89,10 @@ module _ {t : Tables} {img : Bytes} {work : List ℕ} (l : FatListed t img work)
   cell-read u h = ap (u32at img) (fat-place l u (omega (arith, l .covers))) ∙ sym (sectors-read g img u (omega (arith, l .covers)))
 
   module _ (o : MarksSay work at (sectorCount (geometryOf (t .geometry)) img) chained) where
-    unowned-sector : (u : ℕ) → u < sectorCount g img → isUnowned (ownedSectors (volume g img)) u ≡ (unmarked (listed work at) u && not (tableMark (fatCell g img u)))
+    unowned-sector : (u : ℕ) → u < sectorCount g img → isUnowned (ownedSectors (volume g img)) u ≡ (unmarked (marksAt at work) u && not (tableMark (fatCell g img u)))
     unfolding isUnowned
     unowned-sector u h =
-        rw (owned-are g img, member-append u (fatSectors g img ++ difatSectors g img) chained, table-sector u h, ← o u h, neither-is, no-mark (listed work at) u)
+        rw (owned-are g img, member-append u (fatSectors g img ++ difatSectors g img) chained, table-sector u h, ← o u h, neither-is, no-mark (marksAt at work) u)
 
     sector-test : (u : ℕ) → u < t .sectors → mayFree g work (t .list) at img u ≡ isUnowned (ownedSectors (volume g img)) u
     unfolding mayFree
@@ -123,9 +122,9 @@ module _ {m : Minis} {img : Bytes} {work : List ℕ} (l : MiniListed m img work)
       plain (minisOf m img .limit) (minisOf m img .cell u) (units-few l)
       (below-at (minisOf m img .limit) (miniCellRight (minisOf m img)) r u h)
 
-  unowned-mini : (u : ℕ) → u < minisOf m img .limit → isUnowned (ownedMinis (volumeOf (m .geometry) img)) u ≡ unmarked (listed work at) u
+  unowned-mini : (u : ℕ) → u < minisOf m img .limit → isUnowned (ownedMinis (volumeOf (m .geometry) img)) u ≡ unmarked (marksAt at work) u
   unfolding isUnowned
-  unowned-mini u h = rw (← o u h) (no-mark (listed work at) u)
+  unowned-mini u h = rw (← o u h) (no-mark (marksAt at work) u)
 
   -- an image in which the mini FAT's cells are those of this one
   module _ (b : Bytes) (same : (u : ℕ) → u < m .units → u32at b (cellByte (geometryOf (m .geometry)) work (m .list) u) ≡ minisOf m img .cell u) where
@@ -133,7 +132,7 @@ module _ {m : Minis} {img : Bytes} {work : List ℕ} (l : MiniListed m img work)
     unfolding mayFree
     mini-test u h =
         let i : u < minisOf m img .limit = omega (arith, l .counts .count) in
-        rw (same u h, mini-plain u i) (and-true (unmarked (listed work at) u) ∙ sym (unowned-mini u i))
+        rw (same u h, mini-plain u i) (and-true (unmarked (marksAt at work) u) ∙ sym (unowned-mini u i))
 
     pub minis-freed : unownedFreedIn (minisOf m img) (ownedMinis (volumeOf (m .geometry) img)) b
         ≡ release (tableIn gm work (m .list) (m .units) (m .units)) (pickBelow (m .units) (mayFree gm work (m .list) at b)) b

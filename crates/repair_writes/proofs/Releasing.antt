@@ -16,11 +16,10 @@ use Rattle.format.specs.Layout.Space.{Space}
 use Rattle.format.specs.Rules.Cells.{tableMark}
 use Rattle.format.specs.Calls.SetLength.{putCell, release}
 use Rattle.format.specs.Calls.RepairSteps.{restUnit, restUnits, restFreed}
-use Rattle.theory.specs.Marks.{unmarked}
+use Rattle.theory.specs.Marks.{unmarked, marksAt}
 use Rattle.theory.proofs.Bytes.{number-same, length-le32}
 use Rattle.theory.proofs.Sets.{getD-sets-out}
 use Rattle.theory.proofs.Picks.{pick-more, pick-skip}
-use Rattle.tables.specs.Stages.{listed}
 use Rattle.repair_writes.specs.Cells.{cellByte, tableIn, CellsApart, mayFree}
 
 release-none : (sp : Space) (img : Bytes) → release sp [] img ≡ img
@@ -113,7 +112,7 @@ module _ (g : Geometry) (work : List ℕ) (list at n : ℕ) (img₀ : Bytes) whe
     module _ (h : u < n) {r : Bool} (t : r ≡ mayFree g work list at img u) where
       asked : r ≡ free u
       unfolding mayFree
-      asked = t ∙ ap (λ c. unmarked (listed work at) u && not (tableMark c)) (a .later u (omega arith) h)
+      asked = t ∙ ap (λ c. unmarked (marksAt at work) u && not (tableMark c)) (a .later u (omega arith) h)
 
       pub pick-freed : r ≡ true → CellsApart g work list n → (next : Bytes) → next ≡ put32 img (cellByte g work list u) FREE → PickFreeing next (u + 1)
       pick-freed y far next e =

@@ -12,8 +12,7 @@ use Rattle.format.specs.Layout.Geometry.{Geometry}
 use Rattle.format.specs.Layout.Chain.{FREE}
 use Rattle.format.specs.Layout.Space.{Space}
 use Rattle.format.specs.Rules.Cells.{tableMark}
-use Rattle.theory.specs.Marks.{unmarked}
-use Rattle.tables.specs.Stages.{listed}
+use Rattle.theory.specs.Marks.{unmarked, marksAt}
 use Rattle.spaces.specs.Spaces.{listedPlace}
 
 -- the byte where cell u starts
@@ -41,10 +40,10 @@ TableRoom g work list len n = (u : ℕ) → u < n → CellRoom g work list len u
 abbrev pub CellsApart : Geometry → List ℕ → (list n : ℕ) → Type 0
 CellsApart g work list n = (x y i j : ℕ) → x ≢ y → x < n → y < n → i < 4 → j < 4 → cellByte g work list x + i ≢ cellByte g work list y + j
 
--- A cell that may become free: its unit has no mark, and it is not the cell of a table sector. The marks stand in the work buffer from `at` on.
+-- A cell that may become free: its unit has no mark, and it is not the cell of a table sector. The units' numbers stand in the work buffer from `at` on.
 unfoldable pub mayFree : Geometry → List ℕ → (list at : ℕ) → Bytes → ℕ → Bool
-mayFree g work list at img u = unmarked (listed work at) u && not (tableMark (u32at img (cellByte g work list u)))
+mayFree g work list at img u = unmarked (marksAt at work) u && not (tableMark (u32at img (cellByte g work list u)))
 
 -- of the first n units, those that are owned have a mark, and no others
 abbrev pub MarksSay : List ℕ → (at n : ℕ) → (owned : List ℕ) → Type 0
-MarksSay work at n owned = (u : ℕ) → u < n → ltb 0 (listed work at u) ≡ member u owned
+MarksSay work at n owned = (u : ℕ) → u < n → ltb 0 (marksAt at work u) ≡ member u owned

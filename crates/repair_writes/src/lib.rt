@@ -15,6 +15,7 @@ ghost use Rattle.entries.specs.Entry.{entryAt};
 ghost use Rattle.tables.specs.Views.{volumeOf};
 ghost use Rattle.directory.specs.Listed.{DirectoryListed};
 ghost use Rattle.repair_writes.specs.Cells.{cellByte, tableIn, CellRoom, TableRoom, CellsApart, mayFree};
+use chains::is_mark;
 use directory::Directory;
 use directory::place;
 use entries::entry_type;
@@ -44,7 +45,7 @@ fn may_free(img: &[u8], work: &[u32], g: Geometry, list: usize, at: usize, u: us
     ensures { λ r. ⌜ r ≡ mayFree (geometryOf g) (now (work .entry)) list at (now (img .entry)) u ⌝ }
 {
     let c = Sector(u32_at(img, listed_place(work, g, list, 4 * u)));
-    (work[at + u] == 0) & !(c.is_fat() | c.is_difat())
+    !is_mark(work[at + u]) & !(c.is_fat() | c.is_difat())
 }
 
 // The cells from number `from` to before number `to` become free.
@@ -60,7 +61,8 @@ pub fn free_rest(img: &mut [u8], work: &[u32], g: Geometry, list: usize, from: u
     }
 }
 
-// Of the first n cells, those of units with no mark become free, but not those of table sectors. The marks stand in the work buffer from `at` on.
+// Of the first n cells, those of units with no mark become free, but not those of table sectors. The units' numbers stand in the work
+// buffer from `at` on.
 pub fn free_unowned(img: &mut [u8], work: &[u32], g: Geometry, list: usize, n: usize, at: usize)
     requires { ⌜ TableRoom (geometryOf g) (now work) list (length (now img)) n ⌝ }
     requires { ⌜ CellsApart (geometryOf g) (now work) list n ⌝ }

@@ -1,5 +1,5 @@
 -- The walks along the chains that the system has, by what `format` says of them.
-use Prim.Native.Nat.{ℕ, _%_, _<_}
+use Prim.Native.Nat.{ℕ, _+_, _%_, _≤_, _<_}
 use mathlib.Core.Path.{_≡_, sym, _∙_, ap, ap₂}
 use mathlib.Core.Bool.{true, false}
 use mathlib.Core.List.{List}
@@ -21,12 +21,10 @@ use Rattle.format.specs.Rules.Directory.{directoryRules}
 use Rattle.format.specs.Rules.Mini.{miniFatChain, miniStreamChain}
 use Rattle.kinds.specs.declared.Geometry.{Geometry as Sizes}
 use Rattle.kinds.specs.Sizes.{geometryOf}
-use Rattle.header.specs.Sized.{ImageSized}
 use Rattle.tables.specs.Work.{Wrote}
-use Rattle.tables.specs.Views.{volumeOf, sectorCountOf}
+use Rattle.tables.specs.Views.{volumeOf, sectorCountOf, sectorsOf}
 use Rattle.tables.specs.declared.Tables.{Tables}
-use Rattle.tables.proofs.WorkLaws.{listed-kept}
-use Rattle.chains.specs.Answers.{ChainWalked, ChainsMarked}
+use Rattle.chains.specs.Answers.{Markable, UnitsWalked, ChainsMarked}
 use Rattle.chains.specs.declared.Marked.{Marked}
 use Rattle.chains.proofs.Owners.{marked-chain}
 use Rattle.entries.specs.Entry.{entryAt}
@@ -34,7 +32,7 @@ use Rattle.directory.specs.Listed.{entriesOf, placeOf, DirectoryListed}
 use Rattle.directory.specs.declared.Directory.{Directory}
 use Rattle.directory.proofs.Places.{entry-is, root-inside, directory-kept}
 use Rattle.directory.proofs.Sectors.{directory-chain, directory-units}
-use Rattle.system_chains.specs.System.{SectorLists}
+use Rattle.system_chains.specs.System.{SectorsMarkable, SystemMarkable}
 
 -- the entry that stands at its place
 pub entry-read : {d : Directory} {img : Bytes} {work : List ℕ} (g : Sizes) (x p : ℕ) → DirectoryListed d img work → d .geometry ≡ g → x < entriesOf d img .count
@@ -53,37 +51,44 @@ pub size-read : (g : Geometry) (img : Bytes) (x : ℕ) {e : Bytes} {n : ℕ} →
 unfolding sizeOf volume directory directoryOf
 size-read g img x h e = h ∙ ap (size (sizeWidth g)) e
 
--- the lists stay where only marks change
-pub sector-lists-kept : {t : Tables} {d : Directory} {img : Bytes} {w w′ : List ℕ} → SectorLists t d img w → Wrote w w′ 0 (sectorCountOf t img) → SectorLists t d img w′
-sector-lists-kept l r =
+-- chains may still be marked where some have been
+pub markable-after : {t : Tables} {d : Directory} {img : Bytes} {w w′ : List ℕ} → SystemMarkable t d img w → Markable (sectorsOf t img) 0 w′ → Wrote w w′ 0 (sectorCountOf t img) → SystemMarkable t d img w′
+markable-after m u r =
     record {
-      fat = listed-kept (l .fat) r (omega (arith, l .fat .apart));
-      directory = directory-kept (l .directory) r (omega (arith, l .behind));
-      same = l .same;
-      behind = l .behind;
+      sectors = record { sized = m .sectors .sized; count = m .sectors .count; units = u };
+      directory = directory-kept (m .directory) r (omega (arith, m .behind));
+      same = m .same;
+      behind = m .behind;
     }
 
 -- ---- one chain
 
-module _ {g : Geometry} {img : Bytes} {w w′ : List ℕ} {a : Marked} (z : ImageSized g img) where
-  -- a chain of n sectors from s
-  module _ (n s : ℕ) (r : ChainWalked (fatCell g img) (sectorCount g img) n s w w′ a) where
-    pub sectors-marked : ChainsMarked (sectorSpace g img) (chain (fatCell g img) (sectorCount g img) n s) (units (fatCell g img) n s) w w′ a
-    unfolding sectorSpace
-    sectors-marked = marked-chain (sectorSpace g img) n s (omega (arith, z .few)) r
+module _ {t : Tables} {img : Bytes} {w : List ℕ} (z : SectorsMarkable t img w) where
+  abbrev g : Geometry
+  g = geometryOf (t .geometry)
 
-    pub directory-marked : directoryRules (volume g img) ≡ true → n ≡ length (directorySectorsOf g img) → s ≡ directoryStart img → ChainsMarked (sectorSpace g img) true (directorySectorsOf g img) w w′ a
+  pub in-work : (0 + t .sectors ≤ length w) × (t .sectors < 0x1000_0000)
+  unfolding sectorSpace
+  in-work = (omega (arith, z .units .room, z .count), omega (arith, z .units .few, z .count))
+
+  -- a chain of n sectors from s
+  module _ (n s : ℕ) {w′ : List ℕ} {a : Marked} (r : UnitsWalked 0 (t .sectors) n s w w′ a) where
+    pub sectors-marked : ChainsMarked (sectorSpace g img) 0 (chain (fatCell g img) (sectorCount g img) n s) (units (fatCell g img) n s) w w′ a
+    unfolding sectorSpace
+    sectors-marked = marked-chain n s (z .units) (r (sectorSpace g img) (sym (z .count)) (z .units))
+
+    pub directory-marked : directoryRules (volume g img) ≡ true → n ≡ length (directorySectorsOf g img) → s ≡ directoryStart img → ChainsMarked (sectorSpace g img) 0 true (directorySectorsOf g img) w w′ a
     directory-marked h k l =
         let c : chain (fatCell g img) (sectorCount g img) n s ≡ true = rw (k, l) (directory-chain g img h) in
         let u : units (fatCell g img) n s ≡ directorySectorsOf g img = ap₂ (λ x y. units (fatCell g img) x y) k l ∙ directory-units g img h in
         rw (c, u) at sectors-marked
 
-    pub mini-fat-marked : n ≡ miniFatCount img → s ≡ miniFatStart img → ChainsMarked (sectorSpace g img) (miniFatChain (volume g img)) (miniFatSectors g img) w w′ a
+    pub mini-fat-marked : n ≡ miniFatCount img → s ≡ miniFatStart img → ChainsMarked (sectorSpace g img) 0 (miniFatChain (volume g img)) (miniFatSectors g img) w w′ a
     unfolding miniFatChain volume sectorSpace miniFatSectors
     mini-fat-marked k l = rw (k, l) at sectors-marked
 
-    pub mini-stream-marked : (z : ℕ) → z ≡ sizeOf (directory g img) 0 → z % 64 ≡ 0 → n ≡ roundUp z (g .sectorBytes) → s ≡ start (directory g img .entry 0)
-        → ChainsMarked (sectorSpace g img) (miniStreamChain (volume g img)) (miniStreamSectors g img) w w′ a
+    pub mini-stream-marked : (b : ℕ) → b ≡ sizeOf (directory g img) 0 → b % 64 ≡ 0 → n ≡ roundUp b (g .sectorBytes) → s ≡ start (directory g img .entry 0)
+        → ChainsMarked (sectorSpace g img) 0 (miniStreamChain (volume g img)) (miniStreamSectors g img) w w′ a
     unfolding miniStreamChain volume root rootSize chainFor sectorSpace miniStreamSectors unitsFor miniBytes
     mini-stream-marked b d h k l =
         let x : eqb (sizeOf (directory g img) 0 % 64) 0 ≡ true = rw (← d) (eq-eqb (b % 64) 0 h) in

@@ -7,19 +7,25 @@ use Rattle.format.specs.Basics.Bytes.{Bytes}
 use Rattle.format.specs.Layout.Geometry.{Geometry}
 use Rattle.format.specs.Layout.Volume.{Volume, directorySectorsOf, miniFatSectors, miniStreamSectors}
 use Rattle.format.specs.Rules.Mini.{miniFatChain, miniStreamChain}
-use Rattle.theory.specs.Marks.{marks, Owning}
+use Rattle.theory.specs.Marks.{Owning, marksAt}
 use Rattle.kinds.specs.Sizes.{geometryOf}
 use Rattle.tables.specs.Views.{volumeOf, sectorCountOf, cellsOf, sectorsOf}
-use Rattle.tables.specs.Listed.{FatListed}
 use Rattle.tables.specs.declared.Tables.{Tables}
-use Rattle.chains.specs.Answers.{ChainsMarked}
+use Rattle.header.specs.Sized.{ImageSized}
+use Rattle.chains.specs.Answers.{Markable, ChainsMarked}
 use Rattle.chains.specs.declared.Marked.{Marked}
 use Rattle.directory.specs.Listed.{DirectoryListed}
 use Rattle.directory.specs.declared.Directory.{Directory}
 
--- the FAT's and the directory's sectors stand listed, behind the marks of sectors
-pub record SectorLists (t : Tables) (d : Directory) (img : Bytes) (work : List ℕ) : Type 0 where
-  pub fat : FatListed t img work
+-- chains of sectors may be marked: their numbers stand at the start of the work buffer
+pub record SectorsMarkable (t : Tables) (img : Bytes) (work : List ℕ) : Type 0 where
+  pub sized : ImageSized (geometryOf (t .geometry)) img
+  pub count : t .sectors ≡ sectorCountOf t img
+  pub units : Markable (sectorsOf t img) 0 work
+
+-- and the directory's sectors stand listed behind them
+pub record SystemMarkable (t : Tables) (d : Directory) (img : Bytes) (work : List ℕ) : Type 0 where
+  pub sectors : SectorsMarkable t img work
   pub directory : DirectoryListed d img work
   pub same : d .geometry ≡ t .geometry
   pub behind : sectorCountOf t img ≤ d .list
@@ -35,8 +41,8 @@ systemRight v = miniFatChain v && miniStreamChain v
 -- all of them have been marked
 abbrev pub SystemWalked : Tables → Bytes → List ℕ → List ℕ → Marked → Type 0
 SystemWalked t img before after a =
-    ChainsMarked (sectorsOf t img) (systemRight (volumeOf (t .geometry) img)) (systemChains (geometryOf (t .geometry)) img) before after a
+    ChainsMarked (sectorsOf t img) 0 (systemRight (volumeOf (t .geometry) img)) (systemChains (geometryOf (t .geometry)) img) before after a
 
 -- and own their sectors; `shared` says whether two of them share one
 abbrev pub SystemOwned : Tables → Bytes → List ℕ → Bool → Type 0
-SystemOwned t img work shared = Owning (cellsOf t img) (sectorCountOf t img) (systemChains (geometryOf (t .geometry)) img) (marks work) shared
+SystemOwned t img work shared = Owning (cellsOf t img) (sectorCountOf t img) (systemChains (geometryOf (t .geometry)) img) (marksAt 0 work) shared

@@ -5,10 +5,10 @@ use mathlib.Core.Bool.{Bool, _&&_}
 use mathlib.Core.List.{List}
 use native.Mathlib.Nat.{add-assoc}
 use native.Mathlib.Omega.{arith}
-use lib.ListN.{length, getD, take, drop}
+use lib.ListN.{length, take, drop}
 use Rattle.format.specs.Basics.Bytes.{Bytes, AreBytes, part, number, u32at}
 use Rattle.format.specs.Basics.Lists.{allBelow}
-use Rattle.format.specs.Layout.Geometry.{Geometry, sectorPlace, cellsIn}
+use Rattle.format.specs.Layout.Geometry.{Geometry, cellsIn}
 use Rattle.format.specs.Layout.Chain.{isFree}
 use Rattle.format.specs.Layout.Tables.{fatCell}
 use Rattle.theory.proofs.Bytes.{u32-lt}

@@ -3,9 +3,9 @@ use mathlib.Core.Path.{_≡_}
 use mathlib.Core.Logic.{_⊎_}
 use mathlib.Core.Bool.{Bool, true, false, cond, _&&_, _||_}
 use mathlib.Core.List.{List}
-use Prim.Native.Nat.{ℕ, suc, _-_, _≤_, _<_}
+use Prim.Native.Nat.{ℕ, suc, _+_, _-_, _≤_, _<_}
 use lib.Dec.{eqb, ltb}
-use lib.ListN.{length, getD}
+use lib.ListN.{getD}
 use Rattle.format.specs.Basics.Lists.{count, member}
 use Rattle.format.specs.Layout.Chain.{END, DIFSECT, units, isFree}
 
@@ -52,9 +52,10 @@ isMark v = ltb MARK v && ltb v DIFSECT
 unfoldable pub markOf : ℕ → ℕ
 markOf v = cond (isMark v) (v - MARK) 0
 
-abbrev pub marksOf : List ℕ → ℕ → ℕ
-marksOf w u = markOf (getD w u 0)
+-- the marks among numbers that stand in a list from a place on, one for each unit
+abbrev pub marksAt : ℕ → List ℕ → ℕ → ℕ
+marksAt at w u = markOf (getD w (at + u) 0)
 
 -- where there is no mark, the cell stands
-pub record InPlace (cell : ℕ → ℕ) (w : List ℕ) : Type 0 where
-  pub stands : (u : ℕ) → u < length w → marksOf w u ≡ 0 → getD w u 0 ≡ cell u
+pub record InPlace (cell : ℕ → ℕ) (limit at : ℕ) (w : List ℕ) : Type 0 where
+  pub stands : (u : ℕ) → u < limit → marksAt at w u ≡ 0 → getD w (at + u) 0 ≡ cell u

@@ -4,7 +4,7 @@ pub mod Walks
 pub mod Outcomes
 pub mod MiniCounts
 pub mod ListsKept
-pub mod Clearing
+pub mod Copying
 pub mod MiniStage
 pub mod StreamList
 pub mod Opening

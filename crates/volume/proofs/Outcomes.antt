@@ -1,19 +1,17 @@
 -- The first rule that does not hold decides: the outcome of each stage.
 use Prim.Native.Nat.{ℕ, _≤_}
 use mathlib.Core.Path.{_≡_, refl, sym, _∙_, subst}
-use mathlib.Core.Bool.{Bool, true, false, _&&_, _||_, and-assoc}
+use mathlib.Core.Bool.{Bool, true, false, _&&_, and-assoc}
 use mathlib.Core.List.{List}
 use native.Mathlib.Omega.{arith}
 use lib.ListN.{length}
-use Rattle.format.specs.Basics.Lists.{allBelow}
 use Rattle.format.specs.Basics.Bytes.{Bytes}
-use Rattle.format.specs.Layout.Geometry.{Geometry}
-use Rattle.format.specs.Layout.Tables.{sectorSpace}
-use Rattle.format.specs.Layout.Volume.{Volume, volume, miniSpace}
+use Rattle.format.specs.Layout.Volume.{Volume, volume}
 use Rattle.format.specs.Rules.Length.{workNeed}
 use Rattle.format.specs.Rules.Cells.{restFree}
 use Rattle.format.specs.Rules.Mini.{miniFatChain, miniStreamChain, miniTables, miniRules}
-use Rattle.format.specs.Rules.Owners.{ownersIn, ownedSectors, ownedMinis, ownerRules}
+use Rattle.format.specs.Rules.Streams.{streamRules}
+use Rattle.format.specs.Rules.Owners.{ownerRules}
 use Rattle.format.specs.Rules.Verdict.{check}
 use Rattle.kinds.specs.declared.Geometry.{Geometry as Sizes}
 use Rattle.kinds.specs.declared.Refusal.{Refusal}
@@ -23,9 +21,9 @@ use Rattle.header.specs.Sized.{W}
 use Rattle.theory.proofs.Tests.{clash}
 use Rattle.tables.specs.Work.{Wrote}
 use Rattle.tables.proofs.WorkLaws.{wrote-wider, wrote-two}
-use Rattle.owners.specs.Streams.{largeRight, smallRight, ownersAnswer, isBroken, isRight}
+use Rattle.owners.specs.Streams.{ownersAnswer}
+use Rattle.owners.specs.declared.rules.Owners.the-variants.{Broken, Wrong as Unowned, Right as Owned}
 use Rattle.owners.specs.declared.rules.Owners.{Owners}
-use Rattle.owners.proofs.Groups.{stream-rules}
 use Rattle.volume.specs.Groups.{ownerGroups, miniGroups}
 use Rattle.volume.specs.Passed.{miniCellRules}
 use Rattle.volume.specs.Opened.{StageLeft}
@@ -37,49 +35,35 @@ pub wrote-ours : (img : Bytes) {w w′ : List ℕ} {n : ℕ} → Wrote w w′ 0 
 unfolding workNeed
 wrote-ours img r h = wrote-wider 0 _ r (omega arith) (omega arith)
 
--- ---- groups 17 and 18, by the answers for the two spaces
+-- ---- groups 17 and 18, by the answer on streams and owners
 
-two-streams : (c₁ o₁ c₂ o₂ : Bool) (k : ℕ) → (isBroken (ownersAnswer c₁ o₁) || isBroken (ownersAnswer c₂ o₂)) ≡ true → check (c₁ && c₂) 17 k ≡ 17
-unfolding ownersAnswer check
-two-streams false o₁ c₂ o₂ k h = refl
-two-streams true o₁ false o₂ k h = refl
-two-streams true true true true k h = absurd (clash h refl)
-two-streams true true true false k h = absurd (clash h refl)
-two-streams true false true true k h = absurd (clash h refl)
-two-streams true false true false k h = absurd (clash h refl)
+module _ (v : Volume) {a : Owners} (e : a ≡ ownersAnswer (streamRules v) (ownerRules v)) where
+  pub streams-break : a ≡ Broken → ownerGroups v ≡ 17
+  unfolding ownerGroups check ownersAnswer
+  streams-break h = go (streamRules v) (ownerRules v) (sym e ∙ h)
+    where
+      go : (c o : Bool) → ownersAnswer c o ≡ Broken → check c 17 (check o 18 0) ≡ 17
+      go false o k = refl
+      go true true k = absurd (let z : _≡_ {A = ℕ} 0 1 = cc in omega arith)
+      go true false k = absurd (let z : _≡_ {A = ℕ} 0 1 = cc in omega arith)
 
-two-right : (c₁ o₁ c₂ o₂ : Bool) → (isBroken (ownersAnswer c₁ o₁) || isBroken (ownersAnswer c₂ o₂)) ≡ false
-    → check (c₁ && c₂) 17 (check (o₁ && o₂) 18 0) ≡ check (isRight (ownersAnswer c₁ o₁) && isRight (ownersAnswer c₂ o₂)) 18 0
-unfolding ownersAnswer check
-two-right false o₁ c₂ o₂ h = absurd (clash refl h)
-two-right true true false o₂ h = absurd (clash refl h)
-two-right true false false o₂ h = absurd (clash refl h)
-two-right true true true true h = refl
-two-right true true true false h = refl
-two-right true false true true h = refl
-two-right true false true false h = refl
+  pub owners-break : a ≡ Unowned → ownerGroups v ≡ 18
+  unfolding ownerGroups check ownersAnswer
+  owners-break h = go (streamRules v) (ownerRules v) (sym e ∙ h)
+    where
+      go : (c o : Bool) → ownersAnswer c o ≡ Unowned → check c 17 (check o 18 0) ≡ 18
+      go true false k = refl
+      go true true k = absurd (let z : _≡_ {A = ℕ} 0 1 = cc in omega arith)
+      go false o k = absurd (let z : _≡_ {A = ℕ} 0 1 = cc in omega arith)
 
-module _ (g : Geometry) (img : Bytes) {a b : Owners} (e : a ≡ ownersAnswer (allBelow (volume g img .directory .count) (largeRight (volume g img))) (ownersIn (sectorSpace g img) (ownedSectors (volume g img))))
-    (f : b ≡ ownersAnswer (allBelow (volume g img .directory .count) (smallRight (volume g img))) (ownersIn (miniSpace g img) (ownedMinis (volume g img)))) where
-  owner-rules : ownerRules (volume g img) ≡ (ownersIn (sectorSpace g img) (ownedSectors (volume g img)) && ownersIn (miniSpace g img) (ownedMinis (volume g img)))
-  unfolding ownerRules volume
-  owner-rules = refl
-
-  pub streams-break : (isBroken a || isBroken b) ≡ true → ownerGroups (volume g img) ≡ 17
-  unfolding ownerGroups
-  streams-break h = rw (stream-rules (volume g img)) (two-streams _ _ _ _ _ (rw (e, f) at h))
-
-  by-owners : (isBroken a || isBroken b) ≡ false → ownerGroups (volume g img) ≡ check (isRight a && isRight b) 18 0
-  unfolding ownerGroups
-  by-owners h = rw (stream-rules (volume g img), owner-rules, e, f) (two-right _ _ _ _ (rw (e, f) at h))
-
-  pub owners-break : (isBroken a || isBroken b) ≡ false → (isRight a && isRight b) ≡ false → ownerGroups (volume g img) ≡ 18
-  unfolding check
-  owners-break h k = by-owners h ∙ rw k
-
-  pub owners-hold : (isBroken a || isBroken b) ≡ false → (isRight a && isRight b) ≡ true → ownerGroups (volume g img) ≡ 0
-  unfolding check
-  owners-hold h k = by-owners h ∙ rw k
+  pub owners-hold : a ≡ Owned → ownerGroups v ≡ 0
+  unfolding ownerGroups check ownersAnswer
+  owners-hold h = go (streamRules v) (ownerRules v) (sym e ∙ h)
+    where
+      go : (c o : Bool) → ownersAnswer c o ≡ Owned → check c 17 (check o 18 0) ≡ 0
+      go true true k = refl
+      go true false k = absurd (let z : _≡_ {A = ℕ} 0 1 = cc in omega arith)
+      go false o k = absurd (let z : _≡_ {A = ℕ} 0 1 = cc in omega arith)
 
 -- ---- group 16
 

@@ -32,7 +32,7 @@ module _ {g : Geometry} {img : Bytes} {w : List ℕ} {n : ℕ} (t : TablesHold g
   -- what changes before it
   module _ {v : List ℕ} {at m : ℕ} (r : Wrote w v at m) (h : at + m ≤ listPlace img) where
     pub hold-kept : TablesHold g img v n
-    hold-kept = record { listed = listed-kept (t .listed) r h; whole = omega (arith, t .whole, r .long); tables = t .tables; chained = t .chained; count = t .count }
+    hold-kept = record { listed = listed-kept (t .listed) r h; whole = omega (arith, t .whole, r .long); tables = t .tables; cells = t .cells; chained = t .chained; count = t .count }
 
     pub wrote-before : Wrote w v 0 (workNeed (length img))
     wrote-before = wrote-ours img (wrote-wider 0 (listPlace img) r (omega arith) (omega arith)) (omega arith)

@@ -9,14 +9,16 @@ use Rattle.format.specs.Basics.Lists.{allBelow}
 use Rattle.format.specs.Basics.Bytes.{Bytes}
 use Rattle.format.specs.Layout.Geometry.{Geometry, sectorCount}
 use Rattle.format.specs.Layout.Header.{miniFatCount}
-use Rattle.format.specs.Layout.Volume.{Volume, volume, directory, directorySectorsOf, miniSpace}
+use Rattle.format.specs.Layout.Tables.{sectorSpace}
+use Rattle.format.specs.Layout.Volume.{Volume, volume, directory, directorySectorsOf}
 use Rattle.format.specs.Rules.Length.{workNeed}
 use Rattle.format.specs.Rules.Tables.{tableRules}
+use Rattle.format.specs.Rules.Cells.{cellRules}
 use Rattle.format.specs.Rules.Directory.{directoryRules}
 use Rattle.format.specs.Rules.Entries.{entryRules}
 use Rattle.format.specs.Rules.Trees.{treeRules}
 use Rattle.format.specs.Rules.Mini.{miniFatChain, miniStreamChain, miniCellRight}
-use Rattle.theory.specs.Marks.{marks, Owning}
+use Rattle.theory.specs.Marks.{Owning, marksAt}
 use Rattle.kinds.specs.declared.Geometry.{Geometry as Sizes}
 use Rattle.kinds.specs.Sizes.{geometryOf}
 use Rattle.header.specs.Sized.{W}
@@ -28,7 +30,9 @@ use Rattle.directory.specs.Listed.{DirectoryListed}
 use Rattle.directory.specs.declared.Directory.{Directory}
 use Rattle.minis.specs.Listed.{MiniListed, minisAt}
 use Rattle.minis.specs.declared.Minis.{Minis}
-use Rattle.system_chains.specs.System.{SystemOwned}
+use Rattle.chains.specs.Answers.{CellsCopied}
+use Rattle.system_chains.specs.System.{SystemMarkable}
+use Rattle.owners.specs.Streams.{minisIn, StreamsMarkable, CellsRight, OnlySystem}
 use Rattle.volume.specs.declared.entry_stage.Entries.{Entries}
 use Rattle.volume.specs.declared.entry_stage.Entries.the-variants.{WrongFields, WrongTrees, Right as Whole}
 use Rattle.volume.specs.declared.mini_stage.MiniTable.{MiniTable}
@@ -43,6 +47,7 @@ pub record TablesHold (g : Geometry) (img : Bytes) (work : List ℕ) (n : ℕ) :
   pub listed : FatListedAt g img work (sectorCount g img) (listPlace img)
   pub whole : W img ≤ length work
   pub tables : tableRules g img ≡ true
+  pub cells : cellRules (sectorSpace g img) ≡ true
   pub chained : directoryRules (volume g img) ≡ true
   pub count : n ≡ length (directorySectorsOf g img)
 
@@ -59,11 +64,11 @@ pub record EntriesLeft (g : Geometry) (img : Bytes) (n : ℕ) (before after : Li
 
 -- ---- in group 16
 
--- no sector has a mark; the directory's sectors stand listed before the FAT's; the rest of the work buffer is untouched
-pub record Cleared (t : Tables) (d : Directory) (img : Bytes) (before after : List ℕ) : Type 0 where
+-- the FAT's cells stand at the start of the work buffer without a mark, and the directory's sectors are listed before the FAT's
+pub record TablesCopied (t : Tables) (d : Directory) (img : Bytes) (before after : List ℕ) : Type 0 where
   pub fat : FatListed t img after
-  pub directory : DirectoryListed d img after
-  pub clear : Owning (cellsOf t img) (sectorCountOf t img) [] (marks after) false
+  pub system : SystemMarkable t d img after
+  pub clear : Owning (cellsOf t img) (sectorCountOf t img) [] (marksAt 0 after) false
   pub room : 9 * (length img / 512) + 2 * sectorCountOf t img ≤ d .list
   pub wrote : Wrote before after 0 (workNeed (length img))
 
@@ -88,7 +93,7 @@ abbrev pub TableRight : Tables → Directory → Bytes → List ℕ → MiniTabl
 TableRight t d img work Wrong = miniCellRules (volumeOf (t .geometry) img) ≡ false
 TableRight t d img work (Right m) =
     (miniCellRules (volumeOf (t .geometry) img) ≡ true)
-    × ((m ≡ minisAt t img (miniSpace (geometryOf (t .geometry)) img .limit) (d .list - miniFatCount img)) × MiniListed m img work)
+    × ((m ≡ minisAt t img (minisIn t img .limit) (d .list - miniFatCount img)) × (MiniListed m img work × CellsCopied (minisIn t img) (sectorCountOf t img) work))
 
 -- ---- after group 16
 
@@ -100,10 +105,12 @@ pub record ListsStand (t : Tables) (d : Directory) (m : Minis) (img : Bytes) (wo
   pub before : m .list + m .sectors ≤ d .list
   pub room : 9 * (length img / 512) + sectorCountOf t img ≤ m .list
 
--- and the chains of the system are marked
+-- and the chains of the system are marked, those of streams not yet; `shared` says whether two of the system's share a sector
 pub record SystemMarked (t : Tables) (d : Directory) (m : Minis) (img : Bytes) (work : List ℕ) (shared : Bool) : Type 0 where
   pub lists : ListsStand t d m img work
-  pub owners : SystemOwned t img work shared
+  pub streams : StreamsMarkable t m d img work
+  pub only : OnlySystem t img work shared
+  pub cells : CellsRight t img
 
 -- the rules hold and the lists are those of the image's own tables, or one is broken
 abbrev pub SystemRight : Sizes → Bytes → Bool → List ℕ → SystemTables → Type 0

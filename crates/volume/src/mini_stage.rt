@@ -1,18 +1,18 @@
 // Group 16: the chains of the mini FAT and of the mini stream, and the mini FAT's cells.
 ghost use mathlib.Core.Path.{_≡_};
 ghost use Prim.Native.Nat.{_-_};
-ghost use Rattle.format.specs.Layout.Header.{miniFatCount};
 ghost use Rattle.format.specs.Rules.Mini.{miniTables};
 ghost use Rattle.kinds.specs.Sizes.{geometryOf};
 ghost use Rattle.tables.specs.Work.{Wrote};
-ghost use Rattle.tables.specs.Views.{volumeOf};
+ghost use Rattle.tables.specs.Views.{volumeOf, sectorCountOf};
 ghost use Rattle.tables.specs.Listed.{tablesOf};
 ghost use Rattle.directory.specs.Listed.{directoryAt};
 ghost use Rattle.volume.specs.Groups.{miniGroups};
-ghost use Rattle.volume.specs.Passed.{TablesHold, Cleared, MiniRoom, TableRight, SystemLeft};
+ghost use Rattle.volume.specs.Passed.{TablesHold, TablesCopied, MiniRoom, TableRight, SystemLeft};
 ghost use Rattle.volume.specs.Opened.{StageLeft};
 use super::Opened;
 use super::owner_stage::owner_groups;
+use chains::copy_fat;
 use directory::Directory;
 use directory::listed::list_directory;
 use directory::place;
@@ -22,10 +22,9 @@ use kinds::EntryId;
 use kinds::Geometry;
 use kinds::MiniSector;
 use kinds::Refusal;
-use le::zero_first;
 use minis::Minis;
-use minis::cells_below;
 use minis::cells_rest;
+use minis::copy_minis;
 use minis::list_minis;
 use system_chains::mark_system;
 use tables::Tables;
@@ -50,11 +49,13 @@ pub enum SystemTables {
     Right(System),
 }
 
-// Whether there is a cell for each mini sector, and the values of those cells are right. Lists the mini FAT's sectors before the directory's.
+// Whether there is a cell for each mini sector, and the values of those cells are right. Lists the mini FAT's sectors before the directory's, and copies the
+// cells behind those of the sectors.
 fn mini_table(img: &[u8], work: &mut [u32], t: Tables, d: Directory) -> MiniTable
     requires { ⌜ MiniRoom t d (now img) (now work) ⌝ }
     ensures answer { λ r. ⌜ TableRight t d (now (img .entry)) (now (work .exit)) r ⌝ }
-    ensures wrote { λ _. ⌜ Wrote (now (work .entry)) (now (work .exit)) (d .list - miniFatCount (now (img .entry))) (miniFatCount (now (img .entry))) ⌝ }
+    ensures wrote { λ _. ⌜ Wrote (now (work .entry)) (now (work .exit))
+        (sectorCountOf t (now (img .entry))) (d .list - sectorCountOf t (now (img .entry))) ⌝ }
 {
     let g = t.geometry;
     let list = d.list;
@@ -64,22 +65,21 @@ fn mini_table(img: &[u8], work: &mut [u32], t: Tables, d: Directory) -> MiniTabl
         return MiniTable::Wrong;
     }
     let minis = list_minis(img, work, t, k, list - m);
-    if !cells_below(img, work, minis) {
+    if !copy_minis(img, work, minis, t.sectors) {
         return MiniTable::Wrong;
     }
     MiniTable::Right(minis)
 }
 
-// Clears the marks of sectors, and lists the directory's sectors before the FAT's.
-fn clear_marks(img: &[u8], work: &mut [u32], t: Tables, n: usize) -> Directory
+// Copies the FAT's cells, and lists the directory's sectors before the FAT's.
+fn copy_tables(img: &[u8], work: &mut [u32], t: Tables, n: usize) -> Directory
     requires { ⌜ TablesHold (geometryOf (t .geometry)) (now img) (now work) n ⌝ }
     requires { ⌜ t ≡ tablesOf (t .geometry) (now img) ⌝ }
     ensures answer { λ r. ⌜ r ≡ directoryAt t n (t .list - n) ⌝ }
-    ensures cleared { λ r. ⌜ Cleared t r (now (img .entry)) (now (work .entry)) (now (work .exit)) ⌝ }
+    ensures copied { λ r. ⌜ TablesCopied t r (now (img .entry)) (now (work .entry)) (now (work .exit)) ⌝ }
 {
-    let sectors = t.sectors;
     let list = t.list;
-    zero_first(work, sectors);
+    copy_fat(img, work, t);
     list_directory(img, work, t, n, list - n)
 }
 
@@ -89,7 +89,7 @@ pub fn system_tables(img: &[u8], work: &mut [u32], g: Geometry, n: usize) -> Sys
     ensures { λ r. ⌜ SystemLeft g (now (img .entry)) (miniTables (volumeOf g (now (img .entry)))) (now (work .entry)) (now (work .exit)) r ⌝ }
 {
     let t = tables_of(img, g);
-    let d = clear_marks(img, work, t, n);
+    let d = copy_tables(img, work, t, n);
     let a = mark_system(img, work, t, d);
     if a.is_broken() {
         return SystemTables::Wrong;

@@ -8,7 +8,7 @@ ghost use Rattle.volume.specs.Opened.{StageLeft, Readied};
 use super::Opened;
 use super::Volume;
 use chains::list_chain;
-use chains::units_for;
+use chains::sectors_for;
 use directory::Directory;
 use directory::place;
 use entries::size;
@@ -16,8 +16,8 @@ use entries::start_sector;
 use kinds::EntryId;
 use kinds::Refusal;
 use minis::Minis;
-use owners::rules::minis_owned;
-use owners::rules::sectors_owned;
+use owners::rules::Owners;
+use owners::rules::owner_rules;
 use tables::Tables;
 
 // Lists the mini stream's sectors before the mini FAT's, which makes the volume ready.
@@ -30,7 +30,7 @@ fn list_stream(img: &[u8], work: &mut [u32], t: Tables, d: Directory, m: Minis) 
     let g = t.geometry;
     let list = m.list;
     let p = place(work, d, EntryId::ROOT);
-    let n = units_for(size(img, p, g), g.bytes as u64) as usize;
+    let n = sectors_for(size(img, p, g), g) as usize;
     let at = list - n;
     list_chain(img, work, t, start_sector(img, p), n, at);
     Volume {
@@ -54,13 +54,9 @@ pub fn owner_groups(
     ensures { λ r. ⌜ StageLeft (t .geometry) (now (img .entry)) (ownerGroups (volumeOf (t .geometry) (now (img .entry))))
         (now (work .entry)) (now (work .exit)) r ⌝ }
 {
-    let a = sectors_owned(img, work, t, d, shared);
-    let b = minis_owned(img, work, m, d);
-    if a.is_broken() | b.is_broken() {
-        return Opened::Refused(Refusal::Streams);
+    match owner_rules(img, work, t, m, d, shared) {
+        Owners::Broken => Opened::Refused(Refusal::Streams),
+        Owners::Wrong => Opened::Refused(Refusal::Owners),
+        Owners::Right => Opened::Ready(list_stream(img, work, t, d, m)),
     }
-    if !(a.is_right() & b.is_right()) {
-        return Opened::Refused(Refusal::Owners);
-    }
-    Opened::Ready(list_stream(img, work, t, d, m))
 }

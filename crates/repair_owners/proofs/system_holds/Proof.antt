@@ -15,7 +15,7 @@ use Rattle.tables.specs.Listed.{FatListedAt, listPlace}
 use Rattle.chains.specs.Answers.{lengthAnswer}
 use Rattle.volume.specs.Passed.{TablesHold}
 use Rattle.volume.proofs.Verdicts.{tables-wrote, has-length, length-is, has-none}
-use Rattle.repair_asks.proofs.Asked.{tables-say, directory-says}
+use Rattle.repair_asks.proofs.Asked.{tables-say, cells-say, directory-says}
 use Rattle.repair_owners.proofs.Asking.{tables-wrong, directory-wrong, entries-decide}
 use Rattle.repair_owners.proofs.system_holds.Statement.{statement}
 use Rattle.repair_owners.proofs.system_holds.Tie as tie
@@ -47,6 +47,7 @@ hold c =
       listed = listed e;
       whole = omega (arith, c .before .before .before .before .before .before .before .before .before .before .before .before .pre .1, wrote t .long);
       tables = tables-say _ _ (tables e);
+      cells = cells-say _ _ (right c);
       chained = directory-says _ _ (right c);
       count = length-is _ _ (found (c .before .before)) (c .n .given .1);
     }

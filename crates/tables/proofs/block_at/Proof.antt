@@ -4,7 +4,6 @@ use native.Mathlib.Nat.{mod-lt, mul-le-mul-left}
 use native.Mathlib.Omega.{arith}
 use lib.ListN.{length, getD}
 use Rattle.format.specs.Layout.Geometry.{sectorPlace, cellsIn}
-use Rattle.kinds.specs.Sizes.{geometryOf}
 use Rattle.tables.specs.Words.{blockAt}
 use Rattle.tables.proofs.block_at.Statement.{statement}
 use Rattle.tables.proofs.block_at.Tie as tie

@@ -22,7 +22,7 @@ listed : (c : tie.After-open-directory) → let p = c .before .before .before .b
 listed c =
     let t = c .before .before .before .before .pre in
     let o = c .open-directory .ensures .1 .1 in
-    record { listed = o .0; whole = omega (arith, t .whole, o .1 .long); tables = t .tables; chained = t .chained; count = t .count }
+    record { listed = o .0; whole = omega (arith, t .whole, o .1 .long); tables = t .tables; cells = t .cells; chained = t .chained; count = t .count }
 
 read : (c : tie.After-read-entries) → let p = c .before .before .before .before .before .before .before .before .args in TablesHold (geometryOf (p .g)) (p .img .now) (c .read-entries .last .1 .0) (p .n)
 read c =

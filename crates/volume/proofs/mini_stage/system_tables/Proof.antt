@@ -28,19 +28,19 @@ system-tables-spec =
     tie.close
     (tie.spec
     (λ c κs. let t = c .before .before .pre .listed in (t .sized, t .few))  -- tables-of-requires
-    (λ c κs. (hold (c .before), tables (c .before)))  -- clear-marks-requires
+    (λ c κs. (hold (c .before), tables (c .before)))  -- copy-tables-requires
     (λ c κs.
-    let d = c .before .before .before .clear-marks .ensures in
-    (record { fat = d .1 .fat; directory = d .1 .directory; same = ap (λ x. x .geometry) (d .0); behind = omega (arith, d .1 .room) }, (d .1 .clear .closed, hold (c .before .before .before .before .before) .chained)))  -- mark-system-requires
+    let d = c .before .before .before .copy-tables .ensures in
+    (d .1 .system, hold (c .before .before .before .before .before) .chained))  -- mark-system-requires
     (λ c κs. search needs)  -- is-broken-requires
     (λ c. search needs)  -- same-length
     (λ c.
     let k = c .before .before .before .before .before .before .before .before in
-    let d = k .clear-marks .ensures in
+    let d = k .copy-tables .ensures in
     system-for _ (sized (k .before .before)) (chains-wrong (hold (k .before .before)) (tables (k .before .before)) (d .0) (d .1) (c .before .before .before .before .mark-system .ensures) (sym (c .before .is-broken .ensures) ∙ c .if1 .taken)))  -- returns
     (λ c κs.
     let k = c .before .before .before .before .before .before .before .before .before in
-    let d = k .clear-marks .ensures in
+    let d = k .copy-tables .ensures in
     mini-room (hold (k .before .before)) (tables (k .before .before)) (d .0) (d .1) (c .before .before .before .before .before .mark-system .ensures) (whole (c .before)))  -- mini-table-requires
     (λ c. search needs)  -- enum-told
     (λ c. search needs)  -- enum-known-m
@@ -48,7 +48,7 @@ system-tables-spec =
     (λ c. search needs)  -- same-length-2
     (λ c.
     let k = c .before .before .before .before .before .before .before .before .before .before .before .before .before .before in
-    let d = k .clear-marks .ensures in
+    let d = k .copy-tables .ensures in
     let m = c .before .before .before .before .before .before .before .before .before .before .mark-system .ensures in
     let t = c .before .before .before .before .mini-table .ensures in
     system-for _ (sized (k .before .before))
@@ -56,7 +56,7 @@ system-tables-spec =
     (λ c. search needs)  -- same-length-3
     (λ c.
     let k = c .before .before .before .before .before .before .before .before .before .before .before .before .before .before .before .before in
-    let d = k .clear-marks .ensures in
+    let d = k .copy-tables .ensures in
     let m = c .before .before .before .before .before .before .before .before .before .before .before .before .mark-system .ensures in
     let t = c .before .before .before .before .before .before .mini-table .ensures in
     system-for _ (sized (k .before .before))

@@ -19,12 +19,12 @@ root : (c : tie.After-place) → let p = c .before .before .before .before .befo
 root c = let p = c .before .before .before .before .before .pre .mini in root-read _ _ (p .directory) (p .same) (c .place .ensures)
 
 -- how many sectors it has, and where it starts
-many : (c : tie.After-units-for) → let p = c .before .before .before .before .before .before .before .args in
-    c .units-for .result ≡ roundUp (sizeOf (directory (geometryOf (p .t .geometry)) (p .img .now)) 0) (p .t .geometry .bytes)
+many : (c : tie.After-sectors-for) → let p = c .before .before .before .before .before .before .before .args in
+    c .sectors-for .result ≡ roundUp (sizeOf (directory (geometryOf (p .t .geometry)) (p .img .now)) 0) (p .t .geometry .bytes)
 unfolding volume
 many c =
     let p = c .before .before .before .before .before .before .before .args in
-    c .units-for .ensures ∙ ap (λ n. roundUp n (p .t .geometry .bytes)) (size-read _ _ 0 (c .before .size .ensures) (root (c .before .before)))
+    c .sectors-for .ensures ∙ ap (λ n. roundUp n (p .t .geometry .bytes)) (size-read _ _ 0 (c .before .size .ensures) (root (c .before .before)))
 
 first : (c : tie.After-start-sector) → let p = c .before .before .before .before .before .before .before .before .before .args in
     c .start-sector .result .0 ≡ start (directory (geometryOf (p .t .geometry)) (p .img .now) .entry 0)
@@ -36,7 +36,7 @@ list-stream-spec =
     (tie.spec
     (λ c κs. let l = c .before .before .before .before .pre .mini .directory in placed l _ (root-inside l))  -- place-requires
     (λ c κs. let l = c .before .before .before .before .before .pre .mini .directory in omega (arith, c .place .ensures, place-inside l _ (root-inside l)))  -- size-requires
-    (λ c κs. omega (arith, c .before .before .before .before .before .before .pre .mini .fat .sized .wide))  -- units-for-requires
+    (λ c κs. omega (arith, c .before .before .before .before .before .before .pre .mini .fat .sized .wide))  -- sectors-for-requires
     (λ c. let p = c .before .before .before .before .before .before .before .pre in stream-fits p _ _ (many c) refl)  -- sub-at
     (λ c κs. let l = c .before .before .before .before .before .before .before .before .pre .mini .directory in omega (arith, c .before .before .before .place .ensures, place-inside l _ (root-inside l)))  -- start-sector-requires
     (λ c κs.

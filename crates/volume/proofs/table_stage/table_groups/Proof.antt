@@ -47,6 +47,7 @@ hold c =
       listed = t .table-rules .ensures .1 .listed (not-false _ (c .before .before .before .before .before .before .before .before .if2 .left));
       whole = omega (arith, c .before .before .before .before .before .before .before .before .before .before .before .before .before .before .before .before .before .pre .1, t .table-rules .kept .1 .0);
       tables = tables (c .before .before .before .before .before .before .before .before);
+      cells = cells (c .before .before .before .before);
       chained = has-length _ _ (found (c .before .before)) (c .n .given .1);
       count = length-is _ _ (found (c .before .before)) (c .n .given .1);
     }
