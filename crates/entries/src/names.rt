@@ -5,10 +5,11 @@ ghost use lib.ListN.{length};
 ghost use Rattle.format.specs.Layout.Name.{smallBy20, smallBy50, fold as folded, legalUnit};
 ghost use Rattle.format.specs.Layout.Entry.{nameUnit};
 ghost use Rattle.kinds.specs.Ordering.{ordering, unitOrdering};
-ghost use Rattle.entries.specs.Entry.{entryAt, nameAt, Field, NamedAt};
+ghost use Rattle.entries.specs.Entry.{entryAt, nameAt, Field, NamedAt, Alike};
 use super::half;
 use super::name_bytes;
 use kinds::Order;
+use le::u64_at;
 
 // ---- units
 
@@ -90,6 +91,23 @@ fn compare_units(u: u16, w: u16) -> Order
     Order::Same
 }
 
+// How many units, four at once, two names of n units have alike at their start.
+fn alike(img: &[u8], p: usize, q: usize, n: usize) -> usize
+    requires { ⌜ NamedAt (now img) p ⌝ }
+    requires { ⌜ NamedAt (now img) q ⌝ }
+    requires { ⌜ (n ≡ length (nameAt (now img) p)) × (n ≡ length (nameAt (now img) q)) ⌝ }
+    ensures { λ r. ⌜ Alike (nameAt (now (img .entry)) p) (nameAt (now (img .entry)) q) r ⌝ }
+{
+    let mut i: usize = 0;
+    while i + 4 <= n {
+        if u64_at(img, p + 2 * i) != u64_at(img, q + 2 * i) {
+            return i;
+        }
+        i += 4;
+    }
+    i
+}
+
 // The name of the entry at p to that of the entry at q, where both have n units.
 pub fn compare_alike(img: &[u8], p: usize, q: usize, n: usize) -> Order
     requires { ⌜ NamedAt (now img) p ⌝ }
@@ -97,7 +115,7 @@ pub fn compare_alike(img: &[u8], p: usize, q: usize, n: usize) -> Order
     requires { ⌜ (n ≡ length (nameAt (now img) p)) × (n ≡ length (nameAt (now img) q)) ⌝ }
     ensures { λ r. ⌜ r ≡ ordering (nameAt (now (img .entry)) p) (nameAt (now (img .entry)) q) ⌝ }
 {
-    let mut i: usize = 0;
+    let mut i = alike(img, p, q, n);
     while i < n {
         match compare_units(name_unit(img, p, i), name_unit(img, q, i)) {
             Order::Less => {

@@ -5,9 +5,9 @@ use Prim.Native.Nat.{_-_, _<_}
 use lib.ListN.{length}
 use Rattle.format.specs.Layout.Name.{Name, fold}
 use Rattle.format.specs.Layout.Entry.{name}
-use Rattle.theory.proofs.NameCompare.{Comparing, Turn, comparing-start, comparing-end, turn-less, turn-more, turn-on}
+use Rattle.theory.proofs.NameCompare.{Comparing, Turn, comparing-end, turn-less, turn-more, turn-on}
 use Rattle.entries.specs.Entry.{entryAt}
-use Rattle.entries.proofs.NameLaws.{unit-inside, unit-folded}
+use Rattle.entries.proofs.NameLaws.{unit-inside, unit-folded, comparing-alike}
 use Rattle.entries.proofs.Orderings.{is-less, is-same, is-more, unit-told}
 use Rattle.entries.proofs.names.compare_alike.Statement.{statement}
 use Rattle.entries.proofs.names.compare_alike.Tie as tie
@@ -27,7 +27,7 @@ two c = name (entryAt (c .before .args .img .now) (c .before .args .q))
 
 -- where the loop began
 abbrev began : tie.In-loop Inv-loop μ-loop → tie.After-shared-slice-known Inv-loop μ-loop
-began c = c .before .before
+began c = c .before .before .before
 
 within : (c : tie.In-loop Inv-loop μ-loop) → (c .before .loop .i < length (one (began c))) × (c .before .loop .i < length (two (began c)))
 within c =
@@ -51,7 +51,8 @@ pub compare-alike-spec : {M : Type 1} → statement M
 compare-alike-spec =
     tie.close
     (tie.spec Inv-loop μ-loop
-    (λ c. comparing-start fold (one c) (two c) (omega (arith, c .before .pre .1 .1 .0, c .before .pre .1 .1 .1)))  -- loop-holds
+    (λ c κs. search needs)  -- alike-requires
+    (λ c. comparing-alike fold (one (c .before)) (two (c .before)) _ (omega (arith, c .before .before .pre .1 .1 .0, c .before .before .pre .1 .1 .1)) (c .alike .ensures))  -- loop-holds
     (λ c κs. unit-inside (began c .before .pre .0) _ (within c .0))  -- name-unit-requires
     (λ c κs. unit-inside (began (c .before) .before .pre .1 .0) _ (within (c .before) .1))  -- name-unit-requires-2
     (λ c κs. search needs)  -- compare-units-requires
@@ -65,4 +66,4 @@ compare-alike-spec =
     turn-on (turn (c .before .before)) (omega (arith, e)) (omega (arith, e)))  -- loop-again
     (λ c. search needs)  -- enum-told-3
     (λ c. is-more _ _ (turn-more (turn (c .before .before)) (unit-told _ _ (c .before .before .compare-units .ensures) (c .enum-told3 .given .1))))  -- returns-2
-    (λ c. is-same _ _ (comparing-end (c .before .loop .inv) (omega (arith, c .loop-test .left, c .before .before .before .pre .1 .1 .0)))))  -- returns-3
+    (λ c. is-same _ _ (comparing-end (c .before .loop .inv) (omega (arith, c .loop-test .left, c .before .before .before .before .pre .1 .1 .0)))))  -- returns-3
