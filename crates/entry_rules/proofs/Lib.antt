@@ -4,3 +4,4 @@ pub mod Ruled
 pub mod Units
 pub mod Reading
 pub mod Passing
+pub mod Ahead

@@ -10,6 +10,7 @@ ghost use Rattle.directory.specs.Listed.{entriesOf, countOf, DirectoryListed};
 ghost use Rattle.tables.specs.Work.{Wrote};
 ghost use Rattle.nodes.specs.Nodes.{EntryNode, NodesFresh};
 ghost use Rattle.entry_rules.specs.Names.{unitLegal, restBelow, ObjectNamed};
+ghost use Rattle.entry_rules.specs.Ahead.{Near, inRow, coloursRight, aheadRight};
 use directory::Directory;
 use directory::place;
 use entries::child;
@@ -25,6 +26,7 @@ use entries::right;
 use entries::word;
 use entries::zeros;
 use kinds::EntryId;
+use le::least;
 use nodes::Node;
 use nodes::Slot;
 use nodes::put_node;
@@ -129,6 +131,49 @@ fn common_fields(img: &[u8], p: usize) -> bool
     colour(img, p) <= 1
 }
 
+// ---- scattered sectors
+
+// Whether the entries from x to `last` stand in a row.
+fn in_a_row(work: &[u32], d: Directory, x: EntryId, last: EntryId) -> bool
+    requires { ⌜ Near d (now work) (x .0) (last .0) ⌝ }
+    ensures { λ r. ⌜ r ≡ inRow d (now (work .entry)) (x .0) (last .0) ⌝ }
+{
+    let k = last.index() - x.index();
+    place(work, d, last) == place(work, d, x) + 128 * k
+}
+
+// Whether the colours of the entries from x up to `end` are right. Each is read, so that many can be at once.
+fn colours(img: &[u8], work: &[u32], d: Directory, x: EntryId, end: usize) -> bool
+    requires { ⌜ DirectoryListed d (now img) (now work) ⌝ }
+    requires { ⌜ (x .0 ≤ end) × (end ≤ countOf d) ⌝ }
+    ensures { λ r. ⌜ r ≡ coloursRight (entriesOf d (now (img .entry))) (x .0) end ⌝ }
+{
+    let mut ok = true;
+    let mut y = x;
+    while y.index() < end {
+        ok = ok & common_fields(img, place(work, d, y));
+        y = y.next();
+    }
+    ok
+}
+
+// Asked before entry x is read: at every 64th, whether the next 64 stand in a row or have right colours. Of those that do not stand in a row, this brings the bytes near at the same time.
+fn ahead_right(img: &[u8], work: &[u32], d: Directory, x: EntryId) -> bool
+    requires { ⌜ DirectoryListed d (now img) (now work) ⌝ }
+    requires { ⌜ x .0 < countOf d ⌝ }
+    ensures { λ r. ⌜ r ≡ aheadRight d (entriesOf d (now (img .entry))) (now (work .entry)) (x .0) ⌝ }
+{
+    let i = x.index();
+    if i % 64 != 0 {
+        return true;
+    }
+    let end = least(i + 64, d.count());
+    if in_a_row(work, d, x, EntryId(end as u32 - 1)) {
+        return true;
+    }
+    colours(img, work, d, x, end)
+}
+
 // ---- all of it
 
 // Group 14 of entry x, which stands at p. Only the fields of its own type are looked at.
@@ -181,6 +226,9 @@ pub fn read_entries(img: &[u8], work: &mut [u32], d: Directory) -> bool
     let n = d.count();
     let mut x = EntryId::ROOT;
     while x.index() < n {
+        if !ahead_right(img, work, d, x) {
+            return false;
+        }
         let p = place(work, d, x);
         if !entry_fields(img, p, x) {
             return false;
