@@ -1,7 +1,6 @@
 -- Laws for the functions on the directory.
 pub mod Places
 pub mod Fields
-pub mod Orders
 pub mod Sectors
 pub mod Room
 pub mod Blanks

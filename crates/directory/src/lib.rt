@@ -3,7 +3,7 @@ ghost use mathlib.Core.Path.{_≡_};
 ghost use Prim.Native.Nat.{_≤_, _<_};
 ghost use lib.ListN.{length};
 ghost use Rattle.format.specs.Layout.Entry.{kind as kindOf, colour as colourOf, left as leftOf, right as rightOf, child as childOf, name};
-ghost use Rattle.format.specs.Rules.Trees.{isObject, less as lessOf};
+ghost use Rattle.format.specs.Rules.Trees.{isObject};
 ghost use Rattle.kinds.specs.Ordering.{ordering};
 ghost use Rattle.directory.specs.Listed.{countOf, entriesOf, placeOf, DirectoryListed, Placed, NamedIn};
 ghost use Rattle.directory.specs.Blanks.{LowestBlank};
@@ -11,7 +11,6 @@ use entries::child;
 use entries::colour;
 use entries::entry_type;
 use entries::left;
-use entries::names::compare_alike;
 use entries::names::compare_name;
 use entries::right;
 use kinds::EntryId;
@@ -128,21 +127,6 @@ pub fn lowest_blank(img: &[u8], work: &[u32], d: Directory) -> Blank
 }
 
 // ---- names
-
-// Whether the name of x comes before that of y, where both have n units.
-pub fn less_alike(img: &[u8], work: &[u32], d: Directory, x: EntryId, y: EntryId, n: usize) -> bool
-    requires { ⌜ DirectoryListed d (now img) (now work) ⌝ }
-    requires { ⌜ NamedIn (entriesOf d (now img)) (x .0) ⌝ }
-    requires { ⌜ NamedIn (entriesOf d (now img)) (y .0) ⌝ }
-    requires { ⌜ (n ≡ length (name (entriesOf d (now img) .entry (x .0)))) × (n ≡ length (name (entriesOf d (now img) .entry (y .0)))) ⌝ }
-    ensures { λ r. ⌜ r ≡ lessOf (entriesOf d (now (img .entry))) (x .0) (y .0) ⌝ }
-{
-    match compare_alike(img, place(work, d, x), place(work, d, y), n) {
-        Order::Less => true,
-        Order::Same => false,
-        Order::More => false,
-    }
-}
 
 // How a name lies to that of entry x.
 pub fn order_to(want: &[u16], img: &[u8], work: &[u32], d: Directory, x: EntryId) -> Order

@@ -98,6 +98,14 @@ alike-more img p q i h np nq l m e a =
 pub alike-none : (a b : Name) → Alike a b 0
 alike-none a b = record { within = omega arith; same = λ i h. absurd (omega arith) }
 
+-- two names whose first eight bytes are alike
+pub alike-first : (img : Bytes) (p q : ℕ) → AreBytes img → NamedAt img p → NamedAt img q → 4 ≤ length (name (entryAt img p)) → 4 ≤ length (name (entryAt img q))
+    → u64at img p ≡ u64at img q → Alike (name (entryAt img p)) (name (entryAt img q)) 4
+alike-first img p q h np nq l m e =
+    let a : p + 2 * 0 ≡ p = omega arith in
+    let b : q + 2 * 0 ≡ q = omega arith in
+    alike-more img p q 0 h np nq l m (rw (a, b) e) (alike-none (name (entryAt img p)) (name (entryAt img q)))
+
 -- what is alike is even
 pub comparing-alike : (f : ℕ → ℕ) (a b : Name) (i : ℕ) → length a ≡ length b → Alike a b i → Comparing f a b i
 comparing-alike f a b zero e h = comparing-start f a b e

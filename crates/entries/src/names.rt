@@ -91,14 +91,28 @@ fn compare_units(u: u16, w: u16) -> Order
     Order::Same
 }
 
-// How many units, four at once, two names of n units have alike at their start.
-fn alike(img: &[u8], p: usize, q: usize, n: usize) -> usize
+// How many of the first four units, all or none, two names of n units have alike.
+pub fn first_alike(img: &[u8], p: usize, q: usize, n: usize) -> usize
     requires { ⌜ NamedAt (now img) p ⌝ }
     requires { ⌜ NamedAt (now img) q ⌝ }
     requires { ⌜ (n ≡ length (nameAt (now img) p)) × (n ≡ length (nameAt (now img) q)) ⌝ }
     ensures { λ r. ⌜ Alike (nameAt (now (img .entry)) p) (nameAt (now (img .entry)) q) r ⌝ }
 {
-    let mut i: usize = 0;
+    if (4 <= n) & (u64_at(img, p) == u64_at(img, q)) {
+        return 4;
+    }
+    0
+}
+
+// How many units, four at once, two names of n units have alike at their start, where the first `from` are.
+fn alike(img: &[u8], p: usize, q: usize, n: usize, from: usize) -> usize
+    requires { ⌜ NamedAt (now img) p ⌝ }
+    requires { ⌜ NamedAt (now img) q ⌝ }
+    requires { ⌜ (n ≡ length (nameAt (now img) p)) × (n ≡ length (nameAt (now img) q)) ⌝ }
+    requires { ⌜ Alike (nameAt (now img) p) (nameAt (now img) q) from ⌝ }
+    ensures { λ r. ⌜ Alike (nameAt (now (img .entry)) p) (nameAt (now (img .entry)) q) r ⌝ }
+{
+    let mut i = from;
     while i + 4 <= n {
         if u64_at(img, p + 2 * i) != u64_at(img, q + 2 * i) {
             return i;
@@ -108,14 +122,15 @@ fn alike(img: &[u8], p: usize, q: usize, n: usize) -> usize
     i
 }
 
-// The name of the entry at p to that of the entry at q, where both have n units.
-pub fn compare_alike(img: &[u8], p: usize, q: usize, n: usize) -> Order
+// The name of the entry at p to that of the entry at q, where both have n units, the first `from` alike.
+pub fn compare_alike(img: &[u8], p: usize, q: usize, n: usize, from: usize) -> Order
     requires { ⌜ NamedAt (now img) p ⌝ }
     requires { ⌜ NamedAt (now img) q ⌝ }
     requires { ⌜ (n ≡ length (nameAt (now img) p)) × (n ≡ length (nameAt (now img) q)) ⌝ }
+    requires { ⌜ Alike (nameAt (now img) p) (nameAt (now img) q) from ⌝ }
     ensures { λ r. ⌜ r ≡ ordering (nameAt (now (img .entry)) p) (nameAt (now (img .entry)) q) ⌝ }
 {
-    let mut i = alike(img, p, q, n);
+    let mut i = alike(img, p, q, n, from);
     while i < n {
         match compare_units(name_unit(img, p, i), name_unit(img, q, i)) {
             Order::Less => {

@@ -1,2 +1,3 @@
--- What the answers of the walk say.
+-- What the answers of the walk say, and the pairs of names that it notes.
 pub mod Passes
+pub mod Batches

@@ -1,5 +1,5 @@
 -- What a turn of the walk and the whole walk say by their answers.
-use Prim.Native.Nat.{ℕ, _<_}
+use Prim.Native.Nat.{ℕ}
 use mathlib.Core.Path.{_≡_, sym, ap, _∙_, subst}
 use mathlib.Core.Bool.{Bool, true, false}
 use mathlib.Core.List.{List}
@@ -11,22 +11,22 @@ use Rattle.directory.specs.Listed.{countOf, entriesOf}
 use Rattle.directory.specs.declared.Directory.{Directory as Where}
 use Rattle.nodes.specs.Nodes.{marksOf}
 use Rattle.nodes.proofs.Marks.{covered-reached}
-use Rattle.tree_walk.specs.Walking.{Lent, Walking, Turned, TurnLeft, leftOver}
+use Rattle.tree_walk.specs.Walking.{Lent, Gone, Turned, TurnFrom}
 use Rattle.tree_walk.specs.declared.State.{State}
 use Rattle.tree_walk.proofs.Lends.{rows-are}
 use Rattle.hierarchy.specs.Walked.{Walked, WalkLeft, reachedIn}
 use Rattle.tree_walk.specs.declared.Turn.{Turn}
 use Rattle.tree_walk.specs.declared.Turn.the-variants.{Go, Wrong, Done}
 
-module _ {d : Where} {img : Bytes} {w : List ℕ} {s : State} {v : List ℕ} {r : Turn} (l : TurnLeft d img w s v r) where
-  pub turn-on : {t : State} → r ≡ Go t → Walking d img v t × (leftOver d img v t < leftOver d img w s)
-  turn-on e = subst (Turned d img w s v) e (l .turned)
+module _ {d : Where} {img : Bytes} {w : List ℕ} {q : Bool} {s : State} {v : List ℕ} {r : Turn} (l : TurnFrom d img w q s v r) where
+  pub turn-on : {t : State} → r ≡ Go t → Gone d img w q s v t
+  turn-on e = subst (Turned d img w q s v) e (l .turned)
 
   pub turn-wrong : r ≡ Wrong → treeRules (entriesOf d img) ≡ false
-  turn-wrong e = subst (Turned d img w s v) e (l .turned)
+  turn-wrong e = subst (Turned d img w q s v) e (l .turned)
 
-  pub turn-done : r ≡ Done → Lent d img v × (covered (entriesOf d img) (marksOf (entriesOf d img) v) ≡ treeRules (entriesOf d img))
-  turn-done e = subst (Turned d img w s v) e (l .turned)
+  pub turn-done : r ≡ Done → Lent d img v × (q ≡ true → covered (entriesOf d img) (marksOf (entriesOf d img) v) ≡ treeRules (entriesOf d img))
+  turn-done e = subst (Turned d img w q s v) e (l .turned)
 
 -- the verdict
 module _ {d : Where} {img : Bytes} {w v : List ℕ} {r : Bool} (l : WalkLeft d img w v r) where

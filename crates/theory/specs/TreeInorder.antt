@@ -89,10 +89,10 @@ abbrev pub LastIn : Directory → ℕ → Type 0
 LastIn d zero = Unit {0}
 LastIn d (suc b) = objectIn d b ≡ true
 
--- k entries are marked in m
-pub record Inorder (d : Directory) (k x : ℕ) (above : Bool) (before : ℕ) (ys cs m : List ℕ) : Type 0 where
+-- k entries are marked in m; due says what the tests of order will answer that are put off
+pub record Inorder (d : Directory) (due : Bool) (k x : ℕ) (above : Bool) (before : ℕ) (ys cs m : List ℕ) : Type 0 where
   pub walk : Walk d k (x ∷ (behind d ys ++ cs)) m
-  pub rest : sound (whole d) ≡ true → treeRight d (whole d) ≡ leftToTest d x above before ys cs
+  pub rest : sound (whole d) ≡ true → treeRight d (whole d) ≡ (due && leftToTest d x above before ys cs)
   pub objects : all (objectIn d) ys ≡ true
   pub last : LastIn d before
   pub height : length ys + length cs ≤ k

@@ -2,7 +2,7 @@
 use Prim.Native.Nat.{ℕ, _+_, _-_, _*_, _≤_, _<_}
 use mathlib.Core.Path.{_≡_, refl, sym, ap, _∙_}
 use mathlib.Core.Logic.{_≢_}
-use mathlib.Core.Bool.{Bool, true, false, not, _&&_, _||_}
+use mathlib.Core.Bool.{Bool, true, false, not, _&&_, _||_, and-true}
 use mathlib.Core.List.{List, _∷_}
 use native.Mathlib.Omega.{arith}
 use native.Mathlib.Decide.{decLt}
@@ -25,13 +25,13 @@ use Rattle.nodes.specs.Slots.{entryOf}
 use Rattle.nodes.specs.Nodes.{nodeLeft, nodeRed, nodeReached, nodeReach, nodeA, nodeB, NodeOf, marksOf}
 use Rattle.nodes.proofs.Slots.{entry-some, entry-real}
 use Rattle.nodes.proofs.Marks.{marks-long, fresh-unreached, marks-kept, nodes-kept, reached-object, marks-more, nodes-reached}
-use Rattle.tree_walk.specs.Walking.{stacked, upAt, topAt, Walking, TurnLeft}
+use Rattle.tree_walk.specs.Walking.{stacked, upAt, topAt, Walking, TurnFrom}
 use Rattle.tree_walk.specs.declared.State.{State}
 use Rattle.tree_walk.specs.declared.Turn.the-variants.{Go}
 use Rattle.tree_walk.proofs.Stacks.{stacked-same, stacked-push}
 use Rattle.tree_walk.proofs.Lends.{rows-are, room, lent-kept, slot-names, slot-in, height}
 
-module _ {d : Where} {img : Bytes} {w : List ℕ} {s : State} (g : Walking d img w s) (h : 0 < s .at .0) where
+module _ {d : Where} {img : Bytes} {w : List ℕ} {q : Bool} {s : State} (g : Walking d img w q s) (h : 0 < s .at .0) where
   abbrev e : Directory
   e = entriesOf d img
 
@@ -155,24 +155,25 @@ module _ {d : Where} {img : Bytes} {w : List ℕ} {s : State} (g : Walking d img
                     rw z (omega (arith, h, up-is))
               ]
 
-          pub down-go : {t : State} → t .at .0 ≡ nodeLeft a → t .red ≡ nodeRed a → t .before .0 ≡ s .before .0 → t .ups ≡ s .ups + 1 → t .tops ≡ s .tops → TurnLeft d img w s v (Go t)
+          pub down-go : {t : State} → t .at .0 ≡ nodeLeft a → t .red ≡ nodeRed a → t .before .0 ≡ s .before .0 → t .due .0 ≡ 0 → t .ups ≡ s .ups + 1 → t .tops ≡ s .tops → TurnFrom d img w q s v (Go t)
           unfolding w₁
-          down-go {t} ta tr tb tu tt =
+          down-go {t} ta tr tb td tu tt =
               let k = node down-unreached in
               record {
-                turned = (
-                  record {
+                turned = record {
+                  on = record {
                     lent = lent-kept (g .lent) down-wrote (nodes-kept e w₁ v long front (nodes-reached (g .lent .nodes) x inside unreached));
                     met = g .met + 1;
                     inorder =
-                        rw (ta, tr, tb, tu, tt, ups-are, tops-are, marks-are, red-is down-unreached)
+                        rw (td, and-true, ta, tr, tb, tu, tt, ups-are, tops-are, marks-are, red-is down-unreached)
                         (inorder-down e (g .inorder) real is-fresh (rw (← red-is down-unreached) (neither (nodeReached a) (s .red && nodeRed a) u .1)) (entryOf (nodeLeft a))
                         (slot-names (g .lent) (leftOf e x) (k .lefts)));
                     at-in = rw ta (slot-in (g .lent) (leftOf e x) (k .lefts));
                     ups-in = λ j l. turn-up j (omega (arith, tu));
                     tops-in = λ j l. omega (arith, top-is j (omega (arith, tt)), g .tops-in j (omega (arith, tt)));
-                  },
-                  rw (marks-are, tu, tt) (omega (arith, zeros-less)),
-                );
+                  };
+                  due = λ l. absurd (omega (arith, td));
+                  nearer = rw (marks-are, tu, tt) (omega (arith, zeros-less));
+                };
                 wrote = down-wrote;
               }

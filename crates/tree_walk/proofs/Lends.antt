@@ -1,6 +1,7 @@
 -- What is lent to the walk stays, and how high its stacks are.
 use Prim.Native.Nat.{ℕ, _+_, _*_, _≤_}
 use mathlib.Core.Path.{_≡_, ap, _∙_}
+use mathlib.Core.Bool.{Bool}
 use mathlib.Core.List.{List}
 use native.Mathlib.Omega.{arith}
 use lib.ListN.{length}
@@ -36,7 +37,7 @@ module _ {d : Where} {img : Bytes} {w : List ℕ} (l : Lent d img w) where
     pub slot-in : k ≤ rows (entriesOf d img)
     slot-in = omega (arith, e, slot-most (rows (entriesOf d img)) x (l .nodes .some))
 
-module _ {d : Where} {img : Bytes} {w : List ℕ} {s : State} (g : Walking d img w s) where
+module _ {d : Where} {img : Bytes} {w : List ℕ} {q : Bool} {s : State} (g : Walking d img w q s) where
   pub height : s .ups + s .tops ≤ g .met
   height = omega (arith, g .inorder .height, stacked-long (upAt (rows (entriesOf d img)) w) (s .ups), stacked-long (topAt (rows (entriesOf d img)) w) (s .tops))
 

@@ -2,7 +2,7 @@
 use Prim.Native.Nat.{ℕ, suc, _+_, _-_, _*_, _≤_, _<_}
 use mathlib.Core.Path.{_≡_, sym, ap, _∙_}
 use mathlib.Core.Logic.{_≢_, inl, inr}
-use mathlib.Core.Bool.{true, false}
+use mathlib.Core.Bool.{Bool, true, false, _&&_}
 use mathlib.Core.List.{List, _∷_}
 use native.Mathlib.Omega.{arith}
 use native.Mathlib.Decide.{decLt}
@@ -28,13 +28,14 @@ use Rattle.nodes.specs.Slots.{entryOf}
 use Rattle.nodes.specs.Nodes.{nodeRight, nodeChild, nodeUnits, nodeRed, nodeA, nodeB, NodeOf, marksOf}
 use Rattle.nodes.proofs.Slots.{entry-none, entry-some}
 use Rattle.nodes.proofs.Marks.{marks-kept, nodes-kept}
-use Rattle.tree_walk.specs.Walking.{stacked, upAt, topAt, waitWork, waitTops, Walking, Visited, TurnLeft}
+use Rattle.tree_walk.specs.Walking.{stacked, upAt, topAt, waitWork, waitTops, unitsAt, shorter, dueSlot, dueRises, Paired, Walking, TurnFrom}
 use Rattle.tree_walk.specs.declared.State.{State}
 use Rattle.tree_walk.specs.declared.Turn.the-variants.{Go}
 use Rattle.tree_walk.proofs.Stacks.{stacked-same, stacked-pop, stacked-push}
+use Rattle.tree_walk.proofs.Siblings.{Visited, last-in, shorter-falls, due-follows, due-paired}
 use Rattle.tree_walk.proofs.Lends.{rows-are, room, lent-kept, slot-names, slot-in, height, met-most}
 
-module _ {d : Where} {img : Bytes} {w : List ℕ} {s : State} (g : Walking d img w s) (z : s .at .0 ≡ 0) where
+module _ {d : Where} {img : Bytes} {w : List ℕ} {q : Bool} {s : State} (g : Walking d img w q s) (z : s .at .0 ≡ 0) where
   abbrev e : Directory
   e = entriesOf d img
 
@@ -52,7 +53,7 @@ module _ {d : Where} {img : Bytes} {w : List ℕ} {s : State} (g : Walking d img
     abbrev y : ℕ
     y = entryOf cur
 
-    popped : Inorder e (g .met) (entryOf (s .at .0)) (s .red) (s .before .0) (y ∷ stacked (upAt (rows e) w) (s .ups - 1)) (stacked (topAt (rows e) w) (s .tops)) (marksOf e w)
+    popped : Inorder e q (g .met) (entryOf (s .at .0)) (s .red) (s .before .0) (y ∷ stacked (upAt (rows e) w) (s .ups - 1)) (stacked (topAt (rows e) w) (s .tops)) (marksOf e w)
     popped = rw (cur-is, ← stacked-pop (upAt (rows e) w) (s .ups) h) (g .inorder)
 
     object : objectIn e y ≡ true
@@ -84,16 +85,29 @@ module _ {d : Where} {img : Bytes} {w : List ℕ} {s : State} (g : Walking d img
       unfolding red
       red-is = node .red-is
 
-      pub visited : {units : ℕ} → units ≡ nodeUnits a → Visited d img w (s .before .0) cur units
-      visited eu = record { lent = g .lent; last = g .inorder .last; object = object; real = some; units-are = eu ∙ node .units-are }
+      -- by the units of its name
+      module _ {units : ℕ} (eu : units ≡ nodeUnits a) where
+        seen : Visited d img w (s .before .0) cur units
+        seen = record { lent = g .lent; last = g .inorder .last; object = object; real = some; units-are = eu ∙ node .units-are }
 
-      pub visit-falls : follows (less e) (s .before .0) y ≡ false → treeRules e ≡ false
-      visit-falls f = inorder-falls e popped none f
+        pub before-in : 2 * s .before .0 + 1 < length w
+        before-in = last-in seen
+
+        pub visit-falls : shorter (s .before .0) units (unitsAt w (s .before .0)) ≡ true → treeRules e ≡ false
+        visit-falls f = inorder-falls e popped none (shorter-falls seen f)
 
       pub wait-in : (s .tops ≤ n) × (3 * n + 1 < length w)
       wait-in = (omega (arith, here, height g, met-most g), omega (arith, here, room (g .lent)))
 
-      module _ (f : follows (less e) (s .before .0) y ≡ true) (t : State) (ta : t .at .0 ≡ nodeRight b) (tr : t .red ≡ nodeRed a) (tb : t .before .0 ≡ cur) (tu : t .ups ≡ s .ups - 1) where
+      module _ {units : ℕ} (eu : units ≡ nodeUnits a) (f : shorter (s .before .0) units (unitsAt w (s .before .0)) ≡ false) (t : State) (ta : t .at .0 ≡ nodeRight b) (tr : t .red ≡ nodeRed a) (tb : t .before .0 ≡ cur)
+          (td : t .due .0 ≡ dueSlot (s .before .0) units (unitsAt w (s .before .0))) (tu : t .ups ≡ s .ups - 1) where
+        -- the test that is put off
+        put-off : (q && dueRises e t) ≡ (q && follows (less e) (s .before .0) y)
+        put-off = rw (td, tb) (ap (λ (b : Bool). q && b) (sym (due-follows (seen eu) f)))
+
+        pair : 0 < t .due .0 → Paired e (entryOf (t .due .0)) (entryOf (t .before .0))
+        pair = rw (td, tb) (due-paired (seen eu) f)
+
         before-is : t .before .0 ≡ suc y
         before-is = tb ∙ slot-is ∙ add-one y
 
@@ -101,22 +115,23 @@ module _ {d : Where} {img : Bytes} {w : List ℕ} {s : State} (g : Walking d img
         next-in = rw ta (slot-in (g .lent) (rightOf e y) (node .rights))
 
         -- no tree is below it
-        leaf : nodeChild a b ≡ 0 → t .tops ≡ s .tops → TurnLeft d img w s w (Go t)
+        leaf : nodeChild a b ≡ 0 → t .tops ≡ s .tops → TurnFrom d img w q s w (Go t)
         leaf c tt = record {
-          turned = (
-            record {
+          turned = record {
+            on = record {
               lent = g .lent;
               met = g .met;
               inorder =
-                  rw (ta, tr, before-is, tu, tt, red-is)
-                  (inorder-leaf e popped none f (entryOf (nodeRight b)) (entryOf (nodeChild a b)) (slot-names (g .lent) (rightOf e y) (node .rights))
+                  rw (put-off, ta, tr, before-is, tu, tt, red-is)
+                  (inorder-leaf e popped none (entryOf (nodeRight b)) (entryOf (nodeChild a b)) (slot-names (g .lent) (rightOf e y) (node .rights))
                   (slot-names (g .lent) (childOf e y) (node .below)) (entry-none (nodeChild a b) c));
               at-in = next-in;
               ups-in = λ j l. g .ups-in j (omega (arith, tu));
               tops-in = λ j l. g .tops-in j (omega (arith, tt));
-            },
-            rw (tu, tt) (omega arith),
-          );
+            };
+            due = pair;
+            nearer = rw (tu, tt) (omega arith);
+          };
           wrote = wrote-none w 0 (3 * countOf d + 2);
         }
 
@@ -162,28 +177,29 @@ module _ {d : Where} {img : Bytes} {w : List ℕ} {s : State} (g : Walking d img
           wrote : Wrote w v 0 (3 * countOf d + 2)
           wrote = rw ev (wrote-set (3 * n + 1 - s .tops) (nodeChild a b) (wrote-none w 0 (3 * countOf d + 2)) (omega arith) (omega (arith, en)))
 
-          waits : TurnLeft d img w s v (Go t)
+          waits : TurnFrom d img w q s v (Go t)
           waits = record {
-            turned = (
-              record {
+            turned = record {
+              on = record {
                 lent = lent-kept (g .lent) wrote (nodes-kept e w v long front (g .lent .nodes));
                 met = g .met;
                 inorder =
-                    rw (ta, tr, before-is, tu, tt, red-is, tops-are, ups-are, marks-kept e w v long front)
-                    (inorder-visit e popped none f (entryOf (nodeRight b)) (entryOf (nodeChild a b)) (slot-names (g .lent) (rightOf e y) (node .rights))
+                    rw (put-off, ta, tr, before-is, tu, tt, red-is, tops-are, ups-are, marks-kept e w v long front)
+                    (inorder-visit e popped none (entryOf (nodeRight b)) (entryOf (nodeChild a b)) (slot-names (g .lent) (rightOf e y) (node .rights))
                     (slot-names (g .lent) (childOf e y) (node .below)));
                 at-in = next-in;
                 ups-in = λ j l. omega (arith, ups-same j (omega (arith, tu)), g .ups-in j (omega (arith, tu)));
                 tops-in = λ j l. top-in j (omega (arith, tt));
-              },
-              rw (tu, tt, marks-kept e w v long front) (omega arith),
-            );
+              };
+              due = pair;
+              nearer = rw (tu, tt, marks-kept e w v long front) (omega arith);
+            };
             wrote = wrote;
           }
 
-        pub visit-go : {v : List ℕ} → v ≡ waitWork n w (s .tops) (nodeChild a b) → t .tops ≡ waitTops (s .tops) (nodeChild a b) → TurnLeft d img w s v (Go t)
+        pub visit-go : {v : List ℕ} → v ≡ waitWork n w (s .tops) (nodeChild a b) → t .tops ≡ waitTops (s .tops) (nodeChild a b) → TurnFrom d img w q s v (Go t)
         visit-go {v} ev tt =
             elim (eqb-cases (nodeChild a b) 0) [
-              | inl q ↦ let k : v ≡ w = ev ∙ rw (q .1) in rw k (leaf (q .0) (tt ∙ rw (q .1)))
-              | inr q ↦ waits (q .0) (ev ∙ rw (q .1)) (tt ∙ rw (q .1))
+              | inl c ↦ let k : v ≡ w = ev ∙ rw (c .1) in rw k (leaf (c .0) (tt ∙ rw (c .1)))
+              | inr c ↦ waits (c .0) (ev ∙ rw (c .1)) (tt ∙ rw (c .1))
             ]

@@ -1,26 +1,23 @@
-// The walk over the trees, in order. It reaches each object once, and tests order and colours on its way.
+// The walk over the trees, in order. It reaches each object once, tests colours on its way, and says which names are to be compared.
 ghost use mathlib.Core.Path.{_≡_};
 ghost use mathlib.Core.Bool.{false};
 ghost use Prim.Native.Nat.{_+_, _-_, _*_, _≤_, _<_};
 ghost use lib.ListN.{length, set};
-ghost use Rattle.format.specs.Rules.Trees.{less as lessOf};
-ghost use Rattle.theory.specs.TreeInorder.{follows};
-ghost use Rattle.directory.specs.Listed.{entriesOf};
-ghost use Rattle.nodes.specs.Slots.{entryOf};
 ghost use Rattle.nodes.specs.Nodes.{nodeReached, nodeReach};
-ghost use Rattle.tree_walk.specs.Walking.{Walking, TurnLeft, Visited, waitWork, waitTops};
+ghost use Rattle.tree_walk.specs.Walking.{Underway, TurnLeft, shorter, dueSlot, unitsAt, waitWork, waitTops};
 use directory::Directory;
-use directory::less_alike;
 use nodes::Node;
 use nodes::Slot;
 use nodes::node_at;
 
 // Where the walk stands: the slot to go down to, and whether it may not be red, since the one above it is or it is the top of a
-// tree; the sibling visited last; how many are above, and how many trees wait.
+// tree; the entry visited last, and the sibling whose name is still to be compared with its; how many are above, and how many trees
+// wait.
 pub struct State {
     pub at: Slot,
     pub red: bool,
     pub before: Slot,
+    pub due: Slot,
     pub ups: usize,
     pub tops: usize,
 }
@@ -31,23 +28,24 @@ pub enum Turn {
     Done,
 }
 
-// Whether the entry of a slot, whose name has so many units, comes after the sibling before it. Names are read only where both have
-// as many units.
-fn rises(img: &[u8], work: &[u32], d: Directory, before: Slot, at: Slot, units: usize) -> bool
-    requires { ⌜ Visited d (now img) (now work) (before .0) (at .0) units ⌝ }
-    ensures { λ r. ⌜ r ≡ follows (lessOf (entriesOf d (now (img .entry)))) (before .0) (entryOf (at .0)) ⌝ }
+// Whether a name of so many units has fewer than that of the sibling before it, so that it cannot come after it.
+fn falls(work: &[u32], before: Slot, units: usize) -> bool
+    requires { ⌜ 2 * before .0 + 1 < length (now work) ⌝ }
+    ensures { λ r. ⌜ r ≡ shorter (before .0) units (unitsAt (now (work .entry)) (before .0)) ⌝ }
 {
-    if before.is_none() {
-        return true;
-    }
+    !before.is_none() & (units < node_at(work, before).units())
+}
+
+// The sibling before, if its name has as many units, so that the names themselves are still to be compared.
+fn due_of(work: &[u32], before: Slot, units: usize) -> Slot
+    requires { ⌜ 2 * before .0 + 1 < length (now work) ⌝ }
+    ensures { λ r. ⌜ r .0 ≡ dueSlot (before .0) units (unitsAt (now (work .entry)) (before .0)) ⌝ }
+{
     let last = node_at(work, before).units();
-    if last < units {
-        return true;
+    if units == last {
+        return before;
     }
-    if units < last {
-        return false;
-    }
-    less_alike(img, work, d, before.entry(), at.entry(), units)
+    Slot::NONE
 }
 
 // Reaches a node, and puts it with those above.
@@ -79,7 +77,7 @@ fn wait(work: &mut [u32], n: usize, tops: usize, child: Slot) -> usize
 
 // Down: a node that is not reached yet, and is not red below a red one. Its left side is next.
 fn go_down(img: &[u8], work: &mut [u32], d: Directory, s: State) -> Turn
-    requires { ⌜ Walking d (now img) (now work) s ⌝ }
+    requires { ⌜ Underway d (now img) (now work) s ⌝ }
     requires { ⌜ 0 < s .at .0 ⌝ }
     ensures { λ r. ⌜ TurnLeft d (now (img .entry)) (now (work .entry)) s (now (work .exit)) r ⌝ }
 {
@@ -94,14 +92,15 @@ fn go_down(img: &[u8], work: &mut [u32], d: Directory, s: State) -> Turn
         at: node.left(),
         red: node.is_red(),
         before,
+        due: Slot::NONE,
         ups: s.ups + 1,
         tops: s.tops,
     })
 }
 
-// Up: the nearest above is visited. The tree below it waits, and its right side is next.
+// Up: the nearest above is visited. The tree below it waits, and its right side is next. No name is read.
 fn visit(img: &[u8], work: &mut [u32], d: Directory, s: State) -> Turn
-    requires { ⌜ Walking d (now img) (now work) s ⌝ }
+    requires { ⌜ Underway d (now img) (now work) s ⌝ }
     requires { ⌜ (s .at .0 ≡ 0) × (0 < s .ups) ⌝ }
     ensures { λ r. ⌜ TurnLeft d (now (img .entry)) (now (work .entry)) s (now (work .exit)) r ⌝ }
 {
@@ -110,14 +109,16 @@ fn visit(img: &[u8], work: &mut [u32], d: Directory, s: State) -> Turn
     let up = 2 * n + 2 + ups;
     let at = Slot(work[up]);
     let node = node_at(work, at);
-    if !rises(img, work, d, s.before, at, node.units()) {
+    if falls(work, s.before, node.units()) {
         return Turn::Wrong;
     }
+    let due = due_of(work, s.before, node.units());
     let tops = wait(work, n, s.tops, node.child());
     Turn::Go(State {
         at: node.right(),
         red: node.is_red(),
         before: at,
+        due,
         ups,
         tops,
     })
@@ -125,7 +126,7 @@ fn visit(img: &[u8], work: &mut [u32], d: Directory, s: State) -> Turn
 
 // On: the next of the trees that wait.
 fn next_tree(img: &[u8], work: &[u32], d: Directory, s: State) -> State
-    requires { ⌜ Walking d (now img) (now work) s ⌝ }
+    requires { ⌜ Underway d (now img) (now work) s ⌝ }
     requires { ⌜ (s .at .0 ≡ 0) × (s .ups ≡ 0) × (0 < s .tops) ⌝ }
     ensures { λ r. ⌜ TurnLeft d (now (img .entry)) (now (work .entry)) s (now (work .entry)) (Turn.Go r) ⌝ }
 {
@@ -136,6 +137,7 @@ fn next_tree(img: &[u8], work: &[u32], d: Directory, s: State) -> State
         at: Slot(work[top]),
         red: true,
         before: Slot::NONE,
+        due: Slot::NONE,
         ups: 0,
         tops,
     }
@@ -143,7 +145,7 @@ fn next_tree(img: &[u8], work: &[u32], d: Directory, s: State) -> State
 
 // One turn of the walk.
 pub fn take_turn(img: &[u8], work: &mut [u32], d: Directory, s: State) -> Turn
-    requires { ⌜ Walking d (now img) (now work) s ⌝ }
+    requires { ⌜ Underway d (now img) (now work) s ⌝ }
     ensures { λ r. ⌜ TurnLeft d (now (img .entry)) (now (work .entry)) s (now (work .exit)) r ⌝ }
 {
     let at = s.at;

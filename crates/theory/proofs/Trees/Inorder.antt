@@ -1,7 +1,7 @@
 -- The walk in order, turn by turn: its start, a turn that goes down, visits an entry or begins the next tree, what fails, and its end.
 use mathlib.Core.Path.{_≡_, refl, sym, ap, _∙_}
 use mathlib.Core.Logic.{_≢_}
-use mathlib.Core.Bool.{Bool, true, false, not, _&&_, and-true}
+use mathlib.Core.Bool.{Bool, true, false, not, _&&_, and-true, and-false, and-assoc}
 use mathlib.Core.List.{List, [], _∷_, _++_, append-nil}
 use Prim.Native.Nat.{ℕ, zero, suc, _+_}
 use native.Mathlib.Omega.{arith}
@@ -86,7 +86,7 @@ module _ (d : Directory) where
   -- ---- the start
 
   -- x names the tree below the root
-  pub inorder-start : (x : ℕ) (m : List ℕ) → at d x ≡ whole d → length m ≡ rows d → ((i : ℕ) → getD m i 0 ≡ 0) → Inorder d 0 x true 0 [] [] m
+  pub inorder-start : (x : ℕ) (m : List ℕ) → at d x ≡ whole d → length m ≡ rows d → ((i : ℕ) → getD m i 0 ≡ 0) → Inorder d true 0 x true 0 [] [] m
   unfolding behind leftToTest toCome following stackRight treeRight all unwind
   inorder-start x m e l z = record {
     walk = walk-named d 0 (childOf d 0) x [] [] m (sym e) (walk-start d m l z);
@@ -98,7 +98,7 @@ module _ (d : Directory) where
 
   -- ---- one turn
 
-  module _ {k x : ℕ} {above : Bool} {before : ℕ} {ys cs m : List ℕ} (g : Inorder d k x above before ys cs m) where
+  module _ {due : Bool} {k x : ℕ} {above : Bool} {before : ℕ} {ys cs m : List ℕ} (g : Inorder d due k x above before ys cs m) where
     -- x names a sound tree if the whole is sound
     here : sound (whole d) ≡ true → x ≢ NOSTREAM → Standing d x
     unfolding all
@@ -117,21 +117,21 @@ module _ (d : Directory) where
       inorder-unfresh f = not-shaped (go-wrong d k ys cs m x (g .walk) h f)
 
       pub inorder-red : (above && red d x) ≡ true → treeRules d ≡ false
-      inorder-red r = not-right (λ s. g .rest s ∙ at-node (here s h) ∙ rw r)
+      inorder-red r = not-right (λ s. g .rest s ∙ ap (λ (t : Bool). due && t) (at-node (here s h)) ∙ rw r (and-false due))
 
-      pub inorder-down : fresh d m x ≡ true → (above && red d x) ≡ false → (l : ℕ) → at d l ≡ at d (leftOf d x) → Inorder d (k + 1) l (red d x) before (x ∷ ys) cs (set m x 1)
+      pub inorder-down : fresh d m x ≡ true → (above && red d x) ≡ false → (l : ℕ) → at d l ≡ at d (leftOf d x) → Inorder d due (k + 1) l (red d x) before (x ∷ ys) cs (set m x 1)
       unfolding all leftToTest toCome
       inorder-down f r l e =
           let a = fresh-apart d m x f in
           record {
             walk = walk-named d (k + 1) (leftOf d x) l [] (behind d (x ∷ ys) ++ cs) (set m x 1) (sym e) (go-down d k ys cs m x (g .walk) h f);
-            rest = λ s. g .rest s ∙ at-node (here s h) ∙ rw (r, e);
+            rest = λ s. g .rest s ∙ ap (λ (t : Bool). due && t) (at-node (here s h)) ∙ rw (r, e);
             objects = and-true-of (objectIn d x) (all (objectIn d) ys) (and-true-of _ _ (lt-ltb x (rows d) (named-inside d x (a .0))) (a .1)) (g .objects);
             last = g .last;
             height = omega (arith, g .height);
           }
 
-  module _ {k x : ℕ} {above : Bool} {before : ℕ} {y : ℕ} {ys cs m : List ℕ} (g : Inorder d k x above before (y ∷ ys) cs m) (h : x ≡ NOSTREAM) where
+  module _ {due : Bool} {k x : ℕ} {above : Bool} {before : ℕ} {y : ℕ} {ys cs m : List ℕ} (g : Inorder d due k x above before (y ∷ ys) cs m) (h : x ≡ NOSTREAM) where
     -- what is left to test, the order of y by itself
     at-visit : leftToTest d x above before (y ∷ ys) cs ≡ (follows (less d) before y && leftToTest d (rightOf d y) (red d y) (suc y) ys (childOf d y ∷ cs))
     unfolding leftToTest stackRight all nodesRight
@@ -146,23 +146,28 @@ module _ (d : Directory) where
     inorder-object = both (objectIn d y) (all (objectIn d) ys) (g .objects) .0
 
     pub inorder-falls : follows (less d) before y ≡ false → treeRules d ≡ false
-    inorder-falls f = not-right (λ s. g .rest s ∙ at-visit ∙ rw f)
+    inorder-falls f = not-right (λ s. g .rest s ∙ ap (λ (t : Bool). due && t) at-visit ∙ rw f (and-false due))
 
-    module _ (f : follows (less d) before y ≡ true) (r c : ℕ) (er : at d r ≡ at d (rightOf d y)) (ec : at d c ≡ at d (childOf d y)) where
-      pub inorder-visit : Inorder d k r (red d y) (suc y) ys (c ∷ cs) m
+    -- the order of y is put off
+    module _ (r c : ℕ) (er : at d r ≡ at d (rightOf d y)) (ec : at d c ≡ at d (childOf d y)) where
+      pub inorder-visit : Inorder d (due && follows (less d) before y) k r (red d y) (suc y) ys (c ∷ cs) m
       unfolding all leftToTest toCome
       inorder-visit = record {
         walk =
             walk-named d k (childOf d y) c (r ∷ behind d ys) cs m (sym ec)
             (walk-named d k (rightOf d y) r [] (behind d ys ++ (childOf d y ∷ cs)) m (sym er) (go-up d k ys cs m x y (g .walk) h));
-        rest = λ s. g .rest s ∙ at-visit ∙ rw (f, er, ec);
+        rest = λ s.
+            g .rest s
+            ∙ ap (λ (t : Bool). due && t) at-visit
+            ∙ sym (and-assoc due (follows (less d) before y) _)
+            ∙ rw (er, ec);
         objects = both (objectIn d y) (all (objectIn d) ys) (g .objects) .1;
         last = inorder-object;
         height = omega (arith, g .height);
       }
 
       -- a tree below that is empty does not wait
-      pub inorder-leaf : c ≡ NOSTREAM → Inorder d k r (red d y) (suc y) ys cs m
+      pub inorder-leaf : c ≡ NOSTREAM → Inorder d (due && follows (less d) before y) k r (red d y) (suc y) ys cs m
       unfolding all leftToTest treeRight nodesRight siblings rising
       inorder-leaf e =
           let v = inorder-visit in
@@ -175,14 +180,14 @@ module _ (d : Directory) where
           }
 
   -- the tree is done: the next one
-  pub inorder-next : {k x : ℕ} {above : Bool} {before c : ℕ} {cs m : List ℕ} → Inorder d k x above before [] (c ∷ cs) m → x ≡ NOSTREAM → Inorder d k c true 0 [] cs m
+  pub inorder-next : {due : Bool} {k x : ℕ} {above : Bool} {before c : ℕ} {cs m : List ℕ} → Inorder d due k x above before [] (c ∷ cs) m → x ≡ NOSTREAM → Inorder d due k c true 0 [] cs m
   unfolding leftToTest stackRight all nodesRight toCome following behind treeRight unwind siblings
-  inorder-next {k} {x} {above} {before} {c} {cs} {m} g h = record {
+  inorder-next {due} {k} {x} {above} {before} {c} {cs} {m} g h = record {
     walk = go-next d k x (c ∷ cs) m (g .walk) h;
     rest = λ s.
         g .rest s
         ∙ rw (grow-none d (rows d) x h, following-none (less d) before, append-nil)
-        (and-order (rising (less d) (siblings (at d c))) (nodesRight d true (at d c)) (all (rightAt d) cs));
+        (ap (λ (t : Bool). due && t) (and-order (rising (less d) (siblings (at d c))) (nodesRight d true (at d c)) (all (rightAt d) cs)));
     objects = refl;
     last = tt;
     height = omega (arith, g .height);
@@ -190,9 +195,13 @@ module _ (d : Directory) where
 
   -- ---- the end
 
-  pub inorder-end : {k x : ℕ} {above : Bool} {before : ℕ} {m : List ℕ} → Inorder d k x above before [] [] m → x ≡ NOSTREAM → covered d m ≡ treeRules d
+  pub inorder-end : {k x : ℕ} {above : Bool} {before : ℕ} {m : List ℕ} → Inorder d true k x above before [] [] m → x ≡ NOSTREAM → covered d m ≡ treeRules d
   unfolding leftToTest stackRight all nodesRight
   inorder-end {k} {x} {above} {before} {m} g h =
       let w = go-next d k x [] m (g .walk) h in
       let r : treeRight d (whole d) ≡ true = g .rest (end-sound d k m w) ∙ rw (coming-none d x h, following-none (less d) before, grow-none d (rows d) x h) in
       walk-end d k m w ∙ sym (judged ∙ rw r (and-true (shapeOk d)))
+
+  -- a test that was put off fails
+  pub inorder-late : {k x : ℕ} {above : Bool} {before : ℕ} {ys cs m : List ℕ} → Inorder d false k x above before ys cs m → treeRules d ≡ false
+  inorder-late g = not-right (λ s. g .rest s)

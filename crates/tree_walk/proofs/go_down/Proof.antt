@@ -26,22 +26,23 @@ go-down-spec =
     (λ c. search needs)  -- same-length
     (λ c.
     let p = c .before .before .before .before .before .before .before .before .before .pre in
-    record { turned = down-wrong (p .0) (p .1) (c .before .before .before .before .node-at .ensures .0) (wrong c); wrote = wrote-none _ 0 _ })  -- returns
+    λ q g. record { turned = down-wrong g (p .1) (c .before .before .before .before .node-at .ensures .0) (wrong c); wrote = wrote-none _ 0 _ })  -- returns
     (λ c κs. search needs)  -- count-requires
     (λ c κs.
     let r = c .before .before .before in
     let p = r .before .before .before .before .before .before .before .before .before .pre in
     let a = r .before .before .before .before .node-at .ensures .0 in
-    (down-unreached (p .0) (p .1) a (right r), (omega (arith, down-in (p .0) (p .1)), up-in (p .0) (p .1) a (right r) (c .count .ensures))))  -- enter-requires
+    (down-unreached (p .0 .1) (p .1) a (right r), (omega (arith, down-in (p .0 .1) (p .1)), up-in (p .0 .1) (p .1) a (right r) (c .count .ensures))))  -- enter-requires
     (λ c κs. search needs)  -- left-requires
     (λ c κs. search needs)  -- is-red-requires-2
     (λ c.
     let r = c .before .before .before .before .before .before .before .before .before in
     let p = r .before .before .before .before .before .before .before .before .before .pre in
-    omega (arith, up-room (p .0) (p .1) (r .before .before .before .before .node-at .ensures .0) (right r), p .0 .lent .nodes .few))  -- add-t17
+    omega (arith, up-room (p .0 .1) (p .1) (r .before .before .before .before .node-at .ensures .0) (right r), p .0 .1 .lent .nodes .few))  -- add-t17
     (λ c. search needs)  -- same-length-2
     (λ c.
     let r = c .before .before .before .before .before .before .before .before .before in
     let p = r .before .before .before .before .before .before .before .before .before .pre in
-    down-go (p .0) (p .1) (r .before .before .before .before .node-at .ensures .0) (right r) (c .before .before .before .before .before .before .count .ensures) (c .before .before .before .before .before .enter .ensures)
-    (c .before .before .left .ensures) (c .before .is-red2 .ensures) refl refl refl))  -- returns-2
+    λ q g.
+    down-go g (p .1) (r .before .before .before .before .node-at .ensures .0) (right r) (c .before .before .before .before .before .before .count .ensures) (c .before .before .before .before .before .enter .ensures)
+    (c .before .before .left .ensures) (c .before .is-red2 .ensures) refl refl refl refl))  -- returns-2

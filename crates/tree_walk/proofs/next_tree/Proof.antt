@@ -14,9 +14,9 @@ next-tree-spec =
     (λ c. search needs)  -- sub-tops
     (λ c. search needs)  -- mul-top
     (λ c. search needs)  -- add-top
-    (λ c. let g = c .before .before .before .before .pre .0 in omega (arith, c .before .count .ensures, rows-are (g .lent), height g, met-most g))  -- sub-top
+    (λ c. let g = c .before .before .before .before .pre .0 .1 in omega (arith, c .before .count .ensures, rows-are (g .lent), height g, met-most g))  -- sub-top
     (λ c. search needs)  -- mul-t8
     (λ c. search needs)  -- shared-slice-read-t11
     (λ c.
     let p = c .before .before .before .before .before .pre in
-    next-go (p .0) (p .1 .0) (p .1 .1) (p .1 .2) (c .before .before .count .ensures) refl refl refl refl refl refl))  -- returns
+    λ q g. next-go g (p .1 .0) (p .1 .1) (p .1 .2) (c .before .before .count .ensures) refl refl refl refl refl refl refl))  -- returns

@@ -26,4 +26,4 @@ take-turn-spec =
     (λ c κs. (c .before .before .before .before .before .before .before .before .before .before .pre, (none (c .before .before .before .before .before), omega (arith, c .before .before .before .if2 .left), c .before .if3 .taken)))  -- next-tree-requires
     (λ c. search needs)  -- same-length-3
     (λ c. search needs)  -- returns-3
-    (λ c. walk-done (c .before .before .before .before .before .before .before .before .before .pre) (none (c .before .before .before .before)) (omega (arith, c .before .before .if2 .left)) (omega (arith, c .if3 .left))))  -- returns-4
+    (λ c. λ q g. walk-done g (none (c .before .before .before .before)) (omega (arith, c .before .before .if2 .left)) (omega (arith, c .if3 .left))))  -- returns-4

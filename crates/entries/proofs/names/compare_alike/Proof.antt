@@ -13,10 +13,10 @@ use Rattle.entries.proofs.names.compare_alike.Statement.{statement}
 use Rattle.entries.proofs.names.compare_alike.Tie as tie
 
 abbrev Inv-loop : tie.InvT-loop
-Inv-loop img p q n i₀ i = Comparing fold (name (entryAt img p)) (name (entryAt img q)) i
+Inv-loop img p q n from i₀ i = Comparing fold (name (entryAt img p)) (name (entryAt img q)) i
 
 abbrev μ-loop : tie.MeasureT-loop
-μ-loop img p q n i₀ i = n - i
+μ-loop img p q n from i₀ i = n - i
 
 -- the two names
 abbrev one : tie.After-shared-slice-known Inv-loop μ-loop → Name
@@ -31,7 +31,7 @@ began c = c .before .before .before
 
 within : (c : tie.In-loop Inv-loop μ-loop) → (c .before .loop .i < length (one (began c))) × (c .before .loop .i < length (two (began c)))
 within c =
-    let p = began c .before .pre .1 .1 in
+    let p = began c .before .pre .1 .1 .0 in
     (omega (arith, c .loop-test .taken, p .0), omega (arith, c .loop-test .taken, p .1))
 
 abbrev going : tie.After-compare-units Inv-loop μ-loop → tie.In-loop Inv-loop μ-loop
@@ -52,7 +52,7 @@ compare-alike-spec =
     tie.close
     (tie.spec Inv-loop μ-loop
     (λ c κs. search needs)  -- alike-requires
-    (λ c. comparing-alike fold (one (c .before)) (two (c .before)) _ (omega (arith, c .before .before .pre .1 .1 .0, c .before .before .pre .1 .1 .1)) (c .alike .ensures))  -- loop-holds
+    (λ c. comparing-alike fold (one (c .before)) (two (c .before)) _ (omega (arith, c .before .before .pre .1 .1 .0 .0, c .before .before .pre .1 .1 .0 .1)) (c .alike .ensures))  -- loop-holds
     (λ c κs. unit-inside (began c .before .pre .0) _ (within c .0))  -- name-unit-requires
     (λ c κs. unit-inside (began (c .before) .before .pre .1 .0) _ (within (c .before) .1))  -- name-unit-requires-2
     (λ c κs. search needs)  -- compare-units-requires
@@ -66,4 +66,4 @@ compare-alike-spec =
     turn-on (turn (c .before .before)) (omega (arith, e)) (omega (arith, e)))  -- loop-again
     (λ c. search needs)  -- enum-told-3
     (λ c. is-more _ _ (turn-more (turn (c .before .before)) (unit-told _ _ (c .before .before .compare-units .ensures) (c .enum-told3 .given .1))))  -- returns-2
-    (λ c. is-same _ _ (comparing-end (c .before .loop .inv) (omega (arith, c .loop-test .left, c .before .before .before .before .pre .1 .1 .0)))))  -- returns-3
+    (λ c. is-same _ _ (comparing-end (c .before .loop .inv) (omega (arith, c .loop-test .left, c .before .before .before .before .pre .1 .1 .0 .0)))))  -- returns-3

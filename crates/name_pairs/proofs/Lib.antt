@@ -1,0 +1,2 @@
+-- Laws of pairs of names.
+pub mod Pairs

@@ -1,0 +1,2 @@
+-- What the functions on pairs of names require and ensure, beside `format`.
+pub mod Pairs
