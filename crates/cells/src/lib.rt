@@ -27,21 +27,6 @@ pub fn copy_cells(to: &mut [u32], from: &[u8], limit: u32, special: u32) -> bool
     ok
 }
 
-// Whether each cell is below the limit or one of the special values from `special` on.
-pub fn cells_right(from: &[u8], limit: u32, special: u32) -> bool
-    ensures { λ r. ⌜ r ≡ allBelow (length (now (from .entry)) / 4) (cellRight limit special (cellOf (now (from .entry)))) ⌝ }
-{
-    let n = from.len() / 4;
-    let mut ok = true;
-    let mut i = 0;
-    while i < n {
-        let v = u32_at(from, 4 * i);
-        ok = ok & ((v < limit) | (special <= v));
-        i += 1;
-    }
-    ok
-}
-
 // Whether each cell is free.
 pub fn all_free(from: &[u8]) -> bool
     ensures { λ r. ⌜ r ≡ allBelow (length (now (from .entry)) / 4) (isFree (cellOf (now (from .entry)))) ⌝ }

@@ -8,8 +8,11 @@ use native.Mathlib.Omega.{arith}
 use lib.Dec.{eqb, ltb}
 use borrow.Author.Tests.{ltb-true, le-ltb}
 use Rattle.format.specs.Basics.Lists.{allBelow}
+use Rattle.format.specs.Basics.Bytes.{Bytes}
+use Rattle.format.specs.Layout.Geometry.{Geometry, sectorCount}
 use Rattle.format.specs.Layout.Chain.{END, FREE, FATSECT, DIFSECT}
 use Rattle.format.specs.Layout.Space.{Space}
+use Rattle.format.specs.Layout.Tables.{fatCell, sectorSpace}
 use Rattle.format.specs.Rules.Cells.{plainCell, tableMark, fatCellRight, cellRules}
 use Rattle.theory.specs.Marks.{MARK, isMark, markOf, marksAt}
 use Rattle.theory.proofs.Counts.{eqb-cases}
@@ -44,7 +47,7 @@ no-mark c limit f h =
     ]
 
 module _ (sp : Space) (f : sp .limit < 0x1000_0000) where
-  pub fat-unmarked : cellRules sp ≡ true → (u : ℕ) → u < sp .limit → isMark (sp .cell u) ≡ false
+  fat-unmarked : cellRules sp ≡ true → (u : ℕ) → u < sp .limit → isMark (sp .cell u) ≡ false
   unfolding cellRules fatCellRight plainCell
   fat-unmarked c u l = no-mark (sp .cell u) (sp .limit) f (below-at (sp .limit) (fatCellRight sp) (both _ _ c .0) u l)
 
@@ -59,3 +62,8 @@ copied sp at {w} f h n =
       markable = record { few = f; room = h .room; place = record { stands = λ u l e. h .here u l }; closed = closed-none none };
       clear = owning-none none;
     }
+
+-- the FAT's, where group 12 holds
+pub fat-copied : (g : Geometry) (img : Bytes) {w : List ℕ} → sectorCount g img < 0x1000_0000 → Holds w 0 (sectorCount g img) (fatCell g img) → cellRules (sectorSpace g img) ≡ true → CellsCopied (sectorSpace g img) 0 w
+unfolding sectorSpace
+fat-copied g img f h c = copied (sectorSpace g img) 0 f h (fat-unmarked (sectorSpace g img) f c)

@@ -7,7 +7,7 @@ use mathlib.Core.List.{List}
 use native.Mathlib.Nat.{zero-add, add-zero}
 use native.Mathlib.Omega.{arith}
 use lib.Dec.{eqb, leb}
-use lib.ListN.{length}
+use lib.ListN.{length, getD}
 use borrow.Author.Tests.{lt-ltb, le-ltb}
 use Rattle.format.specs.Basics.Lists.{allBelow}
 use Rattle.format.specs.Basics.Bytes.{Bytes}
@@ -21,6 +21,7 @@ use Rattle.format.specs.Rules.Cells.{fatCellRight, restFree, cellRules}
 use Rattle.format.specs.Rules.Directory.{someChain, countRight, directoryRules}
 use Rattle.theory.proofs.Marks.{chain-end, chain-step}
 use Rattle.header.specs.Sized.{F}
+use Rattle.tables.specs.Work.{Holds}
 use Rattle.tables.specs.Listed.{FatListedAt}
 use Rattle.tables.proofs.Places.{cells-short as short}
 use Rattle.chains.specs.Answers.{lengthAnswer}
@@ -67,7 +68,7 @@ module _ {cell : ℕ → ℕ} {limit s₀ : ℕ} where
       let z : limit - limit ≡ 0 = omega arith in
       record { some = omega arith; rest = λ n. rw (z, zero-add); size = rw (z, zero-add) }
 
-  pub following-step : {m s : ℕ} → Following cell limit s₀ m s → 0 < m → s < limit → Following cell limit s₀ (m - 1) (cell s)
+  following-step : {m s : ℕ} → Following cell limit s₀ m s → 0 < m → s < limit → Following cell limit s₀ (m - 1) (cell s)
   unfolding follow
   following-step {m = zero} w p l = absurd (omega arith)
   following-step {m = suc m} {s} w p l =
@@ -77,6 +78,12 @@ module _ {cell : ℕ → ℕ} {limit s₀ : ℕ} where
         rest = λ n. let z : limit - m + n ≡ limit - suc m + suc n = omega (arith, w .some) in rw z (w .rest (suc n) ∙ chain-step cell limit n s l);
         size = w .size ∙ rw (lt-ltb s limit l) (omega (arith, w .some));
       }
+
+  -- the next unit, read where the cells stand
+  pub following-read : {w : List ℕ} {m s i : ℕ} → Holds w 0 limit cell → Following cell limit s₀ m s → 0 < m → s < limit → i ≡ s → Following cell limit s₀ (m - 1) (getD w i 0)
+  following-read {w} {s = s} h f p l e =
+      let z : getD w s 0 ≡ cell s = rw zero-add at (h .here s l) in
+      rw (e, z) (following-step f p l)
 
   -- the walk stops at what is no unit, or after as many steps as there are units
   pub following-end : {m s : ℕ} → Following cell limit s₀ m s → (limit ≤ s) ⊎ (m ≡ 0) → (k : ℕ) → k ≡ limit - m

@@ -15,7 +15,7 @@ ghost use Rattle.tables.specs.Work.{Wrote, Holds};
 ghost use Rattle.tables.specs.Views.{volumeOf, sectorCountOf, cellsOf, sectorsOf};
 ghost use Rattle.tables.specs.Listed.{FatListed};
 ghost use Rattle.theory.specs.Marks.{isMark};
-ghost use Rattle.chains.specs.Answers.{isBroken, isShared, andThen, CellsCopied, UnitsWalked, unitAt, lengthAnswer};
+ghost use Rattle.chains.specs.Answers.{isBroken, isShared, andThen, UnitsWalked, unitAt, lengthAnswer};
 use header::count_right;
 use header::directory_start;
 use header::fat_count;
@@ -25,7 +25,6 @@ use tables::Tables;
 use tables::cell_at;
 use tables::copy_table;
 use tables::table_free;
-use tables::table_right;
 
 // ---- marking a chain
 
@@ -167,13 +166,15 @@ pub fn list_chain(img: &[u8], work: &mut [u32], t: Tables, start: Sector, n: usi
 
 // ---- group 12
 
-// The cells below the number of sectors.
-pub fn cells_below(img: &[u8], work: &[u32], t: Tables) -> bool
+// The cells below the number of sectors. Copies them to the start of the work buffer, where chains are walked along and marked then.
+pub fn copy_fat(img: &[u8], work: &mut [u32], t: Tables) -> bool
     requires { ⌜ FatListed t (now img) (now work) ⌝ }
-    ensures { λ r. ⌜ r ≡ allBelow (sectorCountOf t (now (img .entry))) (fatCellRight (sectorsOf t (now (img .entry)))) ⌝ }
+    ensures answer { λ r. ⌜ r ≡ allBelow (sectorCountOf t (now (img .entry))) (fatCellRight (sectorsOf t (now (img .entry)))) ⌝ }
+    ensures holds { λ _. ⌜ Holds (now (work .exit)) 0 (sectorCountOf t (now (img .entry))) (cellsOf t (now (img .entry))) ⌝ }
+    ensures wrote { λ _. ⌜ Wrote (now (work .entry)) (now (work .exit)) 0 (sectorCountOf t (now (img .entry))) ⌝ }
 {
     let g = t.geometry;
-    table_right(img, work, g, t.list, t.sectors, Sector::DIFSECT.0)
+    copy_table(img, work, g, t.list, t.sectors, 0, Sector::DIFSECT.0)
 }
 
 // The cells from the number of sectors on.
@@ -186,23 +187,15 @@ pub fn cells_rest(img: &[u8], work: &[u32], t: Tables) -> bool
     table_free(img, work, g, t.list, t.sectors, g.cells() * f)
 }
 
-// Group 12.
-pub fn cell_rules(img: &[u8], work: &[u32], t: Tables) -> bool
+// Group 12. The cells below the number of sectors stand at the start of the work buffer after it.
+pub fn cell_rules(img: &[u8], work: &mut [u32], t: Tables) -> bool
     requires { ⌜ FatListed t (now img) (now work) ⌝ }
-    ensures { λ r. ⌜ r ≡ cellRules (sectorsOf t (now (img .entry))) ⌝ }
-{
-    cells_below(img, work, t) & cells_rest(img, work, t)
-}
-
-// Copies the FAT's cells to the start of the work buffer, where chains can be marked then.
-pub fn copy_fat(img: &[u8], work: &mut [u32], t: Tables)
-    requires { ⌜ FatListed t (now img) (now work) ⌝ }
-    requires { ⌜ cellRules (sectorsOf t (now img)) ≡ true ⌝ }
-    ensures copied { λ _. ⌜ CellsCopied (sectorsOf t (now (img .entry))) 0 (now (work .exit)) ⌝ }
+    ensures answer { λ r. ⌜ r ≡ cellRules (sectorsOf t (now (img .entry))) ⌝ }
+    ensures holds { λ _. ⌜ Holds (now (work .exit)) 0 (sectorCountOf t (now (img .entry))) (cellsOf t (now (img .entry))) ⌝ }
     ensures wrote { λ _. ⌜ Wrote (now (work .entry)) (now (work .exit)) 0 (sectorCountOf t (now (img .entry))) ⌝ }
 {
-    let g = t.geometry;
-    copy_table(img, work, g, t.list, t.sectors, 0, Sector::DIFSECT.0);
+    let below = copy_fat(img, work, t);
+    below & cells_rest(img, work, t)
 }
 
 // ---- group 13
@@ -223,9 +216,10 @@ fn length_of(k: usize, next: Sector, right: bool) -> Length
     Length::Never
 }
 
-// Group 13: how many sectors the directory has.
+// Group 13: how many sectors the directory has. The cells stand at the start of the work buffer.
 pub fn directory_length(img: &[u8], work: &[u32], t: Tables) -> Length
     requires { ⌜ FatListed t (now img) (now work) ⌝ }
+    requires { ⌜ Holds (now work) 0 (sectorCountOf t (now img)) (cellsOf t (now img)) ⌝ }
     ensures { λ r. ⌜ r
         ≡ lengthAnswer (directoryRules (volumeOf (t .geometry) (now (img .entry))))
         (length (directorySectorsOf (geometryOf (t .geometry)) (now (img .entry)))) ⌝ }
@@ -238,7 +232,7 @@ pub fn directory_length(img: &[u8], work: &[u32], t: Tables) -> Length
         if !s.below(n) {
             return length_of(n - m, s, count_right(img, g, n - m));
         }
-        s = cell_at(img, work, t, s);
+        s = Sector(work[s.index()]);
         m -= 1;
     }
     length_of(n, s, count_right(img, g, n))

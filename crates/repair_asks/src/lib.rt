@@ -6,7 +6,8 @@ ghost use Rattle.format.specs.Layout.Volume.{directorySectorsOf};
 ghost use Rattle.format.specs.Calls.RepairSteps.{tablesHold, directoryHolds, entriesHold};
 ghost use Rattle.kinds.specs.Sizes.{geometryOf};
 ghost use Rattle.header.specs.Sized.{ImageSized, W};
-ghost use Rattle.tables.specs.Views.{volumeOf};
+ghost use Rattle.tables.specs.Work.{Wrote};
+ghost use Rattle.tables.specs.Views.{volumeOf, sectorCountOf};
 ghost use Rattle.tables.specs.Listed.{FatListed};
 ghost use Rattle.tables.specs.Stages.{TablesLeft};
 ghost use Rattle.chains.specs.Answers.{lengthAnswer};
@@ -36,12 +37,13 @@ pub fn tables_hold(img: &[u8], work: &mut [u32], g: Geometry) -> bool
     table_rules(img, work, g)
 }
 
-// Groups 12 and 13: how many sectors the directory has.
-pub fn directory_holds(img: &[u8], work: &[u32], t: Tables) -> Length
+// Groups 12 and 13: how many sectors the directory has. The FAT's cells are copied to the start of the work buffer.
+pub fn directory_holds(img: &[u8], work: &mut [u32], t: Tables) -> Length
     requires { ⌜ FatListed t (now img) (now work) ⌝ }
-    ensures { λ r. ⌜ r
+    ensures answer { λ r. ⌜ r
         ≡ lengthAnswer (directoryHolds (volumeOf (t .geometry) (now (img .entry))))
         (length (directorySectorsOf (geometryOf (t .geometry)) (now (img .entry)))) ⌝ }
+    ensures wrote { λ _. ⌜ Wrote (now (work .entry)) (now (work .exit)) 0 (sectorCountOf t (now (img .entry))) ⌝ }
 {
     if !cell_rules(img, work, t) {
         return Length::Never;

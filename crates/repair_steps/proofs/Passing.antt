@@ -11,6 +11,7 @@ use Rattle.format.specs.Calls.RepairSteps.{directoryHolds, restFreed, blackened
 use Rattle.kinds.specs.declared.Geometry.{Geometry as Sizes}
 use Rattle.kinds.specs.Sizes.{geometryOf}
 use Rattle.header.specs.Sized.{F}
+use Rattle.tables.specs.Work.{Wrote}
 use Rattle.tables.specs.Listed.{FatListedAt, listPlace, tablesOf}
 use Rattle.minis.specs.Listed.{MiniListed}
 use Rattle.minis.proofs.ListLaws.{cells-cover, cells-short}
@@ -18,6 +19,7 @@ use Rattle.volume.specs.Passed.{TablesHold, SystemLeft}
 use Rattle.volume.specs.declared.mini_stage.System.{System}
 use Rattle.volume.specs.declared.mini_stage.SystemTables.{SystemTables}
 use Rattle.volume.specs.declared.mini_stage.SystemTables.the-variants.{Right}
+use Rattle.volume.proofs.Verdicts.{cells-listed}
 use Rattle.volume.proofs.MiniStage.{system-tables, system-marked}
 use Rattle.repair_asks.proofs.Asked.{tables-say, cells-say, directory-says}
 use Rattle.repair_laws.specs.Tables.{Tabled}
@@ -51,8 +53,17 @@ module _ (s : Sizes) {A : Bytes} {w : List ℕ} (p : TablesPassed (geometryOf s)
   -- ---- the second
 
   module _ (h : directoryHolds (volume g A) ≡ true) {n : ℕ} (c : n ≡ length (directorySectorsOf g A)) where
-    pub second-asked : TablesHold g A w n
-    second-asked = record { listed = p .listed; whole = p .whole; tables = tables-say g A (p .tables); cells = cells-say g A h; chained = directory-says g A h; count = c }
+    -- the question has copied the FAT's cells
+    pub second-asked : {w₁ : List ℕ} → Wrote w w₁ 0 (sectorCount g A) → TablesHold g A w₁ n
+    second-asked r =
+        record {
+          listed = cells-listed g A r (p .listed);
+          whole = rw (r .long) (p .whole);
+          tables = tables-say g A (p .tables);
+          cells = cells-say g A h;
+          chained = directory-says g A h;
+          count = c;
+        }
 
     pub second-passed : {B : Bytes} {w′ : List ℕ} → B ≡ blackened (volume g A) A → FatListedAt g A w′ (sectorCount g A) (listPlace A) → length w′ ≡ length w → DirectoryPassed g B w′ n
     second-passed e l q =

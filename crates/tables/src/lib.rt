@@ -12,7 +12,6 @@ ghost use Rattle.tables.specs.Views.{cellsOf};
 ghost use Rattle.tables.specs.Work.{Wrote, Holds};
 ghost use Rattle.tables.specs.Listed.{FatListed, TableListed, tablesOf};
 use cells::all_free;
-use cells::cells_right;
 use cells::copy_cells;
 use header::difat_count;
 use header::fat_count;
@@ -69,32 +68,6 @@ pub fn block_at(work: &[u32], g: Geometry, list: usize, low: usize, end: usize) 
         place: s.place(g) + 4 * i,
         cells: least(g.cells() - i, end - low),
     }
-}
-
-// Whether the first cells of a table are each below the limit, which is how many they are, or one of the special values.
-pub fn table_right(
-    img: &[u8],
-    work: &[u32],
-    g: Geometry,
-    list: usize,
-    limit: usize,
-    special: u32,
-) -> bool
-    requires { ⌜ TableListed (geometryOf g) (now img) (now work) list limit ⌝ }
-    requires { ⌜ limit < 0x1_0000_0000 ⌝ }
-    ensures { λ r. ⌜ r
-        ≡ allBelow limit (cellRight limit special (tableCell (geometryOf g) (now (img .entry)) (now (work .entry)) list)) ⌝ }
-{
-    let mut ok = true;
-    let mut i = 0;
-    while i < limit {
-        let b = block_at(work, g, list, i, limit);
-        let p = b.place;
-        let k = b.cells;
-        ok = ok & cells_right(&img[p..p + 4 * k], limit as u32, special);
-        i += k;
-    }
-    ok
 }
 
 // Whether the cells of a table from `low` on and below `end` are free.

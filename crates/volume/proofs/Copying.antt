@@ -7,14 +7,14 @@ use native.Mathlib.Omega.{arith}
 use lib.ListN.{length}
 use Rattle.format.specs.Basics.Bytes.{Bytes}
 use Rattle.format.specs.Layout.Geometry.{Geometry, sectorCount}
-use Rattle.format.specs.Layout.Tables.{sectorSpace}
+use Rattle.format.specs.Layout.Tables.{fatCell, sectorSpace}
 use Rattle.kinds.specs.Sizes.{geometryOf}
-use Rattle.tables.specs.Work.{Wrote}
+use Rattle.tables.specs.Work.{Wrote, Holds}
 use Rattle.tables.specs.Listed.{FatListed, listPlace, tablesOf}
 use Rattle.tables.specs.declared.Tables.{Tables}
 use Rattle.tables.proofs.WorkLaws.{wrote-two, wrote-wider, listed-kept}
-use Rattle.tables.specs.Views.{sectorsOf}
 use Rattle.chains.specs.Answers.{CellsCopied}
+use Rattle.chains.proofs.Copied.{fat-copied}
 use Rattle.chains.proofs.Owners.{owning-kept, markable-kept}
 use Rattle.directory.specs.Listed.{DirectoryListed, directoryAt}
 use Rattle.directory.specs.declared.Directory.{Directory}
@@ -42,7 +42,10 @@ module _ {t : Tables} {img : Bytes} {w : List ℕ} {n : ℕ} (h : TablesHold (ge
   pub fat-listed : FatListed t img w
   fat-listed = rw (sectors-are, list-is) (h .listed)
 
-  module _ {w₁ : List ℕ} (c : CellsCopied (sectorsOf t img) 0 w₁) (r : Wrote w w₁ 0 (sectorCount g img)) where
+  module _ {w₁ : List ℕ} (a : Holds w₁ 0 (sectorCount g img) (fatCell g img)) (r : Wrote w w₁ 0 (sectorCount g img)) where
+    c : CellsCopied (sectorSpace g img) 0 w₁
+    c = fat-copied g img (omega (arith, h .listed .sized .few)) a (h .cells)
+
     pub still-listed : FatListed t img w₁
     still-listed = listed-kept fat-listed r (omega (arith, list-room))
 

@@ -8,7 +8,7 @@ use native.Mathlib.Omega.{arith}
 use lib.ListN.{length}
 use borrow.Author.Tests.{le-leb, lt-leb}
 use Rattle.format.specs.Basics.Bytes.{Bytes}
-use Rattle.format.specs.Layout.Geometry.{Geometry}
+use Rattle.format.specs.Layout.Geometry.{Geometry, sectorCount}
 use Rattle.format.specs.Layout.Tables.{sectorSpace}
 use Rattle.format.specs.Layout.Volume.{volume, directory}
 use Rattle.format.specs.Rules.Length.{lengthAllowed, workNeed}
@@ -19,8 +19,11 @@ use Rattle.format.specs.Rules.Directory.{directoryRules}
 use Rattle.format.specs.Rules.Entries.{entryRules}
 use Rattle.format.specs.Rules.Trees.{treeRules}
 use Rattle.format.specs.Rules.Verdict.{check, volumeGroups, groups, verdict}
+use Rattle.header.specs.Sized.{ImageSized}
 use Rattle.tables.specs.Work.{Wrote}
+use Rattle.tables.specs.Listed.{FatListedAt}
 use Rattle.tables.specs.Stages.{TablesLeft}
+use Rattle.tables.proofs.WorkLaws.{wrote-wider, listed-kept}
 use Rattle.chains.specs.Answers.{lengthAnswer}
 use Rattle.chains.specs.declared.Length.{Length}
 use Rattle.chains.specs.declared.Length.the-variants.{Is, Never}
@@ -59,6 +62,15 @@ module _ (g : Geometry) (img : Bytes) where
   pub tables-wrote : {w w′ : List ℕ} {r : Bool} → TablesLeft g img w w′ r → length w′ ≡ length w → Wrote w w′ 0 (workNeed (length img))
   unfolding workNeed
   tables-wrote l e = record { long = e; outside = λ i h. ⊎-elim (λ q. absurd (omega arith)) (λ q. l .rest i (omega arith)) h }
+
+  -- group 12 writes the cells, which stand before the list
+  module _ {w w′ : List ℕ} (r : Wrote w w′ 0 (sectorCount g img)) where
+    pub cells-listed : {n list : ℕ} → FatListedAt g img w n list → FatListedAt g img w′ n list
+    cells-listed l = listed-kept l r (omega (arith, l .apart))
+
+    pub cells-wrote : ImageSized g img → Wrote w w′ 0 (workNeed (length img))
+    unfolding workNeed
+    cells-wrote z = wrote-wider 0 _ r (omega arith) (omega (arith, z .many))
 
   -- ---- groups 14 and 15
 
