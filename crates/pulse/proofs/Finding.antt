@@ -21,24 +21,24 @@ use Rattle.streams.specs.declared.FoundStream.the-variants.{At, Refused}
 use Rattle.pulse_laws.specs.Pulse.{isPulseStream}
 use Rattle.pulse_laws.specs.Calls.{contentsAt, readerAnswer, pulsesAnswer, summaryAnswer}
 use Rattle.pulse_records.specs.declared.Trailer.{Trailer}
-use Rattle.pulse.specs.Judged.{trailerFor, judgedAs}
+use Rattle.pulse.specs.Parsed.{trailerFor, parsedAs}
 use Rattle.pulse.specs.Found.{PulsesAt}
-use Rattle.pulse.specs.declared.stream.Judged.the-variants.{Pulses, Other}
+use Rattle.pulse.specs.declared.stream.Parsed.the-variants.{Pulses, Other}
 use Rattle.pulse.proofs.WorkLengths.{summary-long}
 
--- ---- what a judgement says
+-- ---- what parsing says
 
-judged-other : (s : Bytes) → Other ≡ judgedAs s → isPulseStream s ≡ false
-unfolding judgedAs
-judged-other s e = go (isPulseStream s) e
+parsed-other : (s : Bytes) → Other ≡ parsedAs s → isPulseStream s ≡ false
+unfolding parsedAs
+parsed-other s e = go (isPulseStream s) e
   where
     go : (b : Bool) → Other ≡ cond b (Pulses (trailerFor s)) Other → b ≡ false
     go true h = absurd (let z : _≡_ {A = ℕ} 0 1 = cc in omega arith)
     go false h = refl
 
-judged-pulses : (s : Bytes) (t : Trailer) → Pulses t ≡ judgedAs s → (isPulseStream s ≡ true) × (t ≡ trailerFor s)
-unfolding judgedAs
-judged-pulses s t e = go (isPulseStream s) e
+parsed-pulses : (s : Bytes) (t : Trailer) → Pulses t ≡ parsedAs s → (isPulseStream s ≡ true) × (t ≡ trailerFor s)
+unfolding parsedAs
+parsed-pulses s t e = go (isPulseStream s) e
   where
     go : (b : Bool) → Pulses t ≡ cond b (Pulses (trailerFor s)) Other → (b ≡ true) × (t ≡ trailerFor s)
     go true h = (refl, cc)
@@ -59,20 +59,20 @@ module _ (img : Bytes) (path : Path) (w : List ℕ) where
     unfolding contentsAt
     same-bytes = ap (contents (ownVolume img) img) (f .1 .1)
 
-    judged-as : (b : Bool) → isPulseStream s ≡ b → summaryAnswer img path w ≡ cond b 0 40
+    parsed-as : (b : Bool) → isPulseStream s ≡ b → summaryAnswer img path w ≡ cond b 0 40
     unfolding summaryAnswer readerAnswer pulsesAnswer firstOf
-    judged-as b h = let k : isPulseStream (contentsAt img path) ≡ b = ap isPulseStream (sym same-bytes) ∙ h in rw (f .0, k)
+    parsed-as b h = let k : isPulseStream (contentsAt img path) ≡ b = ap isPulseStream (sym same-bytes) ∙ h in rw (f .0, k)
 
-    pub found-other : Other ≡ judgedAs s → summaryAnswer img path w ≡ 40
-    found-other h = judged-as false (judged-other s h)
+    pub found-other : Other ≡ parsedAs s → summaryAnswer img path w ≡ 40
+    found-other h = parsed-as false (parsed-other s h)
 
     -- its units are listed in the work buffer by now
-    pub found-pulses : {v : Volume} {w₁ : List ℕ} (t : Trailer) → length w₁ ≡ length w → OpenStream v img w₁ e → Pulses t ≡ judgedAs s
+    pub found-pulses : {v : Volume} {w₁ : List ℕ} (t : Trailer) → length w₁ ≡ length w → OpenStream v img w₁ e → Pulses t ≡ parsedAs s
         → PulsesAt v img path w₁ (record { object = e; trailer = t })
     found-pulses {w₁ = w₁} t n l h =
-        let q = judged-pulses s t h in
+        let q = parsed-pulses s t h in
         record {
-          answer = summary-long w₁ w n img path ∙ judged-as true (q .0);
+          answer = summary-long w₁ w n img path ∙ parsed-as true (q .0);
           listed = l;
           bytes = same-bytes;
           trailer = q .1 ∙ ap trailerFor same-bytes;

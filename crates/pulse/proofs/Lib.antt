@@ -1,7 +1,7 @@
 -- Laws for the calls on pulse streams.
 pub mod Pieces
 pub mod Listed
-pub mod Judging
+pub mod Parsing
 pub mod Outcomes
 pub mod WorkLengths
 pub mod Finding

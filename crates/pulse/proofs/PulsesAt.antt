@@ -15,7 +15,7 @@ use Rattle.pulse_laws.proofs.PulseStreams.{PulseStream as Pulses, pulses-say}
 use Rattle.pulse_laws.proofs.Zeros.{summary-zero}
 use Rattle.pulse_records.specs.Records.{pulseOf, pulseIn}
 use Rattle.pulse_records.specs.declared.Pulse.{Pulse}
-use Rattle.pulse.specs.Judged.{trailerFor}
+use Rattle.pulse.specs.Parsed.{trailerFor}
 use Rattle.pulse.specs.Found.{PulsesAt}
 use Rattle.pulse.specs.declared.calls.PulseStream.{PulseStream}
 use Rattle.pulse.proofs.Listed.{stream-long}

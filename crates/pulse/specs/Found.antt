@@ -9,7 +9,7 @@ use Rattle.format.specs.Calls.Paths.{Path}
 use Rattle.volume.specs.declared.Volume.{Volume}
 use Rattle.streams.specs.Listed.{OpenStream}
 use Rattle.pulse_laws.specs.Calls.{contentsAt, summaryAnswer}
-use Rattle.pulse.specs.Judged.{trailerFor}
+use Rattle.pulse.specs.Parsed.{trailerFor}
 use Rattle.pulse.specs.Replies.{pulseNumber}
 use Rattle.pulse.specs.declared.calls.PulseStream.{PulseStream}
 use Rattle.pulse.specs.declared.calls.FoundPulses.{FoundPulses}

@@ -1,4 +1,4 @@
 -- What the calls on pulse streams are stated with, beside the definitions of `pulse_laws`.
-pub mod Judged
+pub mod Parsed
 pub mod Replies
 pub mod Found

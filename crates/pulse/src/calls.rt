@@ -14,8 +14,8 @@ use super::answers::PulseRefusal;
 use super::answers::Record;
 use super::answers::Summary;
 use super::answers::Totals;
-use super::stream::Judged;
-use super::stream::judge;
+use super::stream::Parsed;
+use super::stream::parse;
 use super::stream::read_pulse;
 use kinds::Answer;
 use opened::overwrite_opened;
@@ -54,9 +54,9 @@ fn find_pulses(image: &[u8], work: &mut [u32], v: Volume, path: &[u16]) -> Found
         FoundStream::Refused(a) => FoundPulses::Refused(PulseRefusal::File(a)),
         FoundStream::At(e) => {
             open_stream(image, work, v, e);
-            match judge(image, work, v, e) {
-                Judged::Other => FoundPulses::Refused(PulseRefusal::NotPulses),
-                Judged::Pulses(t) => FoundPulses::At(PulseStream {
+            match parse(image, work, v, e) {
+                Parsed::Other => FoundPulses::Refused(PulseRefusal::NotPulses),
+                Parsed::Pulses(t) => FoundPulses::At(PulseStream {
                     object: e,
                     trailer: t,
                 }),

@@ -6,7 +6,7 @@ ghost use Rattle.format.specs.Layout.Stream.{contents};
 ghost use Rattle.format.specs.Rules.Version.{ownVolume};
 ghost use Rattle.streams.specs.Listed.{OpenStream};
 ghost use Rattle.pulse_records.specs.Records.{pulseIn, sumFrom};
-ghost use Rattle.pulse.specs.Judged.{trailerFor, judgedAs};
+ghost use Rattle.pulse.specs.Parsed.{trailerFor, parsedAs};
 use pulse_records::Pulse;
 use pulse_records::Records;
 use pulse_records::TotalTicks;
@@ -101,31 +101,31 @@ fn read_trailer(image: &[u8], work: &[u32], v: Volume, e: Object) -> Trailer
 }
 
 // What a stream is: a pulse stream with this trailer, or another.
-pub enum Judged {
+pub enum Parsed {
     Pulses(Trailer),
     Other,
 }
 
-// Judges a stream: room for a trailer; the trailer agrees with itself, the length and the records; each record is right.
-pub fn judge(image: &[u8], work: &[u32], v: Volume, e: Object) -> Judged
+// Parses a stream: room for a trailer; the trailer agrees with itself, the length and the records; each record is right.
+pub fn parse(image: &[u8], work: &[u32], v: Volume, e: Object) -> Parsed
     requires { ⌜ OpenStream v (now image) (now work) e ⌝ }
-    ensures { λ r. ⌜ r ≡ judgedAs (contents (ownVolume (now (image .entry))) (now (image .entry)) (e .id .0)) ⌝ }
+    ensures { λ r. ⌜ r ≡ parsedAs (contents (ownVolume (now (image .entry))) (now (image .entry)) (e .id .0)) ⌝ }
 {
     if e.size < 16 {
-        return Judged::Other;
+        return Parsed::Other;
     }
     let t = read_trailer(image, work, v, e);
     if !t.agrees(e.size) {
-        return Judged::Other;
+        return Parsed::Other;
     }
     let first = (e.size - t.distance as u64) as usize;
     let mut piece = [0u8; PIECE_BYTES];
     let sum = add_all(image, work, v, e, first, t.count, &mut piece);
     let Sum::Ticks(total) = sum else {
-        return Judged::Other;
+        return Parsed::Other;
     };
     if !t.total.equals(total) {
-        return Judged::Other;
+        return Parsed::Other;
     }
-    Judged::Pulses(t)
+    Parsed::Pulses(t)
 }

@@ -20,7 +20,7 @@ find-pulses-spec =
     (λ c. search needs)  -- enum-known-a
     (λ c. search needs)  -- enum-known-e
     (λ c κs. (c .before .before .before .before .before .before .before .before .before .pre, found (c .before .before) .1 .0))  -- open-stream-requires
-    (λ c κs. search needs)  -- judge-requires
+    (λ c κs. search needs)  -- parse-requires
     (λ c. search needs)  -- enum-told
     (λ c. search needs)  -- enum-known-t
     (λ c. search needs)  -- same-length
@@ -34,7 +34,7 @@ find-pulses-spec =
     let p = l .before .before .before .before .before .before .before .before .before .before in
     let k = l .open-stream .ensures in
     let f = found (l .before .before .before) in
-    (found-other (p .args .image .now) (p .args .path .now) (p .args .work .now) (l .before .before .before .e .given .0 .0) f (sym (c .enum-told .given .1) ∙ c .before .before .judge .ensures), (k .0 .opened, k .1)))  -- returns-2
+    (found-other (p .args .image .now) (p .args .path .now) (p .args .work .now) (l .before .before .before .e .given .0 .0) f (sym (c .enum-told .given .1) ∙ c .before .before .parse .ensures), (k .0 .opened, k .1)))  -- returns-2
     (λ c. search needs)  -- same-length-3
     (λ c.
     let l = c .before .before .before .before .before .before .before in
@@ -42,4 +42,4 @@ find-pulses-spec =
     let k = l .open-stream .ensures in
     let f = found (l .before .before .before) in
     let t = c .before .t .given in
-    (found-pulses (p .args .image .now) (p .args .path .now) (p .args .work .now) (l .before .before .before .e .given .0 .0) f (t .0 .0) (k .1 .long) (k .0) (sym (t .1) ∙ c .before .before .before .judge .ensures), (k .0 .opened, k .1))))  -- returns-3
+    (found-pulses (p .args .image .now) (p .args .path .now) (p .args .work .now) (l .before .before .before .e .given .0 .0) f (t .0 .0) (k .1 .long) (k .0) (sym (t .1) ∙ c .before .before .before .parse .ensures), (k .0 .opened, k .1))))  -- returns-3

@@ -1,7 +1,7 @@
 use borrow.Author.Needs.{needs}
 use mathlib.Core.Path.{ap, _∙_}
 use Rattle.pulse_records.specs.Records.{pulseIn}
-use Rattle.pulse.proofs.Judging.{pulse-read}
+use Rattle.pulse.proofs.Parsing.{pulse-read}
 use Rattle.pulse.proofs.stream.read_pulse.Statement.{statement}
 use Rattle.pulse.proofs.stream.read_pulse.Tie as tie
 

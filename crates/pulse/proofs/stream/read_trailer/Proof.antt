@@ -7,7 +7,7 @@ use Rattle.format.specs.Layout.Stream.{contents}
 use Rattle.format.specs.Rules.Version.{ownVolume}
 use Rattle.pulse_records.specs.Records.{trailerIn}
 use Rattle.pulse.proofs.Listed.{stream-long}
-use Rattle.pulse.proofs.Judging.{trailer-read}
+use Rattle.pulse.proofs.Parsing.{trailer-read}
 use Rattle.pulse.proofs.stream.read_trailer.Statement.{statement}
 use Rattle.pulse.proofs.stream.read_trailer.Tie as tie
 

@@ -12,12 +12,12 @@ use Rattle.format.specs.Rules.Version.{ownVolume}
 use Rattle.theory.proofs.Tests.{both}
 use Rattle.pulse_laws.specs.Pulse.{distanceFor, count}
 use Rattle.pulse_records.specs.Records.{sumFrom}
-use Rattle.pulse.specs.Judged.{trailerFor, judgedAs}
-use Rattle.pulse.specs.declared.stream.Judged.the-variants.{Pulses, Other}
+use Rattle.pulse.specs.Parsed.{trailerFor, parsedAs}
+use Rattle.pulse.specs.declared.stream.Parsed.the-variants.{Pulses, Other}
 use Rattle.pulse.proofs.Listed.{stream-long}
-use Rattle.pulse.proofs.Judging.{agrees, firstRecord, short-other, unlike-other, wrong-other, summed-judged}
-use Rattle.pulse.proofs.stream.judge.Statement.{statement}
-use Rattle.pulse.proofs.stream.judge.Tie as tie
+use Rattle.pulse.proofs.Parsing.{agrees, firstRecord, short-other, unlike-other, wrong-other, summed-parsed}
+use Rattle.pulse.proofs.stream.parse.Statement.{statement}
+use Rattle.pulse.proofs.stream.parse.Tie as tie
 
 abbrev stream : tie.Start → Bytes
 stream p = contents (ownVolume (p .args .image .now)) (p .args .image .now) (p .args .e .id .0)
@@ -54,17 +54,17 @@ right : (c : tie.Else2) → agrees (stream (c .before .before .before .before .b
 right c = sym (agreed (c .before)) ∙ not-false _ (c .if2 .left)
 
 -- the last test decides
-judged : (c : tie.After-equals) → let s = stream (c .before .before .before .before .before .before .before .before .before .before .before .before .before .before .before .before) in cond (c .equals .result) (Pulses (trailerFor s)) Other ≡ judgedAs s
+parsed : (c : tie.After-equals) → let s = stream (c .before .before .before .before .before .before .before .before .before .before .before .before .before .before .before .before) in cond (c .equals .result) (Pulses (trailerFor s)) Other ≡ parsedAs s
 unfolding trailerFor
-judged c =
+parsed c =
     let a = c .before .before .before .before .before in
     let s = stream (a .before .before .before .before .before .before .before .before .before .before .before) in
     let t = c .before .before .sum .given in
     ap (λ b. cond b (Pulses (trailerFor s)) Other) (c .equals .ensures ∙ ap (λ z. eqb (z .total .0) (t .0 .0 .0)) (a .before .before .before .before .before .before .read-trailer .ensures))
-    ∙ summed-judged s (room (a .before .before .before .before .before .before .before)) (right (a .before .before .before .before)) (t .0 .0) (sym (t .1) ∙ summed a)
+    ∙ summed-parsed s (room (a .before .before .before .before .before .before .before)) (right (a .before .before .before .before)) (t .0 .0) (sym (t .1) ∙ summed a)
 
-pub judge-spec : {M : Type 1} → statement M
-judge-spec =
+pub parse-spec : {M : Type 1} → statement M
+parse-spec =
     tie.close
     (tie.spec
     (λ c. short-other _ (omega (arith, long (c .before .before .before .before), c .if1 .taken)))  -- returns
@@ -79,7 +79,7 @@ judge-spec =
     (λ c. search needs)  -- enum-told
     (λ c. let a = c .before .before .before in wrong-other _ (room (a .before .before .before .before .before .before .before)) (right (a .before .before .before .before)) (sym (c .enum-told .given .1) ∙ summed a))  -- returns-3
     (λ c κs. search needs)  -- equals-requires
-    (λ c. ap (λ b. cond b (Pulses (trailerFor (stream (c .before .before .before .before .before .before .before .before .before .before .before .before .before .before .before .before .before)))) Other) (sym (not-true (c .before .equals .result) (c .if3 .taken))) ∙ judged (c .before))  -- returns-4
+    (λ c. ap (λ b. cond b (Pulses (trailerFor (stream (c .before .before .before .before .before .before .before .before .before .before .before .before .before .before .before .before .before)))) Other) (sym (not-true (c .before .equals .result) (c .if3 .taken))) ∙ parsed (c .before))  -- returns-4
     (λ c.
     let s = stream (c .before .before .before .before .before .before .before .before .before .before .before .before .before .before .before .before .before) in
-    ap Pulses (c .before .before .before .before .before .before .before .before .before .before .before .before .read-trailer .ensures) ∙ ap (λ b. cond b (Pulses (trailerFor s)) Other) (sym (not-false (c .before .equals .result) (c .if3 .left))) ∙ judged (c .before)))  -- returns-5
+    ap Pulses (c .before .before .before .before .before .before .before .before .before .before .before .before .read-trailer .ensures) ∙ ap (λ b. cond b (Pulses (trailerFor s)) Other) (sym (not-false (c .before .equals .result) (c .if3 .left))) ∙ parsed (c .before)))  -- returns-5

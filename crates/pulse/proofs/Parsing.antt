@@ -1,4 +1,4 @@
--- What is read of a stream, and what it is judged to be.
+-- What is read of a stream, and what it is.
 use Prim.Native.Nat.{ℕ, _+_, _-_, _≤_, _<_}
 use mathlib.Core.Path.{_≡_, refl, sym, ap, ap₂, _∙_}
 use mathlib.Core.Bool.{Bool, true, false, cond, _&&_}
@@ -12,8 +12,8 @@ use Rattle.pulse_laws.specs.Pulse.{distanceFor, distance, count, total, recordP
 use Rattle.pulse_records.specs.Records.{pulseIn, rightAt, rightFrom, ticksFrom, sumFrom, trailerIn}
 use Rattle.pulse_records.specs.declared.TotalTicks.{TotalTicks}
 use Rattle.pulse_records.specs.declared.sums.Sum.the-variants.{Ticks, Wrong}
-use Rattle.pulse.specs.Judged.{trailerFor, judgedAs}
-use Rattle.pulse.specs.declared.stream.Judged.the-variants.{Pulses, Other}
+use Rattle.pulse.specs.Parsed.{trailerFor, parsedAs}
+use Rattle.pulse.specs.declared.stream.Parsed.the-variants.{Pulses, Other}
 use Rattle.pulse.proofs.Pieces.{u16-piece, u32-piece, u64-piece, sum-says, wrong-says}
 
 pub pulse-read : (s : Bytes) (at : ℕ) → pulseIn (part s at 8) 0 ≡ pulseIn s at
@@ -31,7 +31,7 @@ trailer-read s h =
     let d : at + 8 ≡ length s - 8 = omega arith in
     rw (u32-piece s at 16 0 (omega arith), a, u32-piece s at 16 4 (omega arith), b, u64-piece s at 16 8 (omega arith), d)
 
--- ---- what it is judged to be
+-- ---- what it is
 
 -- the trailer agrees with itself and with the length
 abbrev pub agrees : Bytes → Bool
@@ -41,13 +41,13 @@ abbrev pub firstRecord : Bytes → ℕ
 firstRecord s = length s - distance s
 
 module _ (s : Bytes) where
-  pub short-other : length s < 16 → Other ≡ judgedAs s
-  unfolding judgedAs isPulseStream
+  pub short-other : length s < 16 → Other ≡ parsedAs s
+  unfolding parsedAs isPulseStream
   short-other h = rw (lt-leb 16 (length s) h)
 
   module _ (h : 16 ≤ length s) where
-    pub unlike-other : agrees s ≡ false → Other ≡ judgedAs s
-    unfolding judgedAs isPulseStream
+    pub unlike-other : agrees s ≡ false → Other ≡ parsedAs s
+    unfolding parsedAs isPulseStream
     unlike-other a = rw (le-leb 16 (length s) h, a)
 
     module _ (a : agrees s ≡ true) where
@@ -59,13 +59,13 @@ module _ (s : Bytes) where
       unfolding ticksFrom ticksBelow ticksAt recordPlace
       ticks-are = refl
 
-      pub wrong-other : Wrong ≡ sumFrom s (firstRecord s) (count s) 0 → Other ≡ judgedAs s
-      unfolding judgedAs isPulseStream
+      pub wrong-other : Wrong ≡ sumFrom s (firstRecord s) (count s) 0 → Other ≡ parsedAs s
+      unfolding parsedAs isPulseStream
       wrong-other e = rw (le-leb 16 (length s) h, a, sym right-are ∙ wrong-says s (firstRecord s) (count s) 0 e)
 
-      pub summed-judged : (t : TotalTicks) → Ticks t ≡ sumFrom s (firstRecord s) (count s) 0 → cond (eqb (total s) (t .0)) (Pulses (trailerFor s)) Other ≡ judgedAs s
-      unfolding judgedAs isPulseStream
-      summed-judged t e =
+      pub summed-parsed : (t : TotalTicks) → Ticks t ≡ sumFrom s (firstRecord s) (count s) 0 → cond (eqb (total s) (t .0)) (Pulses (trailerFor s)) Other ≡ parsedAs s
+      unfolding parsedAs isPulseStream
+      summed-parsed t e =
           let q = sum-says s (firstRecord s) (count s) 0 t e in
           let m : t .0 ≡ ticksBelow s (count s) = omega (arith, q .1, ticks-are) in
           rw (le-leb 16 (length s) h, a, sym right-are ∙ q .0, m)
