@@ -2,6 +2,6 @@
 pub mod Counting
 pub mod Differing
 pub mod Replies
-pub mod Judging
+pub mod Outcomes
 pub mod Trying
 pub mod Answers

@@ -31,7 +31,7 @@ pub enum Repair {
 }
 
 // What is answered, once the outcome stands in a buffer of its own: it keeps every rule, or not.
-fn judge(image: &[u8], after: &[u8], work: &mut [u32]) -> Repair
+fn validate_outcome(image: &[u8], after: &[u8], work: &mut [u32]) -> Repair
     requires { ⌜ Tried (now image) (now after) (now work) ⌝ }
     ensures reply { λ r. ⌜ repairReplyOf r ≡ repairReply (now (image .entry)) (now (after .entry)) (now (work .entry)) ⌝ }
     ensures wrote { λ _. ⌜ Wrote (now (work .entry)) (now (work .exit)) 0 (workNeed (length (now (image .entry)))) ⌝ }
@@ -42,7 +42,7 @@ fn judge(image: &[u8], after: &[u8], work: &mut [u32]) -> Repair
     }
 }
 
-// Makes the outcome in a buffer of the image's length, has it judged, and copies it back where it is accepted.
+// Makes the outcome in a buffer of the image's length, has it validated, and copies it back where it is accepted.
 fn repair_by(image: &mut [u8], work: &mut [u32], after: &mut [u8], g: Geometry) -> Repair
     requires { ⌜ RepairRoom (geometryOf g) (now image) (now work) (now after) ⌝ }
     ensures reply { λ r. ⌜ repairReplyOf r ≡ repairReply (now (image .entry)) (now (after .entry)) (now (work .entry)) ⌝ }
@@ -51,7 +51,7 @@ fn repair_by(image: &mut [u8], work: &mut [u32], after: &mut [u8], g: Geometry) 
 {
     copy(after, image);
     outcome(after, work, g);
-    let r = judge(image, after, work);
+    let r = validate_outcome(image, after, work);
     if let Repair::Done(_) = r {
         copy(image, after);
     }

@@ -1,4 +1,4 @@
--- The outcome of a repair, judged: what is answered, and what the work buffer is then.
+-- The outcome of a repair, validated: what is answered, and what the work buffer is then.
 use Prim.Native.Nat.{ℕ, _≤_}
 use mathlib.Core.Path.{_≡_, sym, ap, _∙_, subst}
 use mathlib.Core.Bool.{Bool, true, false, cond, _||_}
@@ -57,8 +57,8 @@ module _ {img after : Bytes} {work : List ℕ} (k : Tried img after work) where
       refused : OpenedRight (versionOf after) after work w (Refused a)
       refused = subst (λ x. OpenedRight (versionOf after) after work w x) q o
 
-      pub refused-judged : (plain (refusalNumber a) ≡ repairReply img after work) × Wrote work w 0 (workNeed (length img))
-      refused-judged = (
+      pub refused-outcome : (plain (refusalNumber a) ≡ repairReply img after work) × Wrote work w 0 (workNeed (length img))
+      refused-outcome = (
         refused-reply img after work a (refused .0 ∙ sym answer-is),
         rw after-long at (left-wrote (verdict (versionOf after) after (length work)) after work w (rw after-long (k .room)) (refused .1)),
       )
@@ -70,6 +70,6 @@ module _ {img after : Bytes} {work : List ℕ} (k : Tried img after work) where
       pub ready-lists : Readied v after w
       ready-lists = ready .1 .1 .0
 
-      pub ready-judged : {n : ℕ} → n ≡ differences (volume (geometryOf (v .tables .geometry)) after) img after
+      pub ready-outcome : {n : ℕ} → n ≡ differences (volume (geometryOf (v .tables .geometry)) after) img after
           → (counted n ≡ repairReply img after work) × Wrote work w 0 (workNeed (length img))
-      ready-judged e = (done-reply img after work (answer-is ∙ ready .0) e (ready .1 .0 ∙ version-is) (k .outcome), rw after-long at (ready .1 .1 .1 .1))
+      ready-outcome e = (done-reply img after work (answer-is ∙ ready .0) e (ready .1 .0 ∙ version-is) (k .outcome), rw after-long at (ready .1 .1 .1 .1))
