@@ -1,20 +1,15 @@
 -- A test of every number below a limit, one more at a time.
 use Prim.Native.Nat.{ℕ, _+_, _<_}
 use mathlib.Core.Path.{_≡_, sym, _∙_}
-use mathlib.Core.Bool.{Bool, true, false, _&&_, and-true, and-false}
-use native.Mathlib.Numerals.{add-one}
+use mathlib.Core.Bool.{Bool, true, false, and-true, and-false}
 use Rattle.format.specs.Basics.Lists.{allBelow}
-use Rattle.theory.proofs.Loops.{below-not}
+use Rattle.theory.proofs.Loops.{below-next, below-not}
 use Rattle.entry_rules.specs.Names.{restBelow}
 
 module _ (p : ℕ → Bool) where
-  pub below-next : (i : ℕ) → allBelow (i + 1) p ≡ (allBelow i p && p i)
-  unfolding allBelow
-  below-next i = rw add-one
-
   -- those from m on
   pub rest-next : (m i : ℕ) → allBelow i p ≡ allBelow m p → p i ≡ true → allBelow (i + 1) p ≡ allBelow m p
-  rest-next m i h e = rw (below-next i, e, h) (and-true (allBelow m p))
+  rest-next m i h e = rw (below-next p i, e, h) (and-true (allBelow m p))
 
   pub rest-stop : (m i n : ℕ) → i < n → p i ≡ false → restBelow m n p false
   rest-stop m i n h e = and-false (allBelow m p) ∙ sym (below-not p n i h e)

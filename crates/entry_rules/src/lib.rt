@@ -157,7 +157,8 @@ fn colours(img: &[u8], work: &[u32], d: Directory, x: EntryId, end: usize) -> bo
     ok
 }
 
-// Asked before entry x is read: at every 64th, whether the next 64 stand in a row or have right colours. Of those that do not stand in a row, this brings the bytes near at the same time.
+// Asked before entry x is read: at every 64th, whether the next 64 stand in a row or have right colours. Of those that do not stand in
+// a row, this brings the bytes near at the same time.
 fn ahead_right(img: &[u8], work: &[u32], d: Directory, x: EntryId) -> bool
     requires { ⌜ DirectoryListed d (now img) (now work) ⌝ }
     requires { ⌜ x .0 < countOf d ⌝ }

@@ -6,7 +6,7 @@ use Rattle.format.specs.Basics.Lists.{allBelow}
 use Rattle.theory.proofs.Loops.{below-none}
 use Rattle.entries.specs.Entry.{entryAt}
 use Rattle.entry_rules.specs.Names.{unitLegal}
-use Rattle.entry_rules.proofs.Units.{below-next}
+use Rattle.theory.proofs.Loops.{below-next}
 use Rattle.entry_rules.proofs.first_legal.Statement.{statement}
 use Rattle.entry_rules.proofs.first_legal.Tie as tie
 
