@@ -24,7 +24,7 @@ use Rattle.chains.specs.declared.Marked.the-variants.{Broken, Fresh, Sha
 
 -- ---- marks as numbers
 
-mark-is : (v k : ℕ) → v ≡ MARK + k → 0 < k → k < 0x1000_0000 → markOf v ≡ k
+pub mark-is : (v k : ℕ) → v ≡ MARK + k → 0 < k → k < 0x1000_0000 → markOf v ≡ k
 unfolding markOf isMark
 mark-is v k e p l = rw (lt-ltb MARK v (omega arith), lt-ltb v 0xFFFF_FFFC (omega arith)) (omega arith)
 
@@ -42,6 +42,35 @@ unmarked-is v = go (isMark v) refl
     go : (b : Bool) → isMark v ≡ b → eqb (markOf v) 0 ≡ not (isMark v)
     go true e = let k = mark-some v e in rw e (ne-eqb (markOf v) 0 (omega (arith, k .0, k .1)))
     go false e = rw (mark-none v e, e)
+
+-- ---- a mark is written over the cell of unit s, which had none
+
+pub record Put (sp : Space) (at : ℕ) (w₀ w : List ℕ) (s k : ℕ) : Type 0 where
+  pub free : marksAt at w s ≡ 0
+  pub new : marksAt at (set w (at + s) (MARK + k)) s ≡ k
+  pub other : (u : ℕ) → u ≢ s → marksAt at (set w (at + s) (MARK + k)) u ≡ marksAt at w u
+  pub place : InPlace (sp .cell) (sp .limit) at (set w (at + s) (MARK + k))
+  pub wrote : Wrote w₀ (set w (at + s) (MARK + k)) at (sp .limit)
+
+pub put-mark : (sp : Space) {at : ℕ} {w₀ w : List ℕ} (s k : ℕ) → at + sp .limit ≤ length w → InPlace (sp .cell) (sp .limit) at w → Wrote w₀ w at (sp .limit)
+    → 0 < k → k < 0x1000_0000 → s < sp .limit → isMark (getD w (at + s) 0) ≡ false → Put sp at w₀ w s k
+put-mark sp {at} {w = w} s k room place wrote p f l e =
+    let v = MARK + k in
+    let new : marksAt at (set w (at + s) v) s ≡ k = mark-is _ k (getD-set-same w (at + s) v 0 (omega arith)) p f in
+    let other : (u : ℕ) → u ≢ s → getD (set w (at + s) v) (at + u) 0 ≡ getD w (at + u) 0 = λ u d. getD-set-other w (at + s) (at + u) v 0 (omega arith) in
+    record {
+      free = mark-none _ e;
+      new = new;
+      other = λ u d. ap markOf (other u d);
+      place = record {
+        stands = λ u i y.
+            ⊎-elim
+            (λ d. absurd (omega (arith, new, rw (d .0) at y)))
+            (λ d. other u (d .0) ∙ place .stands u i (rw (other u (d .0)) at y))
+            (eqb-cases u s);
+      };
+      wrote = wrote-set (at + s) v wrote (omega arith) (omega arith);
+    }
 
 -- ---- the answers
 
@@ -70,26 +99,14 @@ module _ {sp : Space} {at : ℕ} {w₀ : List ℕ} {n s₀ : ℕ} (z : Markable 
   walk-start = record { marking = marking-start (z .closed); place = z .place; wrote = wrote-none w₀ at _ }
 
   module _ {w : List ℕ} {s k : ℕ} (h : Walk sp at w₀ n s₀ w s k) where
-    inside : s < sp .limit → at + s < length w
-    inside l = omega (arith, z .room, h .wrote .long)
-
     pub walk-step : 0 < k → k < 0x1000_0000 → s < sp .limit → isMark (getD w (at + s) 0) ≡ false
         → Walk sp at w₀ n s₀ (set w (at + s) (MARK + k)) (getD w (at + s) 0) (k - 1)
     walk-step p f l e =
-        let v = MARK + k in
-        let free : marksAt at w s ≡ 0 = mark-none _ e in
-        let new : marksAt at (set w (at + s) v) s ≡ k = mark-is _ k (getD-set-same w (at + s) v 0 (inside l)) p f in
-        let other : (u : ℕ) → u ≢ s → getD (set w (at + s) v) (at + u) 0 ≡ getD w (at + u) 0 = λ u d. getD-set-other w (at + s) (at + u) v 0 (omega arith) in
+        let r = put-mark sp s k (omega (arith, z .room, h .wrote .long)) (h .place) (h .wrote) p f l e in
         record {
-          marking = rw (h .place .stands s l free) (marking-step (marksAt at (set w (at + s) v)) (h .marking) p l free new (λ u d. ap markOf (other u d)));
-          place = record {
-            stands = λ u i y.
-                ⊎-elim
-                (λ d. absurd (omega (arith, new, rw (d .0) at y)))
-                (λ d. other u (d .0) ∙ h .place .stands u i (rw (other u (d .0)) at y))
-                (eqb-cases u s);
-          };
-          wrote = wrote-set (at + s) v (h .wrote) (omega arith) (omega arith);
+          marking = rw (h .place .stands s l (r .free)) (marking-step (marksAt at (set w (at + s) (MARK + k))) (h .marking) p l (r .free) (r .new) (r .other));
+          place = r .place;
+          wrote = r .wrote;
         }
 
     broken : chain (sp .cell) (sp .limit) n s₀ ≡ false → ChainWalked sp at n s₀ w₀ w Broken

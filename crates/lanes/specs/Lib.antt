@@ -1,0 +1,3 @@
+-- What marking chains side by side answers and leaves.
+pub mod Lanes
+pub mod Answers
