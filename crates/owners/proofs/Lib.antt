@@ -1,6 +1,6 @@
 -- Laws for streams and owners.
 pub mod Both
-pub mod StreamLaws
+pub mod Blocks
 pub mod Marking
 pub mod Covered
 pub mod Groups

@@ -1,9 +1,8 @@
--- The loop over all entries that marks the chain of each stream.
-use Prim.Native.Nat.{ℕ, _+_, _≤_, _<_}
-use mathlib.Core.Path.{_≡_, refl, sym, _∙_, subst}
-use mathlib.Core.Bool.{true, false}
-use mathlib.Core.List.{List, [], _++_}
-use native.Mathlib.Numerals.{add-one}
+-- The loop over all entries that marks the chains of the streams, block by block.
+use Prim.Native.Nat.{ℕ, _+_, _-_, _≤_}
+use mathlib.Core.Path.{_≡_, refl, sym, ap, _∙_, subst}
+use mathlib.Core.Bool.{Bool, true, false}
+use mathlib.Core.List.{List, _++_}
 use native.Mathlib.Omega.{arith}
 use borrow.Author.Tests.{not-true, not-false}
 use Rattle.format.specs.Basics.Bytes.{Bytes}
@@ -11,7 +10,7 @@ use Rattle.format.specs.Basics.Lists.{allBelow, joinBelow}
 use Rattle.format.specs.Layout.Volume.{Volume}
 use Rattle.format.specs.Rules.Streams.{streamRight, streamRules}
 use Rattle.format.specs.Rules.Owners.{ownSectors, ownMinis, ownedMinis}
-use Rattle.theory.proofs.Loops.{below-none, below-more, below-not}
+use Rattle.theory.proofs.Loops.{below-none, below-join}
 use Rattle.tables.specs.Views.{volumeOf}
 use Rattle.tables.specs.declared.Tables.{Tables}
 use Rattle.tables.proofs.WorkLaws.{wrote-two}
@@ -19,17 +18,11 @@ use Rattle.chains.specs.Answers.{isBroken, andThen}
 use Rattle.chains.specs.declared.Marked.{Marked}
 use Rattle.chains.specs.declared.Marked.the-variants.{Broken, Fresh}
 use Rattle.directory.specs.declared.Directory.{Directory}
+use Rattle.stream_chains.specs.Asked.{rightFrom, sectorsFrom, minisFrom}
+use Rattle.stream_chains.proofs.Joins.{join-none, join-add, below-longer}
 use Rattle.minis.specs.declared.Minis.{Minis}
-use Rattle.owners.specs.Streams.{StreamsMarkable, BothMarked, StreamMarked, StreamsMarked}
+use Rattle.owners.specs.Streams.{StreamsMarkable, BothMarked, BlockMarked, StreamsMarked}
 use Rattle.owners.proofs.Both.{both-none, both-then, both-broken}
-
-join-none : (f : ℕ → List ℕ) → joinBelow 0 f ≡ []
-unfolding joinBelow
-join-none f = refl
-
-join-more : (n : ℕ) (f : ℕ → List ℕ) → joinBelow (n + 1) f ≡ joinBelow n f ++ f n
-unfolding joinBelow
-join-more n f = rw add-one
 
 module _ (t : Tables) (m : Minis) (d : Directory) (img : Bytes) where
   abbrev v : Volume
@@ -46,20 +39,33 @@ module _ {t : Tables} {m : Minis} {d : Directory} {img : Bytes} where
   marking-start z = record { within = omega arith; rights = below-none _; marked = rw (join-none (ownSectors (v t m d img)), join-none (ownMinis (v t m d img))) (both-none z) }
 
   module _ {i : ℕ} {w₀ w : List ℕ} {a : Marked} (h : Marking t m d img i w₀ w a) where
-    module _ (l : i < v t m d img .directory .count) {w′ : List ℕ} {b : Marked} (k : StreamMarked t m d img i w w′ b) where
-      pub marking-step : isBroken b ≡ false → Marking t m d img (i + 1) w₀ w′ (andThen a b)
-      marking-step e =
-          let x : streamRight (v t m d img) i ≡ true = not-false _ (sym (k .answer) ∙ e) in
+    -- the entries from i up to e
+    module _ {e : ℕ} (o : i ≤ e) (l : e ≤ v t m d img .directory .count) {w′ : List ℕ} {b : Marked} (k : BlockMarked t m d img i (e - i) w w′ b) where
+      ends : i + (e - i) ≡ e
+      ends = omega arith
+
+      right-to : {u : Bool} → allBelow (e - i) (rightFrom (v t m d img) i) ≡ u → allBelow e (streamRight (v t m d img)) ≡ u
+      right-to q = rw (← ends) (sym (below-join (streamRight (v t m d img)) (rightFrom (v t m d img) i) i (e - i) (sym (h .rights)) (sym q) (λ j s. refl)))
+
+      sectors-to : joinBelow i (ownSectors (v t m d img)) ++ joinBelow (e - i) (sectorsFrom (v t m d img) i) ≡ joinBelow e (ownSectors (v t m d img))
+      sectors-to = sym (join-add (ownSectors (v t m d img)) i (e - i)) ∙ ap (λ n. joinBelow n (ownSectors (v t m d img))) ends
+
+      minis-to : joinBelow i (ownMinis (v t m d img)) ++ joinBelow (e - i) (minisFrom (v t m d img) i) ≡ joinBelow e (ownMinis (v t m d img))
+      minis-to = sym (join-add (ownMinis (v t m d img)) i (e - i)) ∙ ap (λ n. joinBelow n (ownMinis (v t m d img))) ends
+
+      pub marking-step : isBroken b ≡ false → Marking t m d img e w₀ w′ (andThen a b)
+      marking-step q =
+          let x = not-false _ (sym (k .answer) ∙ q) in
           record {
-            within = omega arith;
-            rights = below-more (streamRight (v t m d img)) i (h .rights) x;
-            marked = rw (join-more i (ownSectors (v t m d img)), join-more i (ownMinis (v t m d img))) (both-then (h .marked) (rw x at k));
+            within = l;
+            rights = right-to x;
+            marked = rw (← sectors-to, ← minis-to) (both-then (h .marked) (rw x at k));
           }
 
       pub marking-broken : isBroken b ≡ true → StreamsMarked t m d img w₀ w′ Broken
       unfolding streamRules
-      marking-broken e =
-          let x = below-not (streamRight (v t m d img)) _ i l (not-true _ (sym (k .answer) ∙ e)) in
+      marking-broken q =
+          let x = below-longer (streamRight (v t m d img)) e _ l (right-to (not-true _ (sym (k .answer) ∙ q))) in
           both-broken _ _ x (wrote-two (h .marked .wrote) (k .wrote))
 
     pub marking-end : v t m d img .directory .count ≤ i → StreamsMarked t m d img w₀ w a

@@ -11,8 +11,8 @@ use Rattle.format.specs.Layout.Volume.{miniSpace}
 use Rattle.format.specs.Rules.Tables.{tableRules}
 use Rattle.format.specs.Rules.Cells.{cellRules}
 use Rattle.format.specs.Rules.Mini.{miniCellRight}
-use Rattle.format.specs.Rules.Streams.{streamRight, streamRules}
-use Rattle.format.specs.Rules.Owners.{ownSectors, ownMinis, ownedMinis}
+use Rattle.format.specs.Rules.Streams.{streamRules}
+use Rattle.format.specs.Rules.Owners.{ownSectors, ownedMinis}
 use Rattle.theory.specs.Marks.{Owning, covered, marksAt}
 use Rattle.kinds.specs.Sizes.{geometryOf}
 use Rattle.tables.specs.Work.{Wrote}
@@ -22,6 +22,7 @@ use Rattle.chains.specs.Answers.{isBroken, isShared, Markable}
 use Rattle.chains.specs.declared.Marked.{Marked}
 use Rattle.directory.specs.Listed.{DirectoryListed}
 use Rattle.directory.specs.declared.Directory.{Directory}
+use Rattle.stream_chains.specs.Asked.{rightFrom, sectorsFrom, minisFrom}
 use Rattle.minis.specs.declared.Minis.{Minis}
 use Rattle.system_chains.specs.System.{SectorsMarkable, SystemOwned}
 use Rattle.owners.specs.declared.rules.Owners.{Owners}
@@ -64,11 +65,11 @@ pub record BothMarked (t : Tables) (m : Minis) (d : Directory) (img : Bytes) (ri
   pub owners : right ≡ true → BothOwn t img sectors minis before after (isShared a)
   pub wrote : Wrote before after 0 (sectorCountOf t img + minisIn t img .limit)
 
--- the chain of entry x has been marked, if it is a stream; and those of all entries
-abbrev pub StreamMarked : Tables → Minis → Directory → Bytes → ℕ → List ℕ → List ℕ → Marked → Type 0
-StreamMarked t m d img x before after a =
+-- the chains of the streams among n entries from x on have been marked; and those of all entries
+abbrev pub BlockMarked : Tables → Minis → Directory → Bytes → (x n : ℕ) → List ℕ → List ℕ → Marked → Type 0
+BlockMarked t m d img x n before after a =
     let v = volumeOf (t .geometry) img in
-    BothMarked t m d img (streamRight v x) (ownSectors v x) (ownMinis v x) before after a
+    BothMarked t m d img (allBelow n (rightFrom v x)) (joinBelow n (sectorsFrom v x)) (joinBelow n (minisFrom v x)) before after a
 
 abbrev pub StreamsMarked : Tables → Minis → Directory → Bytes → List ℕ → List ℕ → Marked → Type 0
 StreamsMarked t m d img before after a =

@@ -1,59 +1,65 @@
 // Streams and owners: the chains of all streams (group 17), and the units that nobody owns (group 18).
 ghost use mathlib.Core.Path.{_≡_};
-ghost use Prim.Native.Nat.{_<_};
+ghost use Prim.Native.Nat.{_+_, _-_, _≤_};
 ghost use Rattle.directory.specs.Listed.{entriesOf};
-ghost use Rattle.owners.specs.Streams.{StreamsMarkable, StreamMarked, StreamsMarked, CellsRight, allCovered};
+ghost use Rattle.owners.specs.Streams.{StreamsMarkable, BlockMarked, StreamsMarked, CellsRight, allCovered};
 use cells::all_covered;
 use chains::Marked;
-use chains::mark_chain;
-use chains::sectors_for;
-use chains::units_for;
 use directory::Directory;
-use directory::place;
-use entries::entry_type;
-use entries::size;
-use entries::start_mini;
-use entries::start_sector;
-use kinds::CUTOFF;
 use kinds::EntryId;
-use kinds::MiniSector;
+use lanes::mark_lanes;
+use le::least;
 use minis::Minis;
+use stream_chains::Lanes;
+use stream_chains::gather;
+use stream_chains::split;
 use tables::Tables;
 
 pub mod rules;
 
-// Marks the chain of entry x, if it is a stream, among the units that its size says.
-fn mark_stream(
+// Marks the chains of the streams among the entries from x up to `end`: first those of mini sectors, then those of sectors, each kind side by side.
+fn mark_block(
     img: &[u8],
     work: &mut [u32],
     t: Tables,
     m: Minis,
     d: Directory,
     x: EntryId,
+    end: usize,
 ) -> Marked
     requires { ⌜ StreamsMarkable t m d (now img) (now work) ⌝ }
-    requires { ⌜ x .0 < entriesOf d (now img) .count ⌝ }
-    ensures { λ r. ⌜ StreamMarked t m d (now (img .entry)) (x .0) (now (work .entry)) (now (work .exit)) r ⌝ }
+    requires { ⌜ (x .0 ≤ end) × (end ≤ entriesOf d (now img) .count) × (end ≤ x .0 + 32) ⌝ }
+    ensures { λ r. ⌜ BlockMarked t m d (now (img .entry)) (x .0) (end - x .0) (now (work .entry)) (now (work .exit)) r ⌝ }
 {
-    let p = place(work, d, x);
-    if !entry_type(img, p).is_stream() {
-        return Marked::Fresh;
-    }
-    let n = size(img, p, t.geometry);
-    if n < CUTOFF {
-        let units = units_for(n, MiniSector::BYTES as u64);
-        return mark_chain(work, t.sectors, m.units, start_mini(img, p).0, units);
-    }
-    mark_chain(
-        work,
-        0,
+    let mut starts = [0u32; 32];
+    let mut sizes = [0u64; 32];
+    let k = gather(img, work, d, x, end, &mut starts, &mut sizes);
+    let mut sh = [0u32; 32];
+    let mut sl = [0u32; 32];
+    let mut lh = [0u32; 32];
+    let mut ll = [0u32; 32];
+    let s = split(
+        &starts,
+        &sizes,
+        k,
+        t.geometry,
         t.sectors,
-        start_sector(img, p).0,
-        sectors_for(n, t.geometry),
-    )
+        &mut sh,
+        &mut sl,
+        &mut lh,
+        &mut ll,
+    );
+    let Lanes::Ready(c) = s else {
+        return Marked::Broken;
+    };
+    let a = mark_lanes(work, t.sectors, m.units, &mut sh, &mut sl, c.small);
+    if a.is_broken() {
+        return Marked::Broken;
+    }
+    a.and_then(mark_lanes(work, 0, t.sectors, &mut lh, &mut ll, c.large))
 }
 
-// Marks the chains of all streams.
+// Marks the chains of all streams, 32 entries at a time.
 pub fn mark_streams(img: &[u8], work: &mut [u32], t: Tables, m: Minis, d: Directory) -> Marked
     requires { ⌜ StreamsMarkable t m d (now img) (now work) ⌝ }
     ensures { λ r. ⌜ StreamsMarked t m d (now (img .entry)) (now (work .entry)) (now (work .exit)) r ⌝ }
@@ -62,12 +68,13 @@ pub fn mark_streams(img: &[u8], work: &mut [u32], t: Tables, m: Minis, d: Direct
     let mut all = Marked::Fresh;
     let mut x = EntryId::ROOT;
     while x.index() < n {
-        let one = mark_stream(img, work, t, m, d, x);
+        let end = least(x.index() + 32, n);
+        let one = mark_block(img, work, t, m, d, x, end);
         if one.is_broken() {
             return Marked::Broken;
         }
         all = all.and_then(one);
-        x = x.next();
+        x = EntryId(end as u32);
     }
     all
 }

@@ -4,7 +4,7 @@ use mathlib.Core.Path.{_≡_, sym, _∙_, ap₂}
 use mathlib.Core.Bool.{_&&_}
 use native.Mathlib.Omega.{arith}
 use lib.Seq.{length-take-le}
-use Rattle.owners.proofs.StreamLaws.{minis-in-work}
+use Rattle.owners.proofs.Blocks.{minis-in-work}
 use Rattle.owners.proofs.Covered.{sectors-covered, minis-covered}
 use Rattle.owners.proofs.units_covered.Statement.{statement}
 use Rattle.owners.proofs.units_covered.Tie as tie

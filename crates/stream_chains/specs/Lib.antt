@@ -1,0 +1,3 @@
+-- Which chains the streams of some entries ask for.
+pub mod Asked
+pub mod Split
