@@ -80,7 +80,7 @@ pub fn is_mark(v: u32) -> bool
 }
 
 // The number of a unit of either kind as an index.
-fn index(unit: u32) -> usize
+pub fn index(unit: u32) -> usize
     ensures { λ r. ⌜ (r ≡ unit) × (r < 0x1_0000_0000) ⌝ }
 {
     unit as usize

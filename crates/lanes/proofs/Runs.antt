@@ -2,11 +2,12 @@
 use Prim.Native.Nat.{ℕ, _+_, _-_, _≤_, _<_}
 use mathlib.Core.Path.{_≡_, refl, sym, ap, _∙_}
 use mathlib.Core.Logic.{⊎-elim}
-use mathlib.Core.Bool.{Bool, true, false, not, _||_, or-true, or-false}
+use mathlib.Core.Bool.{Bool, true, false, not, cond, _||_, or-true, or-false}
 use mathlib.Core.List.{List, _∷_, _++_}
 use native.Mathlib.Omega.{arith}
-use native.Mathlib.Decide.{ℕ-discrete}
-use lib.Dec.{ltb}
+use native.Mathlib.Decide.{ℕ-discrete, decLt}
+use lib.Dec.{ltb, leb}
+use borrow.Author.Tests.{le-leb, lt-leb}
 use lib.ListN.{length, getD, set, length-set}
 use lib.Seq.{getD-set-same, getD-set-other}
 use Rattle.format.specs.Basics.Lists.{bit, count, member, allBelow, listBelow, joinBelow, pickBelow}
@@ -29,6 +30,16 @@ use Rattle.lanes.specs.declared.Step.the-variants as step
 use Rattle.lanes.proofs.Side.{side-step, side-done, side-off, side-out, side-clash, side-meet}
 use Rattle.lanes.proofs.Ends.{side-closed, side-right, side-start, side-owning}
 use Rattle.lanes.proofs.Arrays.{laneAt, lanes, lane-other, lane-same, side-at, side-turn, side-drop, rights-are, sums-are}
+
+-- ---- turns
+
+-- the lane whose turn it is is one of those that are not done
+pub turn-in : (i live : ℕ) {r : ℕ} → r ≡ cond (leb live i) 0 i → r ≤ live - 1
+turn-in i live {r} e =
+    elim (decLt i live) [
+      | yes h ↦ let k : r ≡ i = rw (lt-leb live i h) at e in omega arith
+      | no h ↦ let k : r ≡ 0 = rw (le-leb live i (omega arith)) at e in omega arith
+    ]
 
 -- ---- marks that agree with the cells are those of some owned units, none of them twice
 

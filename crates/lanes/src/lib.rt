@@ -1,9 +1,12 @@
 // Chains marked side by side, so that the processor waits for many cells at once.
 ghost use mathlib.Core.Path.{_≡_};
-ghost use Prim.Native.Nat.{_+_, _-_, _≤_, _<_};
+ghost use mathlib.Core.Bool.{cond};
+ghost use Prim.Native.Nat.{_+_, _≤_, _<_};
+ghost use lib.Dec.{leb};
 ghost use lib.ListN.{length, getD, set};
 ghost use Rattle.lanes.specs.Answers.{Stepped, LanesShort, LanesMarked};
 use chains::Marked;
+use chains::index;
 use chains::is_mark;
 use kinds::Sector;
 
@@ -13,13 +16,6 @@ enum Step {
     On(u32),
     Done,
     Met,
-}
-
-// The number of a unit of either kind as an index.
-fn index(unit: u32) -> usize
-    ensures { λ r. ⌜ (r ≡ unit) × (r < 0x1_0000_0000) ⌝ }
-{
-    unit as usize
 }
 
 // One step of a lane that is at s, with k units to go.
@@ -50,7 +46,7 @@ fn take_step(work: &mut [u32], at: usize, limit: usize, s: u32, k: u32) -> Step
 
 // The lane whose turn it is: i, or the first behind the last.
 fn turn(i: usize, live: usize) -> usize
-    ensures { λ r. ⌜ r ≤ live - 1 ⌝ }
+    ensures { λ r. ⌜ r ≡ cond (leb live i) 0 i ⌝ }
 {
     if live <= i {
         return 0;

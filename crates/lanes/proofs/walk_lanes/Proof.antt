@@ -6,7 +6,7 @@ use lib.ListN.{length, getD}
 use Rattle.lanes.specs.Answers.{Stepped}
 use Rattle.lanes.specs.declared.Step.the-variants.{On}
 use Rattle.lanes.proofs.Arrays.{stepsLeft, less-on, less-drop}
-use Rattle.lanes.proofs.Runs.{Runs, runs-start, runs-on, runs-done, runs-met, runs-broken, runs-fresh, runs-shared}
+use Rattle.lanes.proofs.Runs.{turn-in, Runs, runs-start, runs-on, runs-done, runs-met, runs-broken, runs-fresh, runs-shared}
 use Rattle.lanes.proofs.walk_lanes.Statement.{statement}
 use Rattle.lanes.proofs.walk_lanes.Tie as tie
 
@@ -57,7 +57,7 @@ walk-lanes-spec =
     (λ c.
     let l = c .before .before .before .before .before .before .before .before .before .before .before .before .loop in
     less-on (l .left) _ _ _ (inside (c .before .before .before .before .before .before .before .before .before .before .before)) (omega (arith, inside (c .before .before .before .before .before .before .before .before .before .before .before), l .inv .few, l .inv .lefts)) (omega (arith, on (c .before .before) .1 .some)))  -- loop-less
-    (λ c. runs-on (c .before .before .before .before .before .before .before .before .before .before .before .before .loop .inv) _ (inside (c .before .before .before .before .before .before .before .before .before .before .before)) (on (c .before .before)) (c .turn .ensures))  -- loop-again
+    (λ c. runs-on (c .before .before .before .before .before .before .before .before .before .before .before .before .loop .inv) _ (inside (c .before .before .before .before .before .before .before .before .before .before .before)) (on (c .before .before)) (turn-in _ _ (c .turn .ensures)))  -- loop-again
     (λ c. search needs)  -- enum-told-2
     (λ c. c .before .before .before .before .before .before .before .before .loop-test .taken)  -- sub-live
     (λ c κs. let l = c .before .before .before .before .before .before .before .before .before .before .before .loop .inv in let i = inside (c .before .before .before .before .before .before .before .before .before .before) in (omega arith, omega arith, omega arith, omega arith))  -- move-lane-requires
@@ -68,7 +68,7 @@ walk-lanes-spec =
     rw (c .before .before .before .before .before .move-lane .ensures .1) (less-drop (l .left) _ _ i (omega (arith, i, l .inv .few, l .inv .lefts))))  -- loop-less-2
     (λ c.
     let m = c .before .before .before .before .before .move-lane .ensures in
-    rw (m .0, m .1) (runs-done (c .before .before .before .before .before .before .before .before .before .before .before .before .before .before .before .before .before .loop .inv) _ (inside (c .before .before .before .before .before .before .before .before .before .before .before .before .before .before .before .before)) (rw (c .before .before .before .before .before .before .before .before .enum-told2 .given .1) at (c .before .before .before .before .before .before .before .before .before .before .before .before .take-step .ensures)) (c .turn2 .ensures)))  -- loop-again-2
+    rw (m .0, m .1) (runs-done (c .before .before .before .before .before .before .before .before .before .before .before .before .before .before .before .before .before .loop .inv) _ (inside (c .before .before .before .before .before .before .before .before .before .before .before .before .before .before .before .before)) (rw (c .before .before .before .before .before .before .before .before .enum-told2 .given .1) at (c .before .before .before .before .before .before .before .before .before .before .before .before .take-step .ensures)) (turn-in _ _ (c .turn2 .ensures))))  -- loop-again-2
     (λ c. search needs)  -- enum-told-3
     (λ c. c .before .before .before .before .before .before .before .before .loop-test .taken)  -- sub-live-2
     (λ c κs. let l = c .before .before .before .before .before .before .before .before .before .before .before .loop .inv in let i = inside (c .before .before .before .before .before .before .before .before .before .before) in (omega arith, omega arith, omega arith, omega arith))  -- move-lane-requires-2
@@ -79,7 +79,7 @@ walk-lanes-spec =
     rw (c .before .before .before .before .before .move-lane2 .ensures .1) (less-drop (l .left) _ _ i (omega (arith, i, l .inv .few, l .inv .lefts))))  -- loop-less-3
     (λ c.
     let m = c .before .before .before .before .before .move-lane2 .ensures in
-    rw (m .0, m .1) (runs-met (c .before .before .before .before .before .before .before .before .before .before .before .before .before .before .before .before .before .loop .inv) _ (inside (c .before .before .before .before .before .before .before .before .before .before .before .before .before .before .before .before)) (rw (c .before .before .before .before .before .before .before .before .enum-told3 .given .1) at (c .before .before .before .before .before .before .before .before .before .before .before .before .take-step .ensures)) (c .turn3 .ensures)))  -- loop-again-3
+    rw (m .0, m .1) (runs-met (c .before .before .before .before .before .before .before .before .before .before .before .before .before .before .before .before .before .loop .inv) _ (inside (c .before .before .before .before .before .before .before .before .before .before .before .before .before .before .before .before)) (rw (c .before .before .before .before .before .before .before .before .enum-told3 .given .1) at (c .before .before .before .before .before .before .before .before .before .before .before .before .take-step .ensures)) (turn-in _ _ (c .turn3 .ensures))))  -- loop-again-3
     (λ c. c .before .before .loop .inv .long)  -- same-length-4
     (λ c. c .before .before .loop .inv .heres ∙ sym (c .before .before .before .before .before .before .pre .1 .1 .0))  -- same-length-5
     (λ c. c .before .before .loop .inv .lefts ∙ sym (c .before .before .before .before .before .before .pre .1 .1 .1))  -- same-length-6
