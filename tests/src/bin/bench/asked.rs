@@ -51,6 +51,6 @@ impl Asked {
 
     /// How often each copy of an image is validated.
     pub fn rounds(&self) -> usize {
-        self.rounds.unwrap_or(5)
+        self.rounds.unwrap_or(10)
     }
 }

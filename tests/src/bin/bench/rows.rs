@@ -23,6 +23,10 @@ pub const LIBRARY: usize = 0;
 pub const RIVAL: usize = 1;
 pub const ORDINARY: usize = 2;
 
+/// The order of a round. What stands in the caches is what the one before left there, so library and rival take turns at coming
+/// first: each follows the other and the ordinary one as often.
+const ORDERS: [[usize; 3]; 2] = [[LIBRARY, RIVAL, ORDINARY], [RIVAL, LIBRARY, ORDINARY]];
+
 /// Longer than this none is timed on one image.
 const LIMIT: Duration = Duration::from_secs(10);
 
@@ -36,10 +40,10 @@ impl Row {
         let mut copies = vec![(image, work); SIZES[1].times / scale.size.times];
         let validators: [Validate; 3] = [library::validate, rival::validate, ordinary];
         let (mut times, mut answers) = ([const { Vec::new() }; 3], [0; 3]);
-        for _ in 0..rounds {
-            for (validator, validate) in validators.iter().enumerate() {
+        for round in 0..rounds {
+            for validator in ORDERS[round % 2] {
                 for (image, work) in &mut copies {
-                    answers[validator] = once(&mut times[validator], || validate(image, work));
+                    answers[validator] = once(&mut times[validator], || validators[validator](image, work));
                 }
             }
             if times.iter().any(|times| times.iter().sum::<Duration>() > LIMIT) {
