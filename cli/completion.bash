@@ -1,6 +1,5 @@
 # Completion of the command `cfb` for bash: source it, or put it into a folder that bash-completion reads.
 
-# The words of the command.
 _cfb_words="check ls info cat extract put append resize mk mkdir rm new repair pulses pulse help"
 
 # The options of a word.
@@ -15,45 +14,63 @@ _cfb_options() {
     esac
 }
 
-# The operands before the cursor: neither options nor the values of options.
+# Puts the operands before the cursor into `given`: what is neither an option nor the value of one.
 _cfb_operands() {
-    local i skip=
-    _cfb_given=()
+    local i value=
     for ((i = 2; i < COMP_CWORD; i++)); do
-        if [ -n "$skip" ]; then
-            skip=
+        if [ -n "$value" ]; then
+            value=
             continue
         fi
-        case $word:${COMP_WORDS[i]} in
-            new:--major | new:--size | new:--sectors | new:--entries | new:--mini | pulses:-n) skip=yes ;;
+        case ${COMP_WORDS[1]}:${COMP_WORDS[i]} in
+            new:--major | new:--size | new:--sectors | new:--entries | new:--mini | pulses:-n) value=yes ;;
             *:-?*) ;;
-            *) _cfb_given+=("${COMP_WORDS[i]}") ;;
+            *) given+=("${COMP_WORDS[i]}") ;;
         esac
     done
 }
 
-# The paths in a file that begin with what is typed, each quoted for the shell. An opening quote is left out of the
-# comparison: bash puts the name in its place.
+# A word as the shell would take it, but for what it would run: without quotes and with its home folder.
+_cfb_plain() {
+    local text=$1
+    case $text in
+        \'*) text=${text#\'} text=${text%\'} ;;
+        \"*) text=${text#\"} text=${text%\"} ;;
+        \~/*) text=$HOME/${text#\~/} ;;
+    esac
+    [[ $1 == \'* ]] || text=$(printf '%s' "$text" | sed 's/\\\(.\)/\1/g')
+    printf '%s' "$text"
+}
+
+# The paths in the file $1 that begin with what is typed, $2. Behind an open quote they stand as they are.
 _cfb_paths() {
-    local path typed=$2 file
-    eval "file=$(_cfb_tilde "$1")" 2>/dev/null
-    typed=${typed#[\'\"]}
+    local path file typed
+    file=$(_cfb_plain "$1")
+    typed=$(_cfb_plain "$2")
     while IFS= read -r path; do
-        [[ $path == "$typed"* ]] && COMPREPLY+=("$(printf %q "$path")")
-    done < <(cfb ls "$file" 2>/dev/null)
+        [[ $path == "$typed"* ]] || continue
+        [[ $2 == [\'\"]* ]] || path=$(printf %q "$path")
+        COMPREPLY+=("$path")
+    done < <(cfb ls -- "$file" 2>/dev/null)
 }
 
 _cfb() {
-    local cur=${COMP_WORDS[COMP_CWORD]} word=${COMP_WORDS[1]} _cfb_given
+    local cur=${COMP_WORDS[COMP_CWORD]} word=${COMP_WORDS[1]} given=()
     COMPREPLY=()
     if [ "$COMP_CWORD" -eq 1 ]; then
-        COMPREPLY=($(compgen -W "$_cfb_words --help --version" -- "$cur"))
-    elif [ "$word" = help ]; then
-        COMPREPLY=($(compgen -W "$_cfb_words" -- "$cur"))
+        mapfile -t COMPREPLY < <(compgen -W "$_cfb_words --help --version" -- "$cur")
+        return
     elif [[ $cur == -* ]]; then
-        COMPREPLY=($(compgen -W "$(_cfb_options "$word")" -- "$cur"))
-    else
-        _cfb_operands
-        _cfb_operand "$cur"
+        mapfile -t COMPREPLY < <(compgen -W "$(_cfb_options "$word")" -- "$cur")
+        return
     fi
+    _cfb_operands
+    case $word:${#given[@]} in
+        help:0) mapfile -t COMPREPLY < <(compgen -W "$_cfb_words" -- "$cur") ;;
+        check:* | *:0) compopt -o default ;;
+        extract:1) compopt -o dirnames ;;
+        cat:1 | put:1 | append:1 | resize:1 | mk:1 | mkdir:1 | rm:1 | pulses:1 | pulse:1) _cfb_paths "${given[0]}" "$cur" ;;
+    esac
 }
+
+complete -F _cfb cfb

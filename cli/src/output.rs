@@ -23,9 +23,14 @@ impl Output {
         self.0.write_all(bytes).map_err(unwritten)
     }
 
+    /// Writes what is in the buffer now.
+    pub fn flush(&mut self) -> Result<(), Fault> {
+        self.0.flush().map_err(unwritten)
+    }
+
     /// Writes what is still in the buffer.
     pub fn end(mut self) -> Result<(), Fault> {
-        self.0.flush().map_err(unwritten)
+        self.flush()
     }
 }
 

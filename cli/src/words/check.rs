@@ -30,26 +30,33 @@ fn run(args: &Args) -> Result<(), Fault> {
     for (number, file) in args.operands().enumerate() {
         let file = Path::new(file);
         progress.show(|| format!("{} of {count}: {}", number + 1, file.display()));
-        let Err(fault) = check(file) else {
-            output.line(&format!("{}: ok", file.display()))?;
-            continue;
-        };
-        worst = worst.max(fault.status());
-        match fault {
-            Fault::Refused(_, number) => output.line(&sentence(file, number))?,
-            _ => {
-                progress.wipe();
-                fault.tell();
-            }
-        }
+        let read = Image::read(file);
+        progress.wipe();
+        worst = worst.max(check(file, read, &mut output)?);
+        output.flush()?;
     }
-    output.end()?;
     if worst == 0 { Ok(()) } else { Err(Fault::Told(worst)) }
 }
 
-fn check(file: &Path) -> Result<(), Fault> {
-    let Image { bytes, mut work } = Image::read(file)?;
-    validate(&bytes, &mut work).map_err(|refusal| Fault::of_file(file, refusal))
+/// Says whether a file is sound, and gives its status. What went wrong with the output alone is a fault.
+fn check(file: &Path, read: Result<Image, Fault>, output: &mut Output) -> Result<u8, Fault> {
+    match read {
+        Ok(image) => verdict(file, image, output),
+        Err(Fault::Refused(_, number)) => output.line(&sentence(file, number)).map(|()| 1),
+        Err(fault) => {
+            fault.tell();
+            Ok(fault.status())
+        }
+    }
+}
+
+/// The library's verdict on a file.
+fn verdict(file: &Path, image: Image, output: &mut Output) -> Result<u8, Fault> {
+    let Image { bytes, mut work } = image;
+    match validate(&bytes, &mut work) {
+        Ok(()) => output.line(&format!("{}: ok", file.display())).map(|()| 0),
+        Err(refusal) => output.line(&sentence(file, refusal.number())).map(|()| 1),
+    }
 }
 
 /// What is said of a refused file.

@@ -1,6 +1,6 @@
 //! `cfb pulses`: what a pulse stream adds up to.
 
-use gyomrelas::pulse::{Records, record, summary};
+use gyomrelas::pulse::{PulseRefusal, Records, record, summary};
 
 use crate::args::Args;
 use crate::fault::Fault;
@@ -28,20 +28,26 @@ h:mm:ss.s, and the last records: number from 0, valve, ticks.",
 fn run(args: &Args) -> Result<(), Fault> {
     let (file, path) = (args.file(0), args.path(1)?);
     let wanted = args.number("-n")?.unwrap_or(SHOWN);
-    let Image { bytes, mut work } = Image::read(file)?;
-    let totals = summary(&bytes, &mut work, &path).map_err(|refusal| Fault::of_pulses(file, &path, refusal))?;
-    let (count, total) = (totals.count.0, totals.total.0);
+    let mut image = Image::read(file)?;
+    let told = told(&mut image, &path, wanted);
     let mut output = Output::new();
-    output.line(&format!("pulses {count}"))?;
-    output.line(&format!("ticks {total}"))?;
-    output.line(&format!("time {}", clock(total)))?;
+    for line in told.map_err(|refusal| Fault::of_pulses(file, &path, refusal))? {
+        output.line(&line)?;
+    }
+    output.end()
+}
+
+/// The lines about a pulse stream.
+fn told(Image { bytes, work }: &mut Image, path: &[u16], wanted: u64) -> Result<Vec<String>, PulseRefusal> {
+    let totals = summary(bytes, work, path)?;
+    let (count, total) = (totals.count.0, totals.total.0);
+    let mut lines = vec![format!("pulses {count}"), format!("ticks {total}"), format!("time {}", clock(total))];
     let first = count - u32::try_from(wanted).unwrap_or(u32::MAX).min(count);
     let mut progress = Progress::new();
     for number in first..count {
         progress.show(|| format!("record {number} of {count}"));
-        let pulse = record(&bytes, &mut work, &path, Records(number));
-        let pulse = pulse.map_err(|refusal| Fault::of_pulses(file, &path, refusal))?;
-        output.line(&format!("record {number}: valve {} ticks {}", pulse.valve.0, pulse.ticks.0))?;
+        let pulse = record(bytes, work, path, Records(number))?;
+        lines.push(format!("record {number}: valve {} ticks {}", pulse.valve.0, pulse.ticks.0));
     }
-    output.end()
+    Ok(lines)
 }

@@ -1,0 +1,34 @@
+# repair.
+cp "$samples/site.cfb" r.cfb
+run repair r.cfb
+expect "repair of a sound file" is_status 0
+cp r.cfb sound.cfb
+run repair r.cfb
+expect "a second repair" gives "r.cfb: nothing to repair"
+
+# the FAT's last cell stands for no sector
+printf '\005\0\0\0' | dd of=r.cfb bs=1 seek=1020 conv=notrunc 2>/dev/null
+cp r.cfb bent.cfb
+run check r.cfb
+expect "check finds it" [ "$status" -eq 1 ]
+expect "and says its number" grep -q "^r.cfb: refused 12: " "$dir/out"
+run ls r.cfb
+expect "ls refuses it" refused 12
+feed 'x' put r.cfb Site/log
+expect "put refuses it" refused 12
+run repair -n r.cfb
+expect "repair -n" gives "FAT cell 127: 5 -> free\nr.cfb: 1 change to make; nothing was written"
+expect "repair -n writes nothing" same r.cfb bent.cfb
+run repair r.cfb
+expect "repair" gives "FAT cell 127: 5 -> free\nr.cfb: 1 change made"
+expect "as it was before" same r.cfb sound.cfb
+
+# a file that no repair settles
+cp "$samples/documents/doc003-misread.cfb" m.cfb
+run repair m.cfb
+expect "a header is not repaired" refused 10
+expect "and stays" same m.cfb "$samples/documents/doc003-misread.cfb"
+printf 'x' >short.cfb
+run repair short.cfb
+expect "a bad length is not repaired" refused 1
+expect "nothing is left" alone r.cfb sound.cfb bent.cfb m.cfb short.cfb
