@@ -29,7 +29,7 @@ pub const STATUSES: &str = concat!(
     "  0  done; of a check: every file is sound\n",
     "  1  refused by the library, with the number of its answer\n",
     "  2  wrong use\n",
-    "  3  the system did not do it: no such file, no permission, a full disk and the like\n",
+    "  3  the system did not do it: no such file, one that is there already, no permission, a full disk and the like\n",
 );
 
 impl Fault {

@@ -22,9 +22,9 @@ Behind `--` nothing is an option.
 
 An edit is made in memory, written to a new file beside the old one (`.FILE.cfb-new`), synced, and renamed over it: a
 refusal, a full disk or a power cut leaves the old file whole. Symbolic links are followed. The new file has the old
-one's permissions, and its owner where the system allows it; it is a new inode, so other hard links keep the old content,
-and extended attributes are not taken over. Of two edits of one file the second waits, ten seconds at most. An edit that
-is killed may leave `.FILE.cfb-new` behind; the next edit of the file removes it.
+one's permissions, and its owner where the system allows it; it is a new inode, so other hard links keep the old
+content, and extended attributes are not taken over. Of two edits of one file the second waits, ten seconds at most.
+An edit that is killed may leave `.FILE.cfb-new` behind; the next edit of the file removes it.
 
 exit status:
 ";

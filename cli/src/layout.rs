@@ -1,5 +1,5 @@
-//! What the library does not say of a file, read plainly from its bytes: where its tables stand, and what is free. The file
-//! was validated before; where a number leads nowhere all the same, there is no layout.
+//! What the library does not say of a file, read plainly from its bytes: where its tables stand, and what is free. The
+//! file was validated before; where a number leads nowhere all the same, there is no layout.
 
 /// Special values of a cell.
 pub const FREE: u32 = 0xffff_ffff;
@@ -43,7 +43,7 @@ impl<'a> Layout<'a> {
         Some(layout)
     }
 
-    /// Lists the FAT's sectors: the first in the header, the others in the DIFAT's, each of which ends with the next one.
+    /// Lists the FAT's sectors: the first in the header, the others in the DIFAT's, each of which ends with the next.
     fn read_fat(&mut self) -> Option<()> {
         let wanted = usize::try_from(word(self.image, 44)?).ok()?;
         self.difat_sectors = usize::try_from(word(self.image, 72)?).ok()?;
@@ -151,7 +151,7 @@ impl<'a> Layout<'a> {
         (0..units).map(|unit| half(self.image, entry + 2 * unit)).collect()
     }
 
-    /// How many mini sectors there are: the size of the root, of which version 3 has the lower half, in pieces of 64 bytes.
+    /// How many mini sectors there are: the root's size, of which the lower half is enough, in pieces of 64 bytes.
     pub fn mini_sectors(&self) -> Option<usize> {
         usize::try_from(word(self.image, self.entry(0)? + 120)? / 64).ok()
     }

@@ -6,6 +6,7 @@ mod edit;
 mod fault;
 mod help;
 mod layout;
+mod limits;
 mod numbers;
 mod output;
 mod pending;

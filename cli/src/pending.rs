@@ -10,6 +10,7 @@ use std::thread::sleep;
 use std::time::{Duration, Instant};
 
 use crate::fault::Fault;
+use crate::limits;
 use crate::progress::Progress;
 
 /// Not to follow a symbolic link, and not to wait for a pipe's writer, when a file is opened (Linux).
@@ -33,8 +34,8 @@ pub struct Pending {
 }
 
 impl Pending {
-    /// Makes the new file beside a target, which is no symbolic link, with these permissions at first. While another edit
-    /// has one, it waits.
+    /// Makes the new file beside a target, which is no symbolic link, with these permissions at first. While another
+    /// edit has one, it waits.
     pub fn begin(target: &Path, mode: u32) -> Result<Pending, Fault> {
         let path = beside(target)?;
         let start = Instant::now();
@@ -64,6 +65,7 @@ impl Pending {
     }
 
     fn fill(&mut self, bytes: &[u8], old: Option<&Metadata>) -> io::Result<()> {
+        limits::allowed(bytes.len())?;
         if let Some(old) = old {
             take_over(&self.file, old)?;
         }
@@ -103,8 +105,8 @@ fn beside(target: &Path) -> Result<PathBuf, Fault> {
     Ok(target.with_file_name(hidden))
 }
 
-/// Makes and locks the new file; none where another edit has it. One that nobody has locked was left by an edit that was
-/// killed: it is removed, never written to, as its name may lead to anything.
+/// Makes and locks the new file; none where another edit has it. One that nobody has locked was left by an edit that
+/// was killed: it is removed, never written to, as its name may lead to anything.
 fn attempt(path: &Path, mode: u32) -> io::Result<Option<File>> {
     match OpenOptions::new().write(true).create_new(true).mode(mode).open(path) {
         Ok(file) => Ok(if own(&file, path)? { Some(file) } else { None }),

@@ -6,8 +6,8 @@ use crate::typed::printed;
 /// Where the colour of an entry stands in it.
 const COLOUR: usize = 67;
 
-/// A line for each change, in the order FAT, mini FAT, directory. A repair moves no table, so the layout after it is that
-/// before it, too.
+/// A line for each change, in the order FAT, mini FAT, directory. A repair moves no table, so the layout after it is
+/// that before it, too.
 pub fn changes(before: &[u8], after: &[u8]) -> Option<Vec<String>> {
     let layout = Layout::read(after)?;
     let mut lines = Vec::new();

@@ -71,8 +71,8 @@ fn read_all(file: &Path, opened: File) -> Result<Vec<u8>, Fault> {
     bounded(opened).map_err(|error| Fault::system(file, error))
 }
 
-/// The bytes of standard input, for a stream. None can have more than the longest file: who types more gets the library's
-/// refusal for room, and the rest is not read.
+/// The bytes of standard input, for a stream. None can have more than the longest file: who types more gets the
+/// library's refusal for room, and the rest is not read.
 pub fn standard_input() -> Result<Vec<u8>, Fault> {
     bounded(io::stdin().lock()).map_err(|error| Fault::System(format!("standard input: {error}")))
 }

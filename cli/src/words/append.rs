@@ -5,7 +5,7 @@ use gyomrelas::{Kind, Refusal, Volume};
 use crate::args::Args;
 use crate::edit::edit_volume;
 use crate::fault::Fault;
-use crate::source::standard_input;
+use crate::source::{self, standard_input};
 use crate::word::Word;
 
 pub const WORD: Word = Word {
@@ -20,6 +20,7 @@ pub const WORD: Word = Word {
 
 fn run(args: &Args) -> Result<(), Fault> {
     let (file, path) = (args.file(0), args.path(1)?);
+    source::regular(file)?;
     let bytes = standard_input()?;
     edit_volume(file, |volume| append(volume, &path, &bytes).map_err(|refusal| Fault::of_path(file, &path, refusal)))
 }

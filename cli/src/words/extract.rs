@@ -8,6 +8,7 @@ use gyomrelas::{Kind, Object, ReadOnlyVolume};
 
 use crate::args::Args;
 use crate::fault::Fault;
+use crate::limits;
 use crate::numbers::count;
 use crate::output;
 use crate::progress::Progress;
@@ -24,9 +25,9 @@ pub const WORD: Word = Word {
     about: "write all streams to a folder",
     help: "\
 Makes the folder DIR, and in it a folder for each storage and a file for each stream. A name that a file system cannot
-hold (with control characters, half a surrogate pair, `.` or `..`) is written as `cfb ls` prints it, and `.` as `\\002E`.
-Nothing is written outside DIR: a symbolic link in it is never followed, but replaced or refused. Where something fails,
-a DIR that was made here goes again.",
+hold (with control characters or half a surrogate pair) is written as `cfb ls` prints it, and a dot of `.` and `..` as
+`\\002E`. Nothing is written outside DIR: a symbolic link in it is never followed, but replaced or refused. Where
+something fails, a DIR that was made here goes again.",
     run,
 };
 
@@ -109,7 +110,7 @@ fn make_folder(place: &Path) -> Result<(), Fault> {
 
 /// Writes a file that is not there; with force, after removing what is. What could not be written whole goes again.
 fn write_file(place: &Path, bytes: &[u8], force: bool) -> Result<(), Fault> {
-    let written = create(place, force).and_then(|mut file| {
+    let written = limits::allowed(bytes.len()).and_then(|()| create(place, force)).and_then(|mut file| {
         let written = file.write_all(bytes);
         if written.is_err() {
             let _ = fs::remove_file(place);

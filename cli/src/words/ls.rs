@@ -16,7 +16,7 @@ pub const WORD: Word = Word {
     options: &[Opt { name: "-l", value: None, about: "with kind (D storage, F stream) and size in bytes" }],
     about: "list the streams and storages of a file",
     help: "\
-Prints the path of each storage and each stream, a storage before all that is below it, siblings with shorter names first.
+Prints the path of each storage and each stream, a storage before all that is below it, shorter names first.
 A character that does not print is `\\` and four digits of base 16; every path can be given back to `cfb` so.",
     run,
 };

@@ -5,7 +5,7 @@ use gyomrelas::{Refusal, Volume};
 use crate::args::Args;
 use crate::edit::edit_volume;
 use crate::fault::Fault;
-use crate::source::standard_input;
+use crate::source::{self, standard_input};
 use crate::word::Word;
 
 pub const WORD: Word = Word {
@@ -15,12 +15,14 @@ pub const WORD: Word = Word {
     options: &[],
     about: "make standard input the bytes of a stream",
     help: "\
-The stream at PATH gets exactly the bytes of standard input. It is made if it is not there; its storage has to be there.",
+The stream at PATH gets exactly the bytes of standard input. It is made if it is not there, but no
+storage for it is.",
     run,
 };
 
 fn run(args: &Args) -> Result<(), Fault> {
     let (file, path) = (args.file(0), args.path(1)?);
+    source::regular(file)?;
     // read before the file is locked: it may take its time
     let bytes = standard_input()?;
     edit_volume(file, |volume| put(volume, &path, &bytes).map_err(|refusal| Fault::of_path(file, &path, refusal)))

@@ -43,8 +43,8 @@ fn remove_below(volume: &mut Volume<'_>, file: &Path, path: &[u16]) -> Result<()
     Ok(())
 }
 
-/// All objects below a path, in the order of the listing. The path may be typed in other letters than it is listed in, so
-/// it is known by its entry.
+/// All objects below a path, in the order of the listing. The path may be typed in other letters than it is listed in,
+/// so it is known by its entry.
 fn below(volume: &mut Volume<'_>, path: &[u16]) -> Result<Vec<Object>, Refusal> {
     let wanted = volume.find(path)?.number;
     let objects: Vec<Object> = volume.objects()?.collect();

@@ -25,8 +25,11 @@ expect "the smallest of version 3" sound d.cfb
 run new e.cfb --size 12288 --major 4
 expect "the smallest of version 4" sound e.cfb
 run new f.cfb --size 64M
+free=$(sed 's/.*, \([0-9]*\) free sectors/\1/' "$dir/out")
 expect "the largest" sound f.cfb
 expect "the largest has 64 MiB" [ "$(wc -c <f.cfb)" -eq 67108864 ]
+run info f.cfb
+expect "info goes through the DIFAT" grep -qx "free sectors       $free" "$dir/out"
 rm f.cfb
 
 run new x.cfb --size 1000

@@ -23,6 +23,24 @@ run repair r.cfb
 expect "repair" gives "FAT cell 127: 5 -> free\nr.cfb: 1 change made"
 expect "as it was before" same r.cfb sound.cfb
 
+# the number that a header has at a place
+field() { od -An -tu4 -j "$1" -N 4 r.cfb | tr -d ' '; }
+# a red top of a tree, a FAT cell of a sector that nobody owns, and a mini FAT cell that stands for no mini sector
+"$cfb" new --force r.cfb --size 8K --mini 64 >/dev/null
+"$cfb" mk r.cfb log
+cp r.cfb sound.cfb
+red=$((512 * $(field 48) + 512 + 128 + 67))
+unowned=$((512 * $(field 76) + 512 + 4 * 14))
+mini=$((512 * $(field 60) + 512 + 4 * 100))
+printf '\0' | dd of=r.cfb bs=1 seek=$red conv=notrunc 2>/dev/null
+printf '\376\377\377\377' | dd of=r.cfb bs=1 seek=$unowned conv=notrunc 2>/dev/null
+printf '\007\0\0\0' | dd of=r.cfb bs=1 seek=$mini conv=notrunc 2>/dev/null
+run check r.cfb
+expect "a red top" grep -q "refused 15" "$dir/out"
+run repair r.cfb
+expect "three kinds of change" gives "FAT cell 14: end of chain -> free\nmini FAT cell 100: 7 -> free\nentry 1 (log): colour red -> black\nr.cfb: 3 changes made"
+expect "as it was before, too" same r.cfb sound.cfb
+
 # a file that no repair settles
 cp "$samples/documents/doc003-misread.cfb" m.cfb
 run repair m.cfb

@@ -59,5 +59,25 @@ head -c 20000 /dev/urandom >random
 "$cfb" put w.cfb large <random
 "$cfb" cat w.cfb large >back
 expect "20000 bytes come back" same random back
+
+# what info counts as free is free, and no more
+fact() { "$cfb" info "$1" | sed -n "s/^$2  *//p"; }
+for major in 3 4; do
+    "$cfb" new --force i.cfb --major $major --size 64K --mini 1000 >/dev/null
+    printf 'x' | "$cfb" put i.cfb small
+    "$cfb" mk i.cfb large
+    bytes=$(($(fact i.cfb "free sectors") * $(fact i.cfb "sector bytes")))
+    mini=$(($(fact i.cfb "free mini sectors") * 64))
+    run resize i.cfb large $((bytes + 1))
+    expect "a byte more than is free, version $major" refused 26
+    run resize i.cfb large $bytes
+    expect "all that is free, version $major" done_quietly
+    run resize i.cfb small $((mini + 65))
+    expect "a byte more in mini sectors, version $major" refused 26
+    run resize i.cfb small $((mini + 64))
+    expect "all mini sectors, version $major" done_quietly
+    expect "nothing is free then, version $major" [ "$(fact i.cfb "free sectors") $(fact i.cfb "free mini sectors")" = "0 0" ]
+done
+rm i.cfb
 expect "sound after all" sound w.cfb
 expect "nothing is left" alone site.cfb site4.cfb nested.cfb w.cfb random back
