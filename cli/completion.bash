@@ -1,11 +1,13 @@
 # Completion of the command `cfb` for bash: source it, or put it into a folder that bash-completion reads.
 
-_cfb_words="check ls info cat extract put append resize mk mkdir rm new repair pulses pulse help"
+_cfb_words="check ls info map cat extract put append resize mk mkdir rm new repair pulses pulse help"
 
 # The options of a word.
 _cfb_options() {
     case $1 in
+        check) echo "-v --help" ;;
         ls) echo "-l --help" ;;
+        map) echo "--svg --help" ;;
         extract) echo "--force --help" ;;
         rm) echo "-r --help" ;;
         new) echo "--major --size --sectors --entries --mini --force --help" ;;
@@ -23,7 +25,7 @@ _cfb_operands() {
             continue
         fi
         case ${COMP_WORDS[1]}:${COMP_WORDS[i]} in
-            new:--major | new:--size | new:--sectors | new:--entries | new:--mini | pulses:-n) value=yes ;;
+            new:--major | new:--size | new:--sectors | new:--entries | new:--mini | pulses:-n | map:--svg) value=yes ;;
             *:-?*) ;;
             *) given+=("${COMP_WORDS[i]}") ;;
         esac

@@ -57,6 +57,12 @@ impl Args {
         given.map(|(_, value)| numbers::parse(name, &text(name, value)?)).transpose()
     }
 
+    /// The value that an option was given; the last, where it was typed more than once.
+    pub fn value(&self, name: &str) -> Option<&OsStr> {
+        let given = self.options.iter().rev().find(|(typed, _)| *typed == name);
+        given.map(|(_, value)| value.as_os_str())
+    }
+
     /// All operands.
     pub fn operands(&self) -> impl Iterator<Item = &OsStr> {
         self.operands.iter().map(OsString::as_os_str)

@@ -11,6 +11,7 @@ mod numbers;
 mod output;
 mod pending;
 mod progress;
+mod reader;
 mod repaired;
 mod source;
 mod typed;
@@ -30,6 +31,7 @@ const WORDS: &[Word] = &[
     words::check::WORD,
     words::ls::WORD,
     words::info::WORD,
+    words::map::WORD,
     words::cat::WORD,
     words::extract::WORD,
     words::put::WORD,

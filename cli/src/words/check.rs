@@ -10,13 +10,18 @@ use crate::fault::Fault;
 use crate::output::Output;
 use crate::progress::Progress;
 use crate::source::Image;
-use crate::word::Word;
+use crate::word::{Opt, Word};
+use crate::words::explain;
 
 pub const WORD: Word = Word {
     name: "check",
     operands: "FILE..",
     count: (1, usize::MAX),
-    options: &[],
+    options: &[Opt {
+        name: "-v",
+        value: None,
+        about: "say where a refused file breaks a rule, and what should stand there",
+    }],
     about: "tell whether files are sound",
     help: "\
 Validates each file as a whole, and prints `FILE: ok`, or the number of the first group of rules that it breaks, with a
@@ -32,16 +37,16 @@ fn run(args: &Args) -> Result<(), Fault> {
         progress.show(|| format!("{} of {count}: {}", number + 1, file.display()));
         let read = Image::read(file);
         progress.wipe();
-        worst = worst.max(check(file, read, &mut output)?);
+        worst = worst.max(check(file, read, args.has("-v"), &mut output)?);
         output.flush()?;
     }
     if worst == 0 { Ok(()) } else { Err(Fault::Told(worst)) }
 }
 
 /// Says whether a file is sound, and gives its status. What went wrong with the output alone is a fault.
-fn check(file: &Path, read: Result<Image, Fault>, output: &mut Output) -> Result<u8, Fault> {
+fn check(file: &Path, read: Result<Image, Fault>, verbose: bool, output: &mut Output) -> Result<u8, Fault> {
     match read {
-        Ok(image) => verdict(file, image, output),
+        Ok(image) => verdict(file, image, verbose, output),
         Err(Fault::Refused(_, number)) => output.line(&sentence(file, number)).map(|()| 1),
         Err(fault) => {
             fault.tell();
@@ -51,11 +56,16 @@ fn check(file: &Path, read: Result<Image, Fault>, output: &mut Output) -> Result
 }
 
 /// The library's verdict on a file.
-fn verdict(file: &Path, image: Image, output: &mut Output) -> Result<u8, Fault> {
+fn verdict(file: &Path, image: Image, verbose: bool, output: &mut Output) -> Result<u8, Fault> {
     let Image { bytes, mut work } = image;
     match validate(&bytes, &mut work) {
         Ok(()) => output.line(&format!("{}: ok", file.display())).map(|()| 0),
-        Err(refusal) => output.line(&sentence(file, refusal.number())).map(|()| 1),
+        Err(refusal) => {
+            output.line(&sentence(file, refusal.number()))?;
+            let lines = if verbose { explain::lines(&bytes, refusal.number()) } else { Vec::new() };
+            lines.iter().try_for_each(|line| output.line(&format!("  {line}")))?;
+            Ok(1)
+        }
     }
 }
 

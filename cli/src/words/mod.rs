@@ -3,9 +3,11 @@
 pub mod append;
 pub mod cat;
 pub mod check;
+pub mod explain;
 pub mod extract;
 pub mod info;
 pub mod ls;
+pub mod map;
 pub mod mk;
 pub mod mkdir;
 pub mod new;
