@@ -36,6 +36,20 @@ alike() {
 # same_by READER FILE DUE: the program reads from the file what is due
 same_by() { read_by "$1" "$2" "$dir/found" "$3/names" && alike "$1" "$3" "$dir/found"; }
 
+# minor FILE: the minor version, in hex. 7-Zip opens no file in which it is other than 3E; no rule asks for that.
+minor() { od -An -tx1 -j 24 -N 1 "$1" | tr -d ' '; }
+
+# readable READER FILE: the file, or for 7-Zip a copy with that one byte changed
+readable() {
+    if [ "$1" = seven ] && [ "$(minor "$2")" != 3e ]; then
+        cp "$2" "$dir/minor.cfb" && chmod u+w "$dir/minor.cfb"
+        printf '\076' | dd of="$dir/minor.cfb" bs=1 seek=24 conv=notrunc 2>/dev/null
+        echo "$dir/minor.cfb"
+    else
+        echo "$2"
+    fi
+}
+
 # streams FOLDER, bytes FOLDER: how many streams are in a tree, and how many bytes in these
 streams() { find "$1/tree" -type f | wc -l; }
 bytes() { find "$1/tree" -type f -printf '%s\n' | awk '{ sum += $1 } END { print sum + 0 }'; }
@@ -44,8 +58,11 @@ bytes() { find "$1/tree" -type f -printf '%s\n' | awk '{ sum += $1 } END { print
 compared() {
     for reader in $readers; do
         before=$failed
-        expect "$2 as $reader reads it" same_by "$reader" "$3" "$4"
-        verdict=$([ "$failed" -eq "$before" ] && echo same || echo differs)
+        read_file=$(readable "$reader" "$3")
+        expect "$2 as $reader reads it" same_by "$reader" "$read_file" "$4"
+        verdict=$([ "$read_file" = "$3" ] && echo same || echo copy)
+        [ "$failed" -eq "$before" ] || verdict=differs
+        [ "$verdict" != copy ] || echo "    $reader does not open minor version $(minor "$3"), and read a copy with 3e"
         echo "$1 $reader $(streams "$4") $(bytes "$4") $verdict" >>"$dir/figures"
     done
 }

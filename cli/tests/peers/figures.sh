@@ -1,9 +1,11 @@
-# The figures of the round: a line for each part and program.
+# The figures of the round: a line for each part and program. `copy` are files that 7-Zip read with another minor version.
 print_figures() {
     echo
-    echo "| part | program | files | streams | bytes | same |"
-    echo "|---|---|---|---|---|---|"
-    awk '{ key = $1 " | " $2; files[key]++; streams[key] += $3; bytes[key] += $4; same[key] += $5 == "same"
-           if (!(key in seen)) { seen[key] = 1; order[++n] = key } }
-         END { for (i = 1; i <= n; i++) { k = order[i]; print "| " k " | " files[k] " | " streams[k] " | " bytes[k] " | " same[k] " |" } }' "$dir/figures"
+    echo "| part | program | files | streams | bytes | same | same, by a copy | differ |"
+    echo "|---|---|---|---|---|---|---|---|"
+    awk '{ key = $1 " | " $2; files[key]++; streams[key] += $3; bytes[key] += $4; seen[key, $5]++
+           if (files[key] == 1) order[++count] = key }
+         END { for (i = 1; i <= count; i++) { key = order[i]
+               print "| " key " | " files[key] " | " streams[key] " | " bytes[key] " | " seen[key, "same"] + 0 \
+                   " | " seen[key, "copy"] + 0 " | " seen[key, "differs"] + 0 " |" } }' "$dir/figures"
 }

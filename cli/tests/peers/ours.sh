@@ -72,7 +72,7 @@ hard_names() {
         if same_by "$reader" "$dir/hard.cfb" "$dir/hard" >"$dir/log" 2>&1; then
             echo "hard names: $reader reads all"
         else
-            echo "hard names: $reader does not give $(not_given | tr '\n' ',' | sed 's/,$//; s/,/, /g')"
+            printf '%s\n' "hard names: $reader does not give $(not_given | tr '\n' ',' | sed 's/,$//; s/,/, /g')"
         fi
     done
 }

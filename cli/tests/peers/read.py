@@ -35,5 +35,6 @@ found, listing = getattr(readers, reader)(file, due())
 # the names of `.` and `..` cannot stand in a folder
 held = {".": "\\002E", "..": "\\002E\\002E"}
 shown = lambda path: "/".join(held.get(name, names.printed(name)) for name in path.split("/"))
-save(out, [(shown(path), content) for path, content in found],
+# an empty name is one that the program could not spell
+save(out, [(shown(path), content) for path, content in found if path],
      [(kind, size, names.printed(path)) for kind, size, path in listing])

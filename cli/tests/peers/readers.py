@@ -34,12 +34,13 @@ def cfb(file, _):
 
 
 def seven(file, due):
-    """`7zz x` and `7zz l`. A warning is no error: free sectors at the end are data behind the archive to it."""
+    """`7zz x` and `7zz l`, of a compound file: else it would go into an installer's cabinet. A warning is no error: free sectors
+    at the end are data behind the archive to it."""
     installer = any(path.startswith("\u4840") for path in due)
     known = {names.as_seven(path, installer): path for path in due}
     program = os.environ["seven"]
     with tempfile.TemporaryDirectory() as top:
-        done = subprocess.run([program, "x", "-y", "-o" + top, file], stdout=subprocess.PIPE, stderr=subprocess.STDOUT)
+        done = subprocess.run([program, "x", "-y", "-tcompound", "-o" + top, file], stdout=subprocess.PIPE, stderr=subprocess.STDOUT)
         if done.returncode > 1:
             raise SystemExit(done.stdout.decode(errors="replace"))
         spelled = [(path.decode("utf-8", "surrogatepass"), content) for path, content in folder(top)]
@@ -48,7 +49,7 @@ def seven(file, due):
 
 
 def seven_list(program, file):
-    done = subprocess.run([program, "l", "-slt", file], stdout=subprocess.PIPE, stderr=subprocess.PIPE)
+    done = subprocess.run([program, "l", "-slt", "-tcompound", file], stdout=subprocess.PIPE, stderr=subprocess.PIPE)
     text = done.stdout.decode("utf-8", "surrogatepass").split("----------\n", 1)[1]
     for block in text.split("\n\n"):
         fields = dict(line.split(" = ", 1) for line in block.split("\n") if " = " in line)

@@ -4,9 +4,12 @@ written=$dir/written
 part_theirs() {
     . "$peers/writers.sh"
     write_all
-    for file in "$written"/* "$samples"/*.ole "$samples"/*.msi ${more:+"$more"/*.*}; do
-        case $file in *.md | *\*.*) continue ;; esac
-        judged "$file" "$(basename "$file")"
+    for file in "$written"/*.* "$samples"/*.ole "$samples"/*.msi ${more:+"$more"/*.*}; do
+        name=$(basename "$file")
+        case $name in *.md | \**) continue ;; esac
+        # the folder may have the samples, too
+        [ "$file" != "$more/$name" ] || ! cmp -s "$file" "$samples/$name" || continue
+        judged "$file" "$name"
     done
     [ -z "$olefile" ] || expect "streams that olefile writes over" written_over
 }
@@ -20,7 +23,15 @@ judged() {
     fi
     "$cfb" check -v "$1" 2>&1 | sed "1s|^.*: refused|refused|; 1s|: .*||" | paste -s -d '|' | sed "s|^|$2: |; s/|  /: /g"
     expect "$2 is refused by all words alike" refused_alike "$1"
+    echo "    read by:$(others "$1")"
     repairable "$1" "$2"
+}
+
+# others FILE: the programs that read a refused file without an error
+others() {
+    for reader in $readers; do
+        ! read_by "$reader" "$1" "$dir/found" >/dev/null 2>&1 || printf ' %s' "$reader"
+    done
 }
 
 # accepted FILE NAME ORIGINAL PART: what the command extracts from a file is what the programs read from the original
