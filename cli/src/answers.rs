@@ -11,7 +11,11 @@ const UNKNOWN: (&str, &str) = ("an answer that this program does not know", "A n
 const BACKUP: &str =
     "`cfb repair` cannot settle this; take the file from a backup, or read it with a more lenient program.";
 
-const TRY_REPAIR: &str = "`cfb repair -n FILE` tells whether it can be repaired.";
+const TRY_REPAIR: &str = "`cfb check -v FILE` says where, and `cfb repair -n FILE` whether it can be repaired.";
+
+/// What can be done where a repair would leave a rule broken. To try a repair is no advice there.
+pub const UNREPAIRED: &str = "\
+A repair would leave this broken, so the file stays as it is; `cfb check -v FILE` says what is broken now.";
 
 const ANSWERS: &[(u32, &str, &str)] = &[
     (

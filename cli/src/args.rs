@@ -100,7 +100,8 @@ fn option<'w>(
         None => (text, None),
     };
     let known = word.options.iter().find(|option| option.name == name);
-    let option = known.ok_or_else(|| wrong(word, format!("`{name}` is no option of it")))?;
+    let option = known
+        .ok_or_else(|| wrong(word, format!("`{name}` is no option of it (behind `--` it would be an operand)")))?;
     match (option.value, value) {
         (None, None) => Ok((option, OsString::new())),
         (None, Some(_)) => Err(wrong(word, format!("`{name}` takes no value"))),

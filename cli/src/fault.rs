@@ -14,6 +14,8 @@ use crate::answers;
 pub enum Fault {
     /// The library refused it: whose call, and the number of the answer.
     Refused(String, u32),
+    /// A repair was refused: of which file, and the number of what it would leave broken.
+    Unrepaired(String, u32),
     /// It was typed wrongly.
     Usage(String),
     /// The system did not do it, or the file is none that can be read or written.
@@ -36,6 +38,14 @@ impl Fault {
     /// A refusal of a whole file.
     pub fn of_file(file: &Path, refusal: Refusal) -> Fault {
         Fault::Refused(file.display().to_string(), refusal.number())
+    }
+
+    /// A refusal of a repair. One of length or memory is about no rule that a repair could leave broken.
+    pub fn of_repair(file: &Path, refusal: Refusal) -> Fault {
+        match refusal.number() {
+            number @ 10..=18 => Fault::Unrepaired(file.display().to_string(), number),
+            _ => Fault::of_file(file, refusal),
+        }
     }
 
     /// A refusal of a call on a path in a file.
@@ -64,7 +74,7 @@ impl Fault {
 
     pub fn status(&self) -> u8 {
         match self {
-            Fault::Refused(..) => 1,
+            Fault::Refused(..) | Fault::Unrepaired(..) => 1,
             Fault::Usage(_) => 2,
             Fault::System(_) | Fault::Hushed => 3,
             Fault::Told(status) => *status,
@@ -75,14 +85,17 @@ impl Fault {
     pub fn tell(&self) {
         use std::io::Write;
         let text = match self {
-            Fault::Refused(subject, number) => {
-                let (meaning, advice) = answers::of(*number);
-                format!("cfb: {subject}: refused {number}: {meaning}\n     {advice}\n")
-            }
+            Fault::Refused(subject, number) => refusal(subject, *number, answers::of(*number).1),
+            Fault::Unrepaired(subject, number) => refusal(subject, *number, answers::UNREPAIRED),
             Fault::Usage(text) | Fault::System(text) => format!("cfb: {text}\n"),
             Fault::Hushed | Fault::Told(_) => return,
         };
         // where standard error is gone there is nobody to tell
         let _ = io::stderr().write_all(text.as_bytes());
     }
+}
+
+/// The two lines about a refusal: what it means, and what can be done.
+fn refusal(subject: &str, number: u32, advice: &str) -> String {
+    format!("cfb: {subject}: refused {number}: {}\n     {advice}\n", answers::of(number).0)
 }

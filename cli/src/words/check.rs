@@ -25,7 +25,8 @@ pub const WORD: Word = Word {
     about: "tell whether files are sound",
     help: "\
 Validates each file as a whole, and prints `FILE: ok`, or the number of the first group of rules that it breaks, with a
-sentence. A file that cannot be read is named on standard error; then the status is 3, whatever the others are.",
+sentence. A refused file may be one that other programs read: the rules are stricter than most readers.
+A file that cannot be read is named on standard error; then the status is 3, whatever the others are.",
     run,
 };
 

@@ -32,10 +32,10 @@ pub const WORD: Word = Word {
     options: &[Opt { name: "--svg", value: Some("OUT"), about: "draw a picture instead, and write it to OUT" }],
     about: "show which sector of a file belongs to whom",
     help: "\
-Prints a letter for each sector, 64 in a row, with the number of the row's first sector at its left, and a legend: the FAT,
-the DIFAT, the directory, the mini FAT, the mini stream and every stream of 4096 bytes and more; `.` is free, `?` is not
-free and nobody's, `!` has two owners. Rows that are alike are folded. On a terminal it is in colour, unless NO_COLOR is set.
-Refused files are shown too, as far as they can be read, with what is wrong.",
+Prints a letter for each sector, 64 in a row, with the number of the row's first sector at its left, and a legend: the
+FAT, the DIFAT, the directory, the mini FAT, the mini stream and every stream of 4096 bytes and more; `.` is free, `?`
+is not free and nobody's, `!` has two owners. Rows that are alike are folded. On a terminal it is in colour, unless
+NO_COLOR is set. Refused files are shown too, as far as they can be read, with what is wrong.",
     run,
 };
 

@@ -19,18 +19,22 @@ pub const WORD: Word = Word {
     operands: "FILE",
     count: (1, 1),
     options: &[
-        Opt { name: "--major", value: Some("3|4"), about: "the version: sectors of 512 or of 4096 bytes (3)" },
-        Opt { name: "--size", value: Some("BYTES"), about: "the file's size, also 64K or 8M (1M)" },
-        Opt { name: "--sectors", value: Some("N"), about: "instead: N sectors behind the header" },
+        Opt { name: "--major", value: Some("3|4"), about: "the version: sectors of 512 or of 4096 bytes (default 3)" },
+        Opt {
+            name: "--size",
+            value: Some("BYTES"),
+            about: "the file's size, also 64K or 8M, at most 64M (default 1M)",
+        },
+        Opt { name: "--sectors", value: Some("N"), about: "in the place of --size: N sectors behind the header" },
         Opt {
             name: "--entries",
             value: Some("N"),
-            about: "entries of the directory, one for the root (a 16th of the file)",
+            about: "how many streams and storages it can have, and 1 for the root (default: a 16th of the file)",
         },
         Opt {
             name: "--mini",
             value: Some("BYTES"),
-            about: "room for streams of fewer than 4096 bytes (an 8th of the file)",
+            about: "room for streams of fewer than 4096 bytes (default: an 8th of the file)",
         },
         Opt { name: "--force", value: None, about: "replace a file that is there" },
     ],
@@ -38,7 +42,8 @@ pub const WORD: Word = Word {
     help: "\
 Writes a compound file with a root and nothing else. None of its parts ever grows, so they are chosen here: directory
 entries for the streams and storages to come, a mini stream for the streams of fewer than 4096 bytes; all other sectors
-are free for larger ones. Entries are rounded up to whole sectors, the mini stream to 64 bytes.",
+are free for larger ones. An entry has 128 bytes. Entries are rounded up to whole sectors,
+the mini stream to 64 bytes.",
     run,
 };
 

@@ -17,7 +17,7 @@ pub const WORD: Word = Word {
     name: "pulses",
     operands: "FILE PATH",
     count: (2, 2),
-    options: &[Opt { name: "-n", value: Some("COUNT"), about: "show so many of the last records (10)" }],
+    options: &[Opt { name: "-n", value: Some("COUNT"), about: "show so many of the last records (default 10)" }],
     about: "show count, total and last records of a pulse stream",
     help: "\
 Shows how many pulses the pulse stream at PATH holds, how long the valves were open together, in ticks of 0.1 ms and in

@@ -15,8 +15,9 @@ pub const WORD: Word = Word {
     options: &[],
     about: "make standard input the bytes of a stream",
     help: "\
-The stream at PATH gets exactly the bytes of standard input. It is made if it is not there, but no
-storage for it is.",
+The stream at PATH gets exactly the bytes of standard input, in the place of those that it had:
+  cfb put FILE PATH <BYTES
+It is made if it is not there; the storages on the way to it have to be there (`cfb mkdir` makes them).",
     run,
 };
 

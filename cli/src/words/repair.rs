@@ -25,7 +25,8 @@ pub const WORD: Word = Word {
     help: "\
 Cells of FAT and mini FAT that stand for no sector, or for one that nobody owns, become free, and the colours of all
 objects become black: also in a sound file, whose colours may be red. No name, link, size, chain or byte of a stream is
-touched. Where the file would still break a rule, it is refused with the number of that rule, and stays as it was.",
+touched. Where the file would still break a rule, it is refused with the number of that rule, and stays as it was: the
+number may be another than that of `cfb check`, which names the first group of rules that is broken now.",
     run,
 };
 
@@ -44,7 +45,7 @@ fn repaired(file: &Path, image: &mut Image) -> Result<Vec<String>, Fault> {
     let before = image.bytes.clone();
     let mut spare = vec![0; image.bytes.len()];
     let changed = repair(&mut image.bytes, &mut image.work, &mut spare);
-    let changed = changed.map_err(|refusal| Fault::of_file(file, refusal))?;
+    let changed = changed.map_err(|refusal| Fault::of_repair(file, refusal))?;
     let changes = repaired::changes(&before, &image.bytes).filter(|lines| lines.len() as u64 == changed);
     // the lines are there to read; what counts is the library's number
     Ok(changes.unwrap_or_else(|| vec![format!("{} of cells and colours", count(changed, "change"))]))

@@ -50,3 +50,9 @@ printf 'x' >short.cfb
 run repair short.cfb
 expect "a bad length is not repaired" refused 1
 expect "nothing is left" alone r.cfb sound.cfb bent.cfb m.cfb short.cfb
+
+# what a repair would leave broken is not to be repaired: here a blank entry that is not blank, behind a cell that is mended
+cp "$samples/programs/openmcdf-01.ole" left.cfb && chmod u+w left.cfb
+run repair -n left.cfb
+expect "repair of what it would leave broken" refused 14
+expect "no second repair is advised" says "A repair would leave this broken"
