@@ -41,7 +41,7 @@ fn others(map: &Map) -> impl Iterator<Item = Line> {
     let shared = map.survey.count(|used| matches!(used, Use::Shared(..)));
     let lines = [
         Line { mark: marks::FREE, sectors: free, text: "free".into() },
-        Line { mark: marks::UNOWNED, sectors: unowned, text: "unowned: not free, but nobody's".into() },
+        Line { mark: marks::UNOWNED, sectors: unowned, text: "unowned, and not free".into() },
         Line { mark: marks::SHARED, sectors: shared, text: "shared: two owners".into() },
     ];
     lines.into_iter().filter(|line| line.sectors > 0)
