@@ -1,6 +1,8 @@
 // Runs calls on images, and prints what each call gives and leaves. Standard input holds groups: an image behind its length and the number of
 // its calls, and then those calls; the image goes from call to call, with the edits made on it. `tools/calls_cases.py` writes them, and
 // `tools/groups.py` says how a call is laid out.
+#![tactic(auto)]
+
 ghost use Rattle.std.specs.Prelude.{◌≤◌};
 
 use cfb::{
@@ -19,7 +21,7 @@ use repair::Repair;
 
 // ---- what a call gives
 
-#[derive(Drop)]
+#[derive(Clone, Copy)]
 struct Values {
     number: u32,
     entry: u32,
@@ -130,7 +132,7 @@ fn added(r: Added) -> Values {
 }
 
 // What came of a call. A kind that there is not, and a fresh image with too little of a plan, is no call.
-#[derive(Drop)]
+#[derive(Clone, Copy)]
 enum Outcome {
     Made(Values),
     Unknown,

@@ -1,4 +1,6 @@
 // The cells of a part of a table, by blocks. Loops keep one bool and return at their end, so that the compiler works on many cells at once.
+#![tactic(auto)]
+
 ghost use Rattle.std.specs.Prelude.{◌≡◌, ◌*◌, ◌/◌, ◌≤◌, length};
 ghost use Rattle.format.specs.Basics.Lists.{all_below, list_below};
 ghost use Rattle.format.specs.Layout.Chain.{is_free};

@@ -1,4 +1,6 @@
 // The public calls for C. A slice passes as a pointer and a length; an answer is 01's number, and values go out through pointers.
+#![tactic(auto)]
+
 ghost use Rattle.std.specs.Prelude.{◌≡◌, length};
 ghost use Rattle.format.specs.Calls.Call.{validate as validateCall, find as findCall, read as readCall, overwrite as overwriteCall, set_length as lengthCall};
 ghost use Rattle.format.specs.Calls.Call.{create as createCall, remove as removeCall, list as listCall, read_at as readAtCall};

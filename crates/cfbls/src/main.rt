@@ -1,4 +1,6 @@
 // Lists the compound file on standard input: a line for each object, or `refused` and the number of the answer.
+#![tactic(auto)]
+
 ghost use Rattle.std.specs.Prelude.{◌≡◌, ◌≤◌, length, take};
 ghost use Rattle.format.specs.Rules.Length.{work_need};
 ghost use Rattle.format.specs.Calls.Read.{over};

@@ -1,4 +1,6 @@
 // Walks along the FAT: the walk that marks a chain, group 12, and group 13.
+#![tactic(auto)]
+
 ghost use Rattle.std.specs.Prelude.{◌≡◌, true, ◌&&◌, ◌+◌, ◌≤◌, ◌<◌, leb, eqb, length};
 ghost use Rattle.format.specs.Basics.Lists.{all_below};
 ghost use Rattle.format.specs.Layout.Need.{round_up};
@@ -20,7 +22,7 @@ use tables::{Tables, cell_at, copy_table, table_free};
 // ---- marking a chain
 
 // There is no such chain; there is, and none of its units had a mark; or one had, from another chain.
-#[derive(Drop)]
+#[derive(Clone, Copy)]
 pub enum Marked {
     Broken,
     Fresh,
@@ -193,7 +195,7 @@ pub fn cell_rules(img: &[u8], work: &mut [u32], t: Tables) -> bool
 // ---- group 13
 
 // How many units a chain has, where there is one of at least one unit.
-#[derive(Drop)]
+#[derive(Clone, Copy)]
 pub enum Length {
     Is(usize),
     Never,

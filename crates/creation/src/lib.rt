@@ -1,4 +1,6 @@
 // Creation of an object in an opened volume: its entry is written, and the field that names it. Both places are known before a byte is written.
+#![tactic(auto)]
+
 ghost use Rattle.std.specs.Prelude.{◌≡◌, cond, [], ◌≤◌, ◌<◌, eqb, length};
 ghost use Rattle.format.specs.Layout.Directory.{blanks};
 ghost use Rattle.format.specs.Calls.Call.{create};

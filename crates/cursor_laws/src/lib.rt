@@ -1,1 +1,2 @@
 // Laws of reading at a cursor (W-212). There is no code here.
+#![tactic(auto)]

@@ -1,4 +1,6 @@
 // The directory: its entries by number. Its sectors stand listed in the work buffer.
+#![tactic(auto)]
+
 ghost use Rattle.std.specs.Prelude.{◌≡◌, ◌≤◌, ◌<◌, length};
 ghost use Rattle.format.specs.Layout.Entry.{kind as kind_of, colour as colourOf, left as left_of, right as right_of, child as child_of, name};
 ghost use Rattle.format.specs.Rules.Trees.{is_object};
@@ -13,7 +15,7 @@ use kinds::{EntryId, EntryType, Geometry, Order, Sector};
 pub mod listed;
 
 // The sizes, how many sectors the directory has, and where in the work buffer they are listed.
-#[derive(Drop)]
+#[derive(Clone, Copy)]
 pub struct Directory {
     pub geometry: Geometry,
     pub sectors: usize,
@@ -97,7 +99,7 @@ pub fn object(img: &[u8], work: &[u32], d: Directory, x: EntryId) -> bool
 // ---- blank entries
 
 // What a search for a blank entry finds.
-#[derive(Drop)]
+#[derive(Clone, Copy)]
 pub enum Blank {
     At(EntryId),
     Nothing,

@@ -33,7 +33,7 @@ use writes::{Cells, chain_start, put_cells, put_entry, zero_from};
 // ---- units
 
 // What a growth finds: whether there are as many units as needed, and how many cells the searches for free ones looked at.
-#[derive(Drop)]
+#[derive(Clone, Copy)]
 pub struct Growth {
     pub enough: bool,
     pub looked: usize,
@@ -135,7 +135,7 @@ pub fn resize(img: &mut [u8], work: &[u32], v: Volume, e: Object, old: usize, ne
 // ---- the change
 
 // A change of length: its answer, and how many cells the searches for free units looked at.
-#[derive(Drop)]
+#[derive(Clone, Copy)]
 pub struct Change {
     pub answer: Answer,
     pub looked: usize,

@@ -1,4 +1,6 @@
 // A directory entry at a byte place p of the image: its fields.
+#![tactic(auto)]
+
 ghost use Rattle.std.specs.Prelude.{◌≡◌, ◌+◌, ◌≤◌, length};
 ghost use Rattle.format.specs.Basics.Bytes.{byte_at, u16at, u32at, part, all_zero};
 ghost use Rattle.format.specs.Layout.Entry.{name_bytes, kind as kind_of, colour as colourOf, start as start_of, size as sizeAsRead};

@@ -1,4 +1,6 @@
 // Group 14: the fields of each entry of the directory.
+#![tactic(auto)]
+
 ghost use Rattle.std.specs.Prelude.{◌≡◌, true, ◌+◌, ◌*◌, ◌≤◌, ◌<◌, length};
 ghost use Rattle.format.specs.Basics.Lists.{all_below};
 ghost use Rattle.format.specs.Rules.Entries.{blank_fields, name_fields, stream_fields, storage_fields, root_fields, common_fields, entry_fields, entry_rules};

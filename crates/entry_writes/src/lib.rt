@@ -1,4 +1,6 @@
 // Writes into a directory entry at a byte place p of the image: a whole one, a link, the colour.
+#![tactic(auto)]
+
 ghost use Rattle.std.specs.Prelude.{◌≡◌, [], ◌∷◌, ◌+◌, ◌*◌, ◌≤◌, length};
 ghost use Rattle.format.specs.Basics.Bytes.{put_bytes, put32};
 ghost use Rattle.format.specs.Layout.Entry.{colour_byte, black, field_byte};

@@ -1,1 +1,2 @@
 // All of the format as definitions, in specs/. There is no code here.
+#![tactic(auto)]

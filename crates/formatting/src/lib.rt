@@ -1,4 +1,6 @@
 // Writes a fresh image into a lent buffer.
+#![tactic(auto)]
+
 ghost use Rattle.std.specs.Prelude.{◌≡◌, suc, ◌*◌, ◌<◌, length, get_or};
 ghost use Rattle.format.specs.Fresh.Plan.{planned};
 ghost use Rattle.format.specs.Fresh.Header.{directory_field, numbers_below, header_front, fresh_header};

@@ -1,4 +1,6 @@
 // The sectors of a fresh image, each put into a lent buffer of a sector's length.
+#![tactic(auto)]
+
 ghost use Rattle.std.specs.Prelude.{◌≡◌, ◌+◌, ◌-◌, ◌≤◌, ◌<◌, length};
 ghost use Rattle.format.specs.Basics.Bytes.{put_bytes};
 ghost use Rattle.format.specs.Layout.Geometry.{cells_in};
@@ -15,7 +17,7 @@ use kinds::{EntryId, EntryType, Geometry, MiniSector, Sector};
 use le::{fill_zero, put_u32};
 
 // What a fresh image is asked for: its version, how many sectors it has, the directory and the mini FAT have, and its mini sectors.
-#[derive(Drop)]
+#[derive(Clone, Copy)]
 pub struct Plan {
     pub version: u32,
     pub sectors: u64,
@@ -25,7 +27,7 @@ pub struct Plan {
 }
 
 // A plan with its sizes, and the first sector of each part behind the FAT, which begins with sector 0.
-#[derive(Drop)]
+#[derive(Clone, Copy)]
 pub struct Parts {
     pub geometry: Geometry,
     pub plan: Plan,

@@ -1,4 +1,6 @@
 // The lengths of image and work buffer, and the header: its fields, and group 10.
+#![tactic(auto)]
+
 ghost use Rattle.std.specs.Prelude.{◌≡◌, ◌≤◌, ◌<◌, not, ◌||◌, eqb, length};
 ghost use Rattle.format.specs.Layout.Geometry.{counts_directory, sector_count, header_difat};
 ghost use Rattle.format.specs.Layout.Header.{directory_count, directory_start, mini_fat_start, mini_fat_count, difat_start};

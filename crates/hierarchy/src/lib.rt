@@ -1,4 +1,6 @@
 // Group 15: the trees of the directory. Names are compared 64 pairs at once.
+#![tactic(auto)]
+
 ghost use Rattle.std.specs.Prelude.{◌≡◌, ◌||◌, ◌+◌, ◌*◌, ◌≤◌, ◌<◌, ltb, length};
 ghost use Rattle.format.specs.Basics.Lists.{all_below};
 ghost use Rattle.format.specs.Rules.Trees.{tree_rules};

@@ -1,4 +1,6 @@
 // Kinds of number, each its own type with its special values: sectors, mini sectors, entries; the geometry; the order of names; answers.
+#![tactic(auto)]
+
 ghost use Rattle.std.specs.Prelude.{◌≡◌, ◌+◌, ◌≤◌, ◌<◌, ◌*◌, ◌/◌, ◌%◌, eqb, ltb};
 ghost use Rattle.format.specs.Layout.Chain.{FREE, END, FATSECT, DIFSECT};
 ghost use Rattle.format.specs.Layout.Entry.{NOSTREAM};
@@ -11,7 +13,7 @@ ghost use Rattle.kinds.specs.Links.{new_kind_of};
 // ---- geometry
 
 // The sizes that a version fixes: its number, its sector shift, and the bytes of a sector.
-#[derive(Drop)]
+#[derive(Clone, Copy)]
 pub struct Geometry {
     pub major: u16,
     pub shift: u16,
@@ -121,7 +123,7 @@ pub const CUTOFF: u64 = 4096;
 
 // ---- sectors
 
-#[derive(Drop)]
+#[derive(Clone, Copy)]
 pub struct Sector(pub u32);
 
 impl Sector {
@@ -207,7 +209,7 @@ impl Sector {
 
 // ---- mini sectors
 
-#[derive(Drop)]
+#[derive(Clone, Copy)]
 pub struct MiniSector(pub u32);
 
 impl MiniSector {
@@ -276,7 +278,7 @@ impl MiniSector {
 
 // ---- entries
 
-#[derive(Drop)]
+#[derive(Clone, Copy)]
 pub struct EntryId(pub u32);
 
 impl EntryId {
@@ -319,7 +321,7 @@ impl EntryId {
 }
 
 // The type of an entry.
-#[derive(Drop)]
+#[derive(Clone, Copy)]
 pub struct EntryType(pub u8);
 
 impl EntryType {
@@ -357,7 +359,7 @@ impl EntryType {
 }
 
 // What can be created.
-#[derive(Drop)]
+#[derive(Clone, Copy)]
 pub enum NewKind {
     Stream,
     Storage,
@@ -385,7 +387,7 @@ impl NewKind {
 }
 
 // Which of the three fields that name entries.
-#[derive(Drop)]
+#[derive(Clone, Copy)]
 pub enum Link {
     Left,
     Right,
@@ -395,7 +397,7 @@ pub enum Link {
 // ---- names
 
 // How one name lies to another.
-#[derive(Drop)]
+#[derive(Clone, Copy)]
 pub enum Order {
     Less,
     Same,
@@ -405,7 +407,7 @@ pub enum Order {
 // ---- answers
 
 // Why a call is refused.
-#[derive(Drop)]
+#[derive(Clone, Copy)]
 pub enum Refusal {
     BadLength,
     ShortWork,
@@ -434,7 +436,7 @@ pub enum Refusal {
 }
 
 // What a call answers that gives no values.
-#[derive(Drop)]
+#[derive(Clone, Copy)]
 pub enum Answer {
     Done,
     Refused(Refusal),

@@ -1,4 +1,6 @@
 // Chains marked side by side, so that the processor waits for many cells at once.
+#![tactic(auto)]
+
 ghost use Rattle.std.specs.Prelude.{◌≡◌, cond, ◌+◌, ◌≤◌, ◌<◌, leb, length, get_or, set};
 ghost use Rattle.lanes.specs.Answers.{Stepped, LanesShort, LanesMarked};
 
@@ -6,7 +8,7 @@ use chains::{Marked, index, is_mark};
 use kinds::Sector;
 
 // What a step of a lane found: no chain; the cell of its unit, which it has marked; the chain's end; or a unit that has this very mark.
-#[derive(Drop)]
+#[derive(Clone, Copy)]
 enum Step {
     Broken,
     On(u32),

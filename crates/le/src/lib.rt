@@ -1,4 +1,6 @@
 // Little-endian numbers at a place of a slice of bytes; filling and copying; the lesser and the greater of two numbers.
+#![tactic(auto)]
+
 ghost use Rattle.std.specs.Prelude.{◌≡◌, ◌+◌, ◌-◌, ◌≤◌, ◌<◌, min, max, length, replicate};
 ghost use Rattle.format.specs.Basics.Bytes.{part, u16at, u32at, u64at, all_zero, put_bytes, put16, put32, put64};
 ghost use Rattle.format.specs.Calls.Buffers.{work_cleared};

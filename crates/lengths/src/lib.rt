@@ -1,4 +1,6 @@
 // Changes of length, also across the cutoff: of the stream that a path leads to.
+#![tactic(auto)]
+
 ghost use Rattle.std.specs.Prelude.{◌≡◌, []};
 ghost use Rattle.format.specs.Calls.Call.{set_length as lengthCall};
 ghost use Rattle.format.specs.Calls.SetLength.{crosses};

@@ -1,4 +1,6 @@
 // Lines of the listing: how long one is, and writing one into the out buffer behind those that stand there already.
+#![tactic(auto)]
+
 ghost use Rattle.std.specs.Prelude.{◌≡◌, ◌+◌, ◌≤◌, ◌<◌, length};
 ghost use Rattle.format.specs.Basics.Bytes.{part};
 ghost use Rattle.format.specs.Calls.Read.{over};

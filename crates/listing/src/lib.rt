@@ -1,5 +1,7 @@
 // The whole listing: one walk that adds up its length, one that writes it. The stack, at the start of the work buffer, holds entries whose
 // left side is done, each with the length of its parent's path.
+#![tactic(auto)]
+
 ghost use Rattle.std.specs.Prelude.{◌≡◌, true, ◌++◌, ◌+◌, ◌*◌, ◌≤◌, ◌<◌, length};
 ghost use Rattle.format.specs.Layout.Tree.{forest, entries};
 ghost use Rattle.format.specs.Rules.Entries.{entry_rules};
@@ -22,7 +24,7 @@ use text::{decimal_length, name_length, put_number_line};
 // ---- the stack
 
 // An entry on the stack, and the length of its parent's path.
-#[derive(Drop)]
+#[derive(Clone, Copy)]
 struct Pair {
     entry: EntryId,
     parent: u32,
@@ -92,13 +94,13 @@ fn turn(img: &[u8], work: &mut [u32], d: Directory, k: usize) -> usize
 // ---- the measure
 
 // How many objects and how many bytes the listing has.
-#[derive(Drop)]
+#[derive(Clone, Copy)]
 pub struct Size {
     pub objects: usize,
     pub bytes: usize,
 }
 
-#[derive(Drop)]
+#[derive(Clone, Copy)]
 pub enum Measured {
     TooLong,
     Fits(Size),

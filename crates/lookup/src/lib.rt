@@ -1,4 +1,6 @@
 // One name in the trees of a validated directory: the child of a storage, and the field that names it or would name it.
+#![tactic(auto)]
+
 ghost use Rattle.std.specs.Prelude.{◌≡◌, ◌<◌};
 ghost use Rattle.theory.specs.TreeFind.{Searchable};
 ghost use Rattle.directory.specs.Listed.{entries_of, DirectoryListed, Ruled};
@@ -9,7 +11,7 @@ ghost use Rattle.lookup.specs.Slots.{SeatRight};
 use directory::{Directory, child_of, left_of, order_to, right_of};
 use kinds::{EntryId, Link, Order};
 
-#[derive(Drop)]
+#[derive(Clone, Copy)]
 pub enum Child {
     Missing,
     Present(EntryId),
@@ -43,14 +45,14 @@ pub fn find_child(want: &[u16], img: &[u8], work: &[u32], d: Directory, top: Ent
 }
 
 // A field of an entry.
-#[derive(Drop)]
+#[derive(Clone, Copy)]
 pub struct Slot {
     pub entry: EntryId,
     pub field: Link,
 }
 
 // The field that is to name a new entry, or the entry that has the name already and the field that names it.
-#[derive(Drop)]
+#[derive(Clone, Copy)]
 pub enum Seat {
     Free(Slot),
     Taken(EntryId, Slot),

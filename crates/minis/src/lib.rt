@@ -1,4 +1,6 @@
 // The mini FAT: its cells by number, and the rules on its cells (of group 16). Its sectors stand listed in the work buffer.
+#![tactic(auto)]
+
 ghost use Rattle.std.specs.Prelude.{◌≡◌, ◌+◌, ◌≤◌, ◌<◌, ◌*◌};
 ghost use Rattle.format.specs.Layout.Geometry.{cells_in};
 ghost use Rattle.format.specs.Layout.Header.{mini_fat_count};
@@ -16,7 +18,7 @@ use tables::{Tables, copy_table, table_free, table_word};
 // ---- cells
 
 // The sizes, how many mini sectors there are, how many sectors the mini FAT has, and where in the work buffer they are listed.
-#[derive(Drop)]
+#[derive(Clone, Copy)]
 pub struct Minis {
     pub geometry: Geometry,
     pub units: usize,

@@ -1,4 +1,6 @@
 // Pairs of names of as many units, compared many at once: both are read before any is compared, so that they come from memory side by side.
+#![tactic(auto)]
+
 ghost use Rattle.std.specs.Prelude.{◌≡◌, length};
 ghost use Rattle.format.specs.Basics.Lists.{all_below};
 ghost use Rattle.format.specs.Layout.Name.{name_less};

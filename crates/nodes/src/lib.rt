@@ -1,4 +1,6 @@
 // Nodes: the place of each entry in the trees, packed into two numbers of the work buffer. They name each other by slots.
+#![tactic(auto)]
+
 ghost use Rattle.std.specs.Prelude.{◌≡◌, false, ◌+◌, ◌*◌, ◌<◌, eqb, length, get_or, set};
 ghost use Rattle.nodes.specs.Slots.{slot_of, entry_of};
 ghost use Rattle.nodes.specs.Nodes.{node_left, node_right, node_child, node_units, node_red, node_reached, node_reach, Packable, Packed};
@@ -8,7 +10,7 @@ use kinds::EntryId;
 // ---- slots
 
 // 0 names none. Slot 1 is the root's, and stands for all that names no entry too.
-#[derive(Drop)]
+#[derive(Clone, Copy)]
 pub struct Slot(pub u32);
 
 impl Slot {
@@ -63,7 +65,7 @@ impl Slot {
 
 // a: the left slot, the units of the name, whether it is red, whether it is reached, and the high bits of the child slot.
 // b: the right slot, and the low bits of the child slot.
-#[derive(Drop)]
+#[derive(Clone, Copy)]
 pub struct Node {
     pub a: u32,
     pub b: u32,

@@ -1,4 +1,6 @@
 // A volume opened once, for any number of calls, and closed. Each call gives what the plain call gives, and leaves the volume opened.
+#![tactic(auto)]
+
 ghost use Rattle.std.specs.Prelude.{◌≡◌, length};
 ghost use Rattle.format.specs.Rules.Length.{work_need};
 ghost use Rattle.format.specs.Calls.Call.{find as findCall, read as readCall, overwrite as overwriteCall, set_length as lengthCall};

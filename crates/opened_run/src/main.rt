@@ -1,4 +1,6 @@
 // Makes calls in a row on the image on standard input, opened once, and prints what they give and leave. `tools/opened_case.py` says what that is.
+#![tactic(auto)]
+
 ghost use Rattle.std.specs.Prelude.{◌≡◌};
 ghost use Rattle.opened.specs.OpenVolume.{OpenVolume};
 ghost use Rattle.opened.specs.Sequence.{OpenedCalls};
@@ -16,7 +18,7 @@ use volume::{Opened, Volume};
 // ---- the calls
 
 // What each of the calls answered.
-#[derive(Drop)]
+#[derive(Clone, Copy)]
 struct Steps {
     length: Answer,
     overwrite: Answer,
@@ -25,7 +27,7 @@ struct Steps {
     list: List,
 }
 
-#[derive(Drop)]
+#[derive(Clone, Copy)]
 enum Outcome {
     Refused(Refusal),
     Made(Steps),

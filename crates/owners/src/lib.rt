@@ -1,4 +1,6 @@
 // Streams and owners: the chains of all streams (group 17), and the units that nobody owns (group 18).
+#![tactic(auto)]
+
 ghost use Rattle.std.specs.Prelude.{◌≡◌, ◌+◌, ◌-◌, ◌≤◌};
 ghost use Rattle.directory.specs.Listed.{entries_of};
 ghost use Rattle.owners.specs.Streams.{StreamsMarkable, BlockMarked, StreamsMarked, CellsRight, all_covered};

@@ -12,7 +12,7 @@ use minis::Minis;
 use tables::Tables;
 
 // A stream's chain is wrong; or a unit has two owners, or none though its cell is not free; or neither.
-#[derive(Drop)]
+#[derive(Clone, Copy)]
 pub enum Owners {
     Broken,
     Wrong,

@@ -10,14 +10,14 @@ use cfb::read_at;
 use kinds::EntryId;
 use queries::read::Read;
 
-#[derive(Drop)]
+#[derive(Clone, Copy)]
 pub struct Cursor {
     pub entry: EntryId,
     pub position: u64,
 }
 
 // What a read at a cursor gives, and the cursor after it.
-#[derive(Drop)]
+#[derive(Clone, Copy)]
 pub struct Step {
     pub read: Read,
     pub cursor: Cursor,

@@ -11,7 +11,7 @@ use super::cursor::{Cursor, read_next};
 use queries::find::Find;
 use queries::read::Read;
 
-#[derive(Drop)]
+#[derive(Clone, Copy)]
 pub struct View<'a> {
     pub image: &'a [u8],
 }

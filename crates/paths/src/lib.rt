@@ -1,4 +1,6 @@
 // Paths: whether one is well formed, and the entry that it leads to.
+#![tactic(auto)]
+
 ghost use Rattle.std.specs.Prelude.{◌≡◌, true, ◌-◌, ◌<◌, length};
 ghost use Rattle.format.specs.Layout.Name.{legal_name};
 ghost use Rattle.format.specs.Rules.Entries.{entry_rules};
@@ -82,7 +84,7 @@ fn last_name_start(path: &[u16]) -> usize
 
 // ---- the way down
 
-#[derive(Drop)]
+#[derive(Clone, Copy)]
 pub enum Found {
     At(EntryId),
     Refused(Refusal),
@@ -140,7 +142,7 @@ pub fn find_entry(path: &[u16], img: &[u8], work: &[u32], d: Directory) -> Found
 // ---- the last name's storage
 
 // The root or the storage that the last name stands in, and where the last name begins.
-#[derive(Drop)]
+#[derive(Clone, Copy)]
 pub enum Parent {
     At(EntryId, usize),
     Refused(Refusal),

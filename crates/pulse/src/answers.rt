@@ -6,7 +6,7 @@ use kinds::{Refusal, refusal_number};
 use pulse_records::{Pulse, Records, TotalTicks};
 
 // Why a call is refused: as any call on the file; no pulse stream; no ticks to add; no record of that number.
-#[derive(Drop)]
+#[derive(Clone, Copy)]
 pub enum PulseRefusal {
     File(Refusal),
     NotPulses,
@@ -27,25 +27,25 @@ pub fn pulse_number(a: PulseRefusal) -> u32
 }
 
 // How many records a pulse stream has, and how many ticks.
-#[derive(Drop)]
+#[derive(Clone, Copy)]
 pub struct Totals {
     pub count: Records,
     pub total: TotalTicks,
 }
 
-#[derive(Drop)]
+#[derive(Clone, Copy)]
 pub enum Summary {
     Done(Totals),
     Refused(PulseRefusal),
 }
 
-#[derive(Drop)]
+#[derive(Clone, Copy)]
 pub enum Record {
     Done(Pulse),
     Refused(PulseRefusal),
 }
 
-#[derive(Drop)]
+#[derive(Clone, Copy)]
 pub enum Added {
     Done,
     Refused(PulseRefusal),

@@ -21,13 +21,13 @@ use volume::Volume;
 // ---- finding
 
 // A pulse stream, and what its trailer says.
-#[derive(Drop)]
+#[derive(Clone, Copy)]
 pub struct PulseStream {
     pub object: Object,
     pub trailer: Trailer,
 }
 
-#[derive(Drop)]
+#[derive(Clone, Copy)]
 pub enum FoundPulses {
     At(PulseStream),
     Refused(PulseRefusal),

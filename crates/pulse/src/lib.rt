@@ -1,5 +1,7 @@
 // Pulse streams: how many records and ticks one has, one of its records, and a pulse more. As of `cfb`, no call requires anything, and every call
 // ends and answers.
+#![tactic(auto)]
+
 ghost use Rattle.std.specs.Prelude.{◌≡◌};
 ghost use Rattle.pulse_laws.specs.Calls.{summary_answer, record_answer, add_answer, summary_reply, record_reply, add_reply, image_added, work_after_pulse};
 ghost use Rattle.pulse.specs.Replies.{summary_reply_of, record_reply_of, added_reply_of, pulse_for};

@@ -95,7 +95,7 @@ fn read_trailer(image: &[u8], work: &[u32], v: Volume, e: Object) -> Trailer
 }
 
 // What a stream is: a pulse stream with this trailer, or another.
-#[derive(Drop)]
+#[derive(Clone, Copy)]
 pub enum Parsed {
     Pulses(Trailer),
     Other,

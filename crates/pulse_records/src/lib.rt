@@ -1,4 +1,6 @@
 // Pulses, ticks and records: each kind of number is a type of its own.
+#![tactic(auto)]
+
 ghost use Rattle.std.specs.Prelude.{◌≡◌, ◌&&◌, ◌+◌, ◌-◌, ◌*◌, ◌≤◌, ◌<◌, min, eqb, leb, ltb};
 ghost use Rattle.pulse_laws.specs.Pulse.{distance_for};
 
@@ -8,11 +10,11 @@ pub mod trailers;
 // ---- pulses
 
 // The number of a valve.
-#[derive(Drop)]
+#[derive(Clone, Copy)]
 pub struct Valve(pub u16);
 
 // The ticks of one pulse, each of 0.1 ms.
-#[derive(Drop)]
+#[derive(Clone, Copy)]
 pub struct Ticks(pub u32);
 
 impl Ticks {
@@ -24,14 +26,14 @@ impl Ticks {
     }
 }
 
-#[derive(Drop)]
+#[derive(Clone, Copy)]
 pub struct Pulse {
     pub valve: Valve,
     pub ticks: Ticks,
 }
 
 // The ticks of many pulses.
-#[derive(Drop)]
+#[derive(Clone, Copy)]
 pub struct TotalTicks(pub u64);
 
 impl TotalTicks {
@@ -55,7 +57,7 @@ impl TotalTicks {
 // ---- records
 
 // How many records, or the number of one, the first being 0.
-#[derive(Drop)]
+#[derive(Clone, Copy)]
 pub struct Records(pub u32);
 
 impl Records {
@@ -105,7 +107,7 @@ impl Records {
 }
 
 // What a stream's last bytes say of its records.
-#[derive(Drop)]
+#[derive(Clone, Copy)]
 pub struct Trailer {
     pub distance: u32,
     pub count: Records,

@@ -27,7 +27,7 @@ fn is_right(bytes: &[u8], at: usize) -> bool
 }
 
 // The ticks of records, added to those before them.
-#[derive(Drop)]
+#[derive(Clone, Copy)]
 pub enum Sum {
     Ticks(TotalTicks),
     Wrong,

@@ -13,14 +13,14 @@ use paths::{Found, find_entry};
 use volume::Volume;
 
 // An entry: its number, its type and its size.
-#[derive(Drop)]
+#[derive(Clone, Copy)]
 pub struct Object {
     pub id: EntryId,
     pub entry_type: EntryType,
     pub size: u64,
 }
 
-#[derive(Drop)]
+#[derive(Clone, Copy)]
 pub enum Find {
     Entry(Object),
     Refused(Refusal),

@@ -17,7 +17,7 @@ use reading::read_units;
 use spaces::{kind_for, start_unit};
 use volume::Volume;
 
-#[derive(Drop)]
+#[derive(Clone, Copy)]
 pub enum Read {
     Done(usize),
     Refused(Refusal),

@@ -1,4 +1,6 @@
 // Reads from a stream: the bytes of its units, from any place on, of either kind. The out buffer that is lent has just the bytes that are read.
+#![tactic(auto)]
+
 ghost use Rattle.std.specs.Prelude.{◌≡◌, true, ◌+◌, ◌≤◌, ◌<◌, length, get_or};
 ghost use Rattle.format.specs.Basics.Bytes.{part};
 ghost use Rattle.format.specs.Layout.Space.{chain_for};

@@ -1,4 +1,6 @@
 // Removal of an object: the entry that a path leads to is taken from the tree of its siblings. All that is read is read before a byte is written.
+#![tactic(auto)]
+
 ghost use Rattle.std.specs.Prelude.{◌≡◌, true, [], ◌≤◌, ◌<◌};
 ghost use Rattle.format.specs.Layout.Volume.{volume};
 ghost use Rattle.format.specs.Rules.Entries.{entry_rules};

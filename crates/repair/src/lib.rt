@@ -1,4 +1,6 @@
 // A repair. Everything is tried on a copy in the spare buffer; the image is written only where the outcome keeps every rule.
+#![tactic(auto)]
+
 ghost use Rattle.std.specs.Prelude.{◌≡◌, ◌≤◌, length};
 ghost use Rattle.format.specs.Rules.Length.{work_need};
 ghost use Rattle.format.specs.Calls.Buffers.{work_cleared};
@@ -18,7 +20,7 @@ use volume::{Opened, open_volume};
 pub mod differences;
 
 // How many cells and colour bytes differ from what they were, or why nothing was written.
-#[derive(Drop)]
+#[derive(Clone, Copy)]
 pub enum Repair {
     Done(u64),
     Refused(Refusal),

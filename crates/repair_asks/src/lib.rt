@@ -1,4 +1,6 @@
 // What the steps of a repair ask of an image, by the functions of validation.
+#![tactic(auto)]
+
 ghost use Rattle.std.specs.Prelude.{◌≡◌, ◌≤◌, length};
 ghost use Rattle.format.specs.Layout.Volume.{directory_sectors_of};
 ghost use Rattle.format.specs.Calls.RepairSteps.{tables_hold, directory_holds, entries_hold};

@@ -1,1 +1,2 @@
 // Laws of repairs (W-213). There is no code here.
+#![tactic(auto)]

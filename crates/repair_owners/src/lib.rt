@@ -1,5 +1,7 @@
 // The fourth step of a repair: where groups 10 to 17 hold, the cells of units that nobody owns become free. All chains are marked before a
 // byte is written.
+#![tactic(auto)]
+
 ghost use Rattle.std.specs.Prelude.{◌≡◌, true, ◌≤◌, length};
 ghost use Rattle.format.specs.Basics.Lists.{all_below};
 ghost use Rattle.format.specs.Rules.Length.{work_need};

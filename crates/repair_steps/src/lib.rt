@@ -1,4 +1,6 @@
 // The steps of a repair, on the image that is lent: each asks, writes and hands on to the next; the first that cannot be taken ends them.
+#![tactic(auto)]
+
 ghost use Rattle.std.specs.Prelude.{◌≡◌, ◌≤◌, length};
 ghost use Rattle.format.specs.Rules.Length.{work_need};
 ghost use Rattle.format.specs.Calls.RepairSteps.{third_step, second_step, repaired};

@@ -1,5 +1,7 @@
 // The writes of a repair: cells of a table whose sectors stand listed in the work buffer become free, and entries become black. Nothing is
 // judged here, and nothing is read of the image but what is about to be written.
+#![tactic(auto)]
+
 ghost use Rattle.std.specs.Prelude.{◌≡◌, true, ◌+◌, ◌≤◌, ◌<◌, length};
 ghost use Rattle.format.specs.Basics.Lists.{pick_below};
 ghost use Rattle.format.specs.Basics.Bytes.{put32};

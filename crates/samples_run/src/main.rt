@@ -1,4 +1,6 @@
 // Reads files from standard input, each behind its length of four bytes, and prints for each what the lister prints.
+#![tactic(auto)]
+
 use cfb::list;
 use kinds::refusal_number;
 use le::u32_at;

@@ -1,4 +1,6 @@
 // Sectors and mini sectors alike: a unit of either kind of an opened volume, its cell, and where cell and unit stand in the image.
+#![tactic(auto)]
+
 ghost use Rattle.std.specs.Prelude.{◌≡◌, ◌+◌, ◌/◌, ◌≤◌, ◌<◌, eqb, length};
 ghost use Rattle.format.specs.Layout.Chain.{FREE, END};
 ghost use Rattle.format.specs.Layout.Entry.{start as start_of};
@@ -15,14 +17,14 @@ use tables::cell_at;
 use volume::Volume;
 
 // The kinds of unit.
-#[derive(Drop)]
+#[derive(Clone, Copy)]
 pub enum Kind {
     Sectors,
     Minis,
 }
 
 // A unit of either kind, by its number.
-#[derive(Drop)]
+#[derive(Clone, Copy)]
 pub enum Unit {
     Sector(Sector),
     Mini(MiniSector),

@@ -1,4 +1,6 @@
 // The chains that the streams of some entries ask for: their starts and sizes, read of many entries at once, and the lanes that mark them.
+#![tactic(auto)]
+
 ghost use Rattle.std.specs.Prelude.{◌≡◌, ◌+◌, ◌-◌, ◌≤◌, ◌<◌, length, set};
 ghost use Rattle.format.specs.Basics.Lists.{bit};
 ghost use Rattle.tables.specs.Views.{volume_of};
@@ -71,14 +73,14 @@ pub fn gather(
 // ---- lanes
 
 // How many lanes of mini sectors there are, and of sectors.
-#[derive(Drop)]
+#[derive(Clone, Copy)]
 pub struct Counts {
     pub small: usize,
     pub large: usize,
 }
 
 // One of the streams has no chain; or the lanes stand in the arrays.
-#[derive(Drop)]
+#[derive(Clone, Copy)]
 pub enum Lanes {
     Wrong,
     Ready(Counts),

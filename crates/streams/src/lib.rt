@@ -1,5 +1,7 @@
 // Streams of an opened volume: found by a path, their units listed once, and read from any place on. A listed stream is read in pieces with
 // no walk along its chain.
+#![tactic(auto)]
+
 ghost use Rattle.std.specs.Prelude.{◌≡◌, ◌+◌, ◌≤◌, length};
 ghost use Rattle.format.specs.Basics.Bytes.{part};
 ghost use Rattle.format.specs.Layout.Stream.{contents};
@@ -21,7 +23,7 @@ use unitlists::list_units;
 use volume::Volume;
 
 // A stream of an opened volume.
-#[derive(Drop)]
+#[derive(Clone, Copy)]
 pub enum FoundStream {
     At(Object),
     Refused(Refusal),

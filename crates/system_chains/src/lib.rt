@@ -1,4 +1,6 @@
 // The chains that the system has: the directory's, the mini FAT's and the mini stream's.
+#![tactic(auto)]
+
 ghost use Rattle.std.specs.Prelude.{◌≡◌, true, length};
 ghost use Rattle.format.specs.Layout.Volume.{directory_sectors_of, mini_fat_sectors, mini_stream_sectors};
 ghost use Rattle.format.specs.Rules.Directory.{directory_rules};

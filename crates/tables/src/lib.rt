@@ -1,4 +1,6 @@
 // The tables of an image: the lookup of a cell, and all cells of a table by blocks. Group 11 stands in `sectors`.
+#![tactic(auto)]
+
 ghost use Rattle.std.specs.Prelude.{◌≡◌, ◌+◌, ◌-◌, ◌≤◌, ◌<◌, ◌*◌, ◌/◌, length};
 ghost use Rattle.format.specs.Basics.Lists.{all_below};
 ghost use Rattle.format.specs.Layout.Geometry.{sector_count, cells_in};
@@ -43,7 +45,7 @@ pub fn table_word(img: &[u8], work: &[u32], g: Geometry, list: usize, i: usize) 
 // ---- blocks
 
 // Cells of a table that lie in one sector: the byte of the image where the first stands, and how many there are.
-#[derive(Drop)]
+#[derive(Clone, Copy)]
 pub struct Block {
     pub place: usize,
     pub cells: usize,
@@ -132,7 +134,7 @@ pub fn copy_table(
 // ---- cells
 
 // The sizes, how many sectors there are, and where in the work buffer the FAT's sectors are listed.
-#[derive(Drop)]
+#[derive(Clone, Copy)]
 pub struct Tables {
     pub geometry: Geometry,
     pub sectors: usize,

@@ -1,5 +1,7 @@
 // Validates images that are nearly all tables or nearly all zero, and prints the number that each gets. Standard input holds groups: the length of
 // an image, the number of its fills, and then those fills; bytes that no fill writes are zero. `tools/tables_images.py` writes them.
+#![tactic(auto)]
+
 ghost use Rattle.std.specs.Prelude.{◌≡◌, ◌≤◌, length};
 
 use cfb::validate;

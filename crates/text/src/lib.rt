@@ -1,4 +1,6 @@
 // Numbers and names as text, written to the front of a part of the out buffer. Each length can be asked for before a byte is written.
+#![tactic(auto)]
+
 ghost use Rattle.std.specs.Prelude.{◌≡◌, ◌&&◌, ◌+◌, ◌≤◌, leb, length};
 ghost use Rattle.format.specs.Calls.Read.{over};
 ghost use Rattle.format.specs.Calls.Text.{decimal, hex_digit, print_unit, print_name};

@@ -1,5 +1,7 @@
 // A tree of siblings without one of its entries: all that is read of it is read before a byte is written. Then the links that change are
 // written, every sibling becomes black, and the entry blank.
+#![tactic(auto)]
+
 ghost use Rattle.std.specs.Prelude.{◌≡◌, ◌≤◌, ◌<◌, length, take};
 ghost use Rattle.format.specs.Layout.Volume.{volume};
 ghost use Rattle.format.specs.Calls.Remove.{entry_removed_at};
@@ -68,7 +70,7 @@ fn blacken(img: &mut [u8], work: &[u32], d: Directory, n: usize)
 // ---- the links
 
 // The last on the way right from an entry, and the entry above it.
-#[derive(Drop)]
+#[derive(Clone, Copy)]
 struct Heir {
     entry: EntryId,
     above: EntryId,
@@ -105,7 +107,7 @@ fn put_slot(img: &mut [u8], work: &[u32], d: Directory, owner: EntryId, field: L
 }
 
 // The left side of an heir, and the sides of the entry whose place it takes.
-#[derive(Drop)]
+#[derive(Clone, Copy)]
 struct Sides {
     own: EntryId,
     left: EntryId,

@@ -1,4 +1,6 @@
 // The walk over the trees, in order. It reaches each object once, tests colours on its way, and says which names are to be compared.
+#![tactic(auto)]
+
 ghost use Rattle.std.specs.Prelude.{◌≡◌, false, ◌+◌, ◌-◌, ◌*◌, ◌≤◌, ◌<◌, length, set};
 ghost use Rattle.nodes.specs.Nodes.{node_reached, node_reach};
 ghost use Rattle.tree_walk.specs.Walking.{Underway, TurnLeft, shorter, due_slot, units_at, wait_work, wait_tops};
@@ -9,7 +11,7 @@ use nodes::{Node, Slot, node_at};
 // Where the walk stands: the slot to go down to, and whether it may not be red, since the one above it is or it is the top of a
 // tree; the entry visited last, and the sibling whose name is still to be compared with its; how many are above, and how many trees
 // wait.
-#[derive(Drop)]
+#[derive(Clone, Copy)]
 pub struct State {
     pub at: Slot,
     pub red: bool,
@@ -19,7 +21,7 @@ pub struct State {
     pub tops: usize,
 }
 
-#[derive(Drop)]
+#[derive(Clone, Copy)]
 pub enum Turn {
     Go(State),
     Wrong,

@@ -1,4 +1,6 @@
 // Lists of units at the start of the work buffer: those of a chain, and then free ones, lowest first.
+#![tactic(auto)]
+
 ghost use Rattle.std.specs.Prelude.{◌≡◌, true, ◌++◌, ◌-◌, ◌≤◌, take};
 ghost use Rattle.format.specs.Calls.Search.{growth_searches, units_found};
 ghost use Rattle.tables.specs.Work.{Wrote};
@@ -13,14 +15,14 @@ use volume::Volume;
 // ---- free units
 
 // What a search for a free unit finds.
-#[derive(Drop)]
+#[derive(Clone, Copy)]
 pub enum Found {
     Free(Unit),
     Nothing,
 }
 
 // A search: what it found, and how many cells it looked at.
-#[derive(Drop)]
+#[derive(Clone, Copy)]
 pub struct Search {
     pub found: Found,
     pub looked: usize,
@@ -54,7 +56,7 @@ fn next_free(img: &[u8], work: &[u32], v: Volume, kind: Kind, from: usize) -> Se
 }
 
 // A list of units: how many numbers stand there, and how many cells the searches for free ones looked at.
-#[derive(Drop)]
+#[derive(Clone, Copy)]
 pub struct Listed {
     pub count: usize,
     pub looked: usize,

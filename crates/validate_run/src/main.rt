@@ -1,4 +1,6 @@
 // Reads images from standard input, each behind its length of four bytes, and prints for each the number that validation gives.
+#![tactic(auto)]
+
 use cfb::validate;
 use kinds::number;
 use le::u32_at;

@@ -33,7 +33,7 @@ pub fn open_directory(img: &[u8], work: &mut [u32], g: Geometry, n: usize) -> Di
 }
 
 // The first of the two groups that is broken, if one is.
-#[derive(Drop)]
+#[derive(Clone, Copy)]
 pub enum Entries {
     WrongFields,
     WrongTrees,

@@ -1,4 +1,6 @@
 // A volume: an image that keeps every rule, opened for the calls. Each stage tests its groups and hands on to the next; the last one opens the volume.
+#![tactic(auto)]
+
 ghost use Rattle.format.specs.Rules.Version.{version_of};
 ghost use Rattle.volume.specs.Opened.{OpenedRight};
 
@@ -16,7 +18,7 @@ pub mod owner_stage;
 pub mod table_stage;
 
 // Where everything stands: the FAT's sectors, the directory's, the mini FAT's and the mini stream's are listed in the work buffer.
-#[derive(Drop)]
+#[derive(Clone, Copy)]
 pub struct Volume {
     pub tables: Tables,
     pub directory: Directory,
@@ -24,7 +26,7 @@ pub struct Volume {
     pub stream: usize,
 }
 
-#[derive(Drop)]
+#[derive(Clone, Copy)]
 pub enum Opened {
     Refused(Refusal),
     Ready(Volume),

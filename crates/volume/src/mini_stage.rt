@@ -23,14 +23,14 @@ use system_chains::mark_system;
 use tables::{Tables, tables_of};
 
 // A rule on the mini FAT's cells below K is broken, or its sectors stand listed.
-#[derive(Drop)]
+#[derive(Clone, Copy)]
 pub enum MiniTable {
     Wrong,
     Right(Minis),
 }
 
 // What is listed after group 16, and whether two of the system's chains share a sector.
-#[derive(Drop)]
+#[derive(Clone, Copy)]
 pub struct System {
     pub tables: Tables,
     pub directory: Directory,
@@ -38,7 +38,7 @@ pub struct System {
     pub shared: bool,
 }
 
-#[derive(Drop)]
+#[derive(Clone, Copy)]
 pub enum SystemTables {
     Wrong,
     Right(System),

@@ -1,5 +1,7 @@
 // Writes into the image: cells and bytes of the units that stand listed at the start of the work buffer, and fields of an entry.
 // Places come from the lists in the work buffer alone: no cell is read while cells change.
+#![tactic(auto)]
+
 ghost use Rattle.std.specs.Prelude.{◌≡◌, ◌+◌, ◌*◌, ◌≤◌, ◌<◌, length, take, drop};
 ghost use Rattle.format.specs.Layout.Chain.{start_of};
 ghost use Rattle.format.specs.Calls.Overwrite.{put_chain};
@@ -40,7 +42,7 @@ pub fn chain_start(work: &[u32], kind: Kind, j: usize, n: usize) -> Unit
 }
 
 // What the cells of listed units become: free, or a chain, in which each names the next unit and the last is the end.
-#[derive(Drop)]
+#[derive(Clone, Copy)]
 pub enum Cells {
     Freed,
     Linked,

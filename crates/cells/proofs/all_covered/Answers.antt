@@ -1,0 +1,15 @@
+use borrow.Author.Rules.{rules}
+use Prim.Native.Nat.{◌-◌}
+use lib.ListN.{length}
+use Rattle.cells.specs.Cells.{covered_at}
+use Rattle.cells.proofs.Turns.{Passed, passed_none, passed_more, passed_all, covered_turn}
+use Rattle.cells.proofs.all_covered.Goals as goal
+
+pub loop-i-init : goal.loop-i-init
+loop-i-init c = passed_none
+
+pub loop-i-preserved : goal.loop-i-preserved
+loop-i-preserved c = passed_more c.loop-i.invariant c.loop-i-test.true (covered_turn _ _)
+
+pub returns : goal.returns
+returns c = passed_all c.loop-i.invariant c.loop-i-test.false

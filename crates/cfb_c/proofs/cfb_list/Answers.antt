@@ -1,0 +1,21 @@
+use borrow.Author.Rules.{rules}
+use mathlib.Core.Path.{sym, ◌∙◌, ap}
+use Rattle.format.specs.Calls.Reply.{plain, counted}
+use Rattle.queries.specs.Replies.{list_reply}
+use Rattle.cfb_c.proofs.cfb_list.Goals as goal
+
+pub list-requires : goal.list-requires
+unfolding plain counted
+list-requires c = search rules
+
+pub refused-requires : goal.refused-requires
+unfolding plain counted
+refused-requires c = search rules
+
+pub returns-in-Done : goal.returns-in-Done
+unfolding plain counted
+returns-in-Done c = record { count_after = sym (ap list_reply c.in-Done.is) ∙ c.list.ensures.result_value; out_after = c.list.ensures.out_after; work_after = c.list.ensures.work_after; }
+
+pub returns-in-Refused : goal.returns-in-Refused
+unfolding plain counted
+returns-in-Refused c = record { count_after = rw (c.refused.ensures.value, c.refused.ensures.count_after) (sym (ap list_reply c.in-Refused.is) ∙ c.list.ensures.result_value); out_after = c.list.ensures.out_after; work_after = c.list.ensures.work_after; }

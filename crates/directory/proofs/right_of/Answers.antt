@@ -1,0 +1,12 @@
+use native.Mathlib.Omega.{arith}
+use Rattle.directory.proofs.Places.{placed, place_inside, entry_is}
+use Rattle.directory.proofs.right_of.Goals as goal
+
+pub place-requires : goal.place-requires
+place-requires c = placed c.requires.directory_listed _ c.requires.x_bound
+
+pub right-requires : goal.right-requires
+right-requires c = omega (arith, c.place.ensures, place_inside c.requires.directory_listed _ c.requires.x_bound)
+
+pub returns : goal.returns
+returns c = rw (c.right.ensures, c.place.ensures, entry_is c.requires.directory_listed _ c.requires.x_bound)

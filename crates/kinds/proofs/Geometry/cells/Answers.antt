@@ -1,0 +1,7 @@
+use borrow.Author.Rules.{rules}
+use Rattle.format.specs.Layout.Geometry.{cells_in}
+use Rattle.kinds.proofs.Geometry.cells.Goals as goal
+
+pub returns : goal.returns
+unfolding cells_in
+returns c = search rules

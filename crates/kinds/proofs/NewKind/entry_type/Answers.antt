@@ -1,0 +1,11 @@
+use borrow.Author.Rules.{rules}
+use Rattle.format.specs.Calls.Create.{kind_for}
+use Rattle.kinds.proofs.NewKind.entry_type.Goals as goal
+
+pub returns-in-Stream : goal.returns-in-Stream
+unfolding kind_for
+returns-in-Stream c = rw c.in-Stream.is
+
+pub returns-in-Storage : goal.returns-in-Storage
+unfolding kind_for
+returns-in-Storage c = rw c.in-Storage.is

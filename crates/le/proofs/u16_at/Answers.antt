@@ -1,0 +1,6 @@
+use borrow.Author.Rules.{rules}
+use Rattle.theory.proofs.Bytes.{u16_bytes}
+use Rattle.le.proofs.u16_at.Goals as goal
+
+pub returns : goal.returns
+returns c = rw u16_bytes (search rules)

@@ -1,0 +1,11 @@
+use borrow.Author.Rules.{rules}
+use mathlib.Core.Path.{ap}
+use Rattle.spaces.specs.declared.Kind.TheVariants.{Sectors, Minis}
+use Rattle.spaces.specs.Units.{unit_of}
+use Rattle.spaces.proofs.start_unit.Goals as goal
+
+pub returns-in-Sectors : goal.returns-in-Sectors
+returns-in-Sectors c = rw c.in-Sectors.is (ap (unit_of Sectors) c.start_sector.ensures)
+
+pub returns-in-Minis : goal.returns-in-Minis
+returns-in-Minis c = rw c.in-Minis.is (ap (unit_of Minis) c.start_mini.ensures)

@@ -1,0 +1,19 @@
+use borrow.Author.Rules.{rules}
+use Prim.Native.Nat.{◌+◌, ◌-◌, ◌*◌, ◌≤◌, ◌<◌}
+use mathlib.Core.Path.{◌≡◌}
+use native.Mathlib.Omega.{arith}
+use lib.ListN.{length}
+use Rattle.kinds.specs.Sizes.{geometry_of}
+use Rattle.cells.specs.Cells.{cell_right}
+use Rattle.cells.proofs.Turns.{Passed, passed_none, passed_all}
+use Rattle.tables.specs.Words.{table_cell}
+use Rattle.tables.proofs.Blocks.{BlockOf, block_of, cut_length, slice_length, right_block}
+use Rattle.tables.proofs.Copies.{table_kept, block_kept_lem, TableCopy, copy_none, copy_block}
+use Rattle.tables.proofs.copy_table.Given as goal
+
+abbrev pub invariant-loop-i : goal.invariant-loop-i
+invariant-loop-i l =
+    Passed (cell_right l.limit l.special (table_cell (geometry_of l.g) l.img l.initial.work l.list)) l.limit l.ok l.i × TableCopy (table_cell (geometry_of l.g) l.img l.initial.work l.list) l.initial.work l.work l.at l.limit l.i
+
+abbrev pub decreases-loop-i : goal.decreases-loop-i
+decreases-loop-i l = l.limit - l.i

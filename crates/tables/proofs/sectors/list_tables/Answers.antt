@@ -1,0 +1,28 @@
+use borrow.Author.Rules.{rules}
+use Prim.Native.Nat.{◌+◌}
+use borrow.Author.Tests.{not-true, not-false}
+use Rattle.kinds.specs.Sizes.{geometry_of}
+use Rattle.header.specs.Sized.{F}
+use Rattle.tables.specs.Stages.{Difats}
+use Rattle.tables.proofs.DifatLaws.{difats_kept}
+use Rattle.tables.proofs.StageLaws.{difat_args, left_listed, lists_fail, lists_difats, lists_left}
+use Rattle.tables.proofs.sectors.list_tables.Goals as goal
+
+pub list_difats-requires : goal.list_difats-requires
+list_difats-requires c = difat_args c.requires
+
+pub returns-then-not-list_difats : goal.returns-then-not-list_difats
+returns-then-not-list_difats c =
+    let a = c.requires in
+    lists_fail a (left_listed a c.list_difats.ensures) (c.if-not-list_difats.true)
+
+pub list_fats-requires : goal.list_fats-requires
+list_fats-requires c = record { difats = (let difats_at' : Difats (geometry_of c.args.g) c.args.img.now c.list_difats.new.work (c.args.list + F c.args.img.now) = let a = c.requires in lists_difats a (left_listed a c.list_difats.ensures) (c.if-not-list_difats.false) in difats_at'); f_value = c.requires.fats; }
+
+pub difat_rest-requires : goal.difat_rest-requires
+difat_rest-requires c = let a = c.requires in record { difats = rw a.fats (difats_kept ((let difats_at' : Difats (geometry_of c.args.g) c.args.img.now c.list_difats.new.work (c.args.list + F c.args.img.now) = let a = c.requires in lists_difats a (left_listed a c.list_difats.ensures) (c.if-not-list_difats.false) in difats_at')) c.list_fats.ensures.wrote); f_value = (a.fats, a.difats); }
+
+pub returns : goal.returns
+returns c =
+    let a = c.requires in
+    lists_left a (left_listed a c.list_difats.ensures) (c.if-not-list_difats.false) c.list_fats.ensures.wrote c.list_fats.ensures.holds c.difat_rest.ensures

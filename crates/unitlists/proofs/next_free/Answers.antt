@@ -1,0 +1,49 @@
+use borrow.Author.Rules.{rules}
+use Prim.Native.Nat.{◌-◌}
+use mathlib.Core.Path.{◌≡◌, sym, ◌∙◌}
+use native.Mathlib.Omega.{arith}
+use borrow.Author.Tests.{eq-eqb, eqb-true}
+use Rattle.format.specs.Layout.Chain.{FREE}
+use Rattle.theory.proofs.Tests.{clash}
+use Rattle.spaces.specs.Spaces.{space_at}
+use Rattle.spaces.specs.Units.{kind_of, number_in}
+use Rattle.spaces.proofs.Units.{unit_as, cell_as}
+use Rattle.spaces.proofs.Listed.{count_same}
+use Rattle.unitlists.proofs.Limits.{limit_end}
+use Rattle.unitlists.proofs.Searching.{Searching, searching_start, searching_step, searching_found, searching_none}
+use Rattle.unitlists.proofs.next_free.Goals as goal
+use Rattle.unitlists.proofs.next_free.Goals.{After-at-u, After-cell_of-cell}
+
+cell_is : (c : After-cell_of-cell) → let a = c.args in number_in c.cell_of-cell.result ≡ (space_at a.v a.img.now a.kind).cell c.loop-place.place
+cell_is c =
+    let a = c.args in
+    let u = (let unit_is' : (kind_of c.at-u.result ≡ c.args.kind) × (number_in c.at-u.result ≡ c.loop-place.place) = unit_as c.args.kind c.loop-place.place c.at-u.ensures in unit_is') in
+    (cell_as a.v a.img.now c.at-u.result _ _ u.0 u.1 c.cell_of-cell.ensures).1
+
+-- the unit at hand, and its cell
+unit_is : (c : After-at-u) → (kind_of c.at-u.result ≡ c.args.kind) × (number_in c.at-u.result ≡ c.loop-place.place)
+unit_is c = unit_as c.args.kind c.loop-place.place c.at-u.ensures
+
+pub loop-place-init : goal.loop-place-init
+loop-place-init c = searching_start c.requires.from_bound
+
+pub at-u-requires : goal.at-u-requires
+at-u-requires c = omega (arith, (let limit_is' : let a = c.args in c.unit_count-count.result ≡ (space_at a.v a.img.now a.kind).limit = c.unit_count-count.ensures ∙ count_same c.requires.readied c.args.kind in limit_is'), limit_end c.requires.readied c.args.kind)
+
+pub cell_of-cell-requires : goal.cell_of-cell-requires
+cell_of-cell-requires c = let u = unit_is (goal.at.cell_of-cell-requires c).After-at-u in record { readied = c.requires.readied; u_bound = rw (u.0, u.1) (omega (arith, (let limit_is' : let a = c.args in c.unit_count-count.result ≡ (space_at a.v a.img.now a.kind).limit = c.unit_count-count.ensures ∙ count_same c.requires.readied c.args.kind in limit_is'))); }
+
+pub overflow_add-looked : goal.overflow_add-looked
+overflow_add-looked c = omega (arith, c.loop-place.invariant.count)
+
+pub returns-then-is_free : goal.returns-then-is_free
+returns-then-is_free c = searching_found c.loop-place.invariant c.args.kind c.at-u.result c.at-u.ensures (omega (arith, (let limit_is' : let a = c.args in c.unit_count-count.result ≡ (space_at a.v a.img.now a.kind).limit = c.unit_count-count.ensures ∙ count_same c.requires.readied c.args.kind in limit_is'))) (sym (cell_is (goal.at.returns-then-is_free c).After-cell_of-cell) ∙ eqb-true _ FREE (sym c.is_free.ensures ∙ c.if-is_free.true))
+
+pub overflow_add-place : goal.overflow_add-place
+overflow_add-place c = omega (arith, (let limit_is' : let a = c.args in c.unit_count-count.result ≡ (space_at a.v a.img.now a.kind).limit = c.unit_count-count.ensures ∙ count_same c.requires.readied c.args.kind in limit_is'), limit_end c.requires.readied c.args.kind)
+
+pub loop-place-preserved : goal.loop-place-preserved
+loop-place-preserved c = searching_step c.loop-place.invariant (omega (arith, (let limit_is' : let a = c.args in c.unit_count-count.result ≡ (space_at a.v a.img.now a.kind).limit = c.unit_count-count.ensures ∙ count_same c.requires.readied c.args.kind in limit_is'))) (λ e. clash (c.is_free.ensures ∙ eq-eqb _ FREE (cell_is (goal.at.loop-place-preserved c).After-cell_of-cell ∙ e)) c.if-is_free.false)
+
+pub returns : goal.returns
+returns c = searching_none c.loop-place.invariant c.args.kind (omega (arith, (let limit_is' : let a = c.args in c.unit_count-count.result ≡ (space_at a.v a.img.now a.kind).limit = c.unit_count-count.ensures ∙ count_same c.requires.readied c.args.kind in limit_is')))
