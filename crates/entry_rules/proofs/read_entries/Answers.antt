@@ -15,6 +15,11 @@ use Rattle.entry_rules.proofs.Passing.{Passed, object_named, passed_start, passe
 use Rattle.entry_rules.proofs.read_entries.Goals as goal
 use Rattle.entry_rules.proofs.read_entries.Goals.{After-node_of, After-place-p, In-loop-d}
 
+-- its node
+node : (c : After-node_of) → let p = c.args in let e = entries_of p.d p.img.now in
+    EntryNode e.count (e.entry c.loop-d.x.0) c.node_of.result.a c.node_of.result.b
+node c = rw ((let standing' : let p = c.args in (entries_of p.d p.img.now).entry c.loop-d.x.0 ≡ entry_at p.img.now c.place-p.result = entry_is ((let listed' : let p = c.args in DirectoryListed p.d p.img.now c.loop-d.work = passed_listed c.requires.directory_listed c.requires.d_bound c.loop-d.invariant in listed')) _ ((let inside' : let p = c.args in c.loop-d.x.0 < (entries_of p.d p.img.now).count = omega (arith, c.loop-d-test.true, c.index.ensures, (let count' : let p = c.args in c.count-n.result ≡ (entries_of p.d p.img.now).count = c.count-n.ensures ∙ sym (count_is ((let listed' : let p = c.args in DirectoryListed p.d p.img.now c.loop-d.work = passed_listed c.requires.directory_listed c.requires.d_bound c.loop-d.invariant in listed'))) in count')) in inside')) ∙ ap (entry_at c.args.img.now) (sym c.place-p.ensures) in standing'), ← (let count' : let p = c.args in c.count-n.result ≡ (entries_of p.d p.img.now).count = c.count-n.ensures ∙ sym (count_is ((let listed' : let p = c.args in DirectoryListed p.d p.img.now c.loop-d.work = passed_listed c.requires.directory_listed c.requires.d_bound c.loop-d.invariant in listed'))) in count')) c.node_of.ensures
+
 -- the entry of a turn
 listed : (c : In-loop-d) → let p = c.args in DirectoryListed p.d p.img.now c.loop-d.work
 listed c = passed_listed c.requires.directory_listed c.requires.d_bound c.loop-d.invariant
@@ -22,18 +27,13 @@ listed c = passed_listed c.requires.directory_listed c.requires.d_bound c.loop-d
 count : (c : In-loop-d) → let p = c.args in c.count-n.result ≡ (entries_of p.d p.img.now).count
 count c = c.count-n.ensures ∙ sym (count_is (listed c))
 
--- its node
-node : (c : After-node_of) → let p = c.args in let e = entries_of p.d p.img.now in
-    EntryNode e.count (e.entry c.loop-d.x.0) c.node_of.result.a c.node_of.result.b
-node c = rw ((let standing' : let p = c.args in (entries_of p.d p.img.now).entry c.loop-d.x.0 ≡ entry_at p.img.now c.place-p.result = entry_is ((let listed' : let p = c.args in DirectoryListed p.d p.img.now c.loop-d.work = passed_listed c.requires.directory_listed c.requires.d_bound c.loop-d.invariant in listed')) _ ((let inside' : let p = c.args in c.loop-d.x.0 < (entries_of p.d p.img.now).count = omega (arith, c.loop-d-test.true, c.index.ensures, count c) in inside')) ∙ ap (entry_at c.args.img.now) (sym c.place-p.ensures) in standing'), ← (let count' : let p = c.args in c.count-n.result ≡ (entries_of p.d p.img.now).count = c.count-n.ensures ∙ sym (count_is (listed c)) in count')) c.node_of.ensures
-
 few : (c : In-loop-d) → let p = c.args in (entries_of p.d p.img.now).count < 0x8_0000
 few c = omega (arith, count_is (listed c), count_short (listed c))
 
 -- where it stands
 standing : (c : After-place-p) → let p = c.args in
     (entries_of p.d p.img.now).entry c.loop-d.x.0 ≡ entry_at p.img.now c.place-p.result
-standing c = entry_is ((let listed' : let p = c.args in DirectoryListed p.d p.img.now c.loop-d.work = passed_listed c.requires.directory_listed c.requires.d_bound c.loop-d.invariant in listed')) _ ((let inside' : let p = c.args in c.loop-d.x.0 < (entries_of p.d p.img.now).count = omega (arith, c.loop-d-test.true, c.index.ensures, count c) in inside')) ∙ ap (entry_at c.args.img.now) (sym c.place-p.ensures)
+standing c = entry_is ((let listed' : let p = c.args in DirectoryListed p.d p.img.now c.loop-d.work = passed_listed c.requires.directory_listed c.requires.d_bound c.loop-d.invariant in listed')) _ ((let inside' : let p = c.args in c.loop-d.x.0 < (entries_of p.d p.img.now).count = omega (arith, c.loop-d-test.true, c.index.ensures, (let count' : let p = c.args in c.count-n.result ≡ (entries_of p.d p.img.now).count = c.count-n.ensures ∙ sym (count_is ((let listed' : let p = c.args in DirectoryListed p.d p.img.now c.loop-d.work = passed_listed c.requires.directory_listed c.requires.d_bound c.loop-d.invariant in listed'))) in count')) in inside')) ∙ ap (entry_at c.args.img.now) (sym c.place-p.ensures)
 
 room : (c : In-loop-d) → let p = c.args in 2 * (entries_of p.d p.img.now).count + 2 ≤ length c.loop-d.work
 room c = omega (arith, count_is (listed c), (listed c).room, c.requires.d_bound)

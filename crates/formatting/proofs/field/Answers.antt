@@ -42,5 +42,5 @@ returns-in-7 c = field_7 c.args.l c.requires.stands c.args.i (omega arith) c.sta
 
 pub returns-in_default : goal.returns-in_default
 returns-in_default c =
-    let r = c.in_default.rest in
+    let r = c.in_default.in_default-own.rest in
     field_8 c.args.l c.requires.stands c.args.i (last_field c.args.i c.requires.i_bound r.0.0.0.0.0.0.0.1 r.0.0.0.0.0.0.1 r.0.0.0.0.0.1 r.0.0.0.0.1 r.0.0.0.1 r.0.0.1 r.0.1 r.1)

@@ -14,7 +14,7 @@ use Rattle.lookup.proofs.Slots.{Descent, descent_start, descent_none, descent_st
 use Rattle.lookup.proofs.find_slot.Given as goal
 
 abbrev pub invariant-loop-d : goal.invariant-loop-d
-invariant-loop-d l = Descent (entries_of l.d l.img) l.want l.initial.h.initial.0 l.h.initial.0 (link_field l.h.field) l.y.0
+invariant-loop-d l = Descent (entries_of l.d l.img) l.want l.initial.h.entry.0 l.h.entry.0 (link_field l.h.field) l.y.0
 
 abbrev pub decreases-loop-d : goal.decreases-loop-d
 decreases-loop-d l = length (siblings (at (entries_of l.d l.img) l.y.0))

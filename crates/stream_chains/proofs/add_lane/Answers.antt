@@ -35,7 +35,7 @@ returns-then-start c = no_lane c.requires.split_ready c.if-size-eq0.true c.if-st
 
 pub returns-then-size-eq0 : goal.returns-then-size-eq0
 unfolding cutoff mini_bytes
-returns-then-size-eq0 c = let a = c.args in empty_off a.starts.now a.sizes.now _ m c.if-size-eq0.true c.if-start.false
+returns-then-size-eq0 c = λ v m. let a = c.args in empty_off a.starts.now a.sizes.now _ m c.if-size-eq0.true c.if-start.false
 
 pub put-requires : goal.put-requires
 unfolding cutoff mini_bytes
@@ -61,7 +61,7 @@ pub returns-then-size-lt-CUTOFF : goal.returns-then-size-lt-CUTOFF
 unfolding cutoff mini_bytes
 returns-then-size-lt-CUTOFF c =
     rw (c.put-then-size-lt-CUTOFF.ensures, c.put.ensures)
-    (small_lane c.requires.split_ready c.requires.j_bound.0 c.if-size-lt-CUTOFF.true (omega (arith, (c.requires.j_bound, c.requires.split_ready), c.put-arg-1)) (omega (arith, (c.requires.j_bound, c.requires.split_ready), c.put-arg-then-size-lt-CUTOFF-1)) _ (omega (arith, few_minis (goal.at.returns-then-size-lt-CUTOFF c).After-units_for)) c.units_for.ensures)
+    (small_lane c.requires.split_ready c.requires.j_bound.0 c.if-size-lt-CUTOFF.true (omega (arith, c.requires.j_bound, c.put-arg-1)) (omega (arith, c.requires.j_bound, c.put-arg-then-size-lt-CUTOFF-1)) _ (omega (arith, few_minis (goal.at.returns-then-size-lt-CUTOFF c).After-units_for)) c.units_for.ensures)
 
 pub sectors_for-n-requires : goal.sectors_for-n-requires
 unfolding cutoff mini_bytes
@@ -69,7 +69,7 @@ sectors_for-n-requires c = search rules
 
 pub returns-then-sectors-n : goal.returns-then-sectors-n
 unfolding cutoff mini_bytes
-returns-then-sectors-n c = let a = c.args in too_long a.starts.now a.sizes.now _ m c.if-size-lt-CUTOFF.false c.requires.j_bound.2 (rw c.sectors_for-n.ensures at c.if-sectors-n.true)
+returns-then-sectors-n c = λ v m. let a = c.args in too_long a.starts.now a.sizes.now _ m c.if-size-lt-CUTOFF.false c.requires.j_bound.2 (rw c.sectors_for-n.ensures at c.if-sectors-n.true)
 
 pub put-requires-2 : goal.put-requires-2
 unfolding cutoff mini_bytes
@@ -91,4 +91,4 @@ pub returns : goal.returns
 unfolding cutoff mini_bytes
 returns c =
     rw (c.put-3.ensures, c.put-2.ensures)
-    (large_lane c.requires.split_ready c.requires.j_bound.0 c.if-size-lt-CUTOFF.false (omega (arith, (c.requires.j_bound, c.requires.split_ready), c.put-arg-2-1)) (omega (arith, (c.requires.j_bound, c.requires.split_ready), c.put-arg-3-1)) _ (omega (arith, c.if-sectors-n.false, c.requires.j_bound)) c.sectors_for-n.ensures)
+    (large_lane c.requires.split_ready c.requires.j_bound.0 c.if-size-lt-CUTOFF.false (omega (arith, c.requires.j_bound, c.put-arg-2-1)) (omega (arith, c.requires.j_bound, c.put-arg-3-1)) _ (omega (arith, c.if-sectors-n.false, c.requires.j_bound)) c.sectors_for-n.ensures)
