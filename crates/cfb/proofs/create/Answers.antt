@@ -41,7 +41,6 @@ unfolding lent work_of
 returns-in-Ready c =
     let a = c.args in
     let q = opening_ready a.image.now a.work.now _ _ c.open_image.ensures c.in-Ready.is in
-    let i = (c.create_opened-r.ensures.result_value, (c.create_opened-r.ensures.image_after, c.create_opened-r.ensures.open_volume)) in
     let p = create (new_kind_of a.kind) a.path.now [] in
     let s = plain_given_lem q p in
-    let e = c.close.ensures ∙ ap (λ n. work_cleared (work_need n) c.open_image.new.work) c.create_opened-r.auto.image in record { result_value = i.0 ∙ ap (λ x. x.reply) s; image_after = i.1.0 ∙ plain_image_lem q p; work_after = plain_work_lem q p (wrote_none _ _ _) e; }
+    let e = c.close.ensures ∙ ap (λ n. work_cleared (work_need n) c.open_image.new.work) c.create_opened-r.auto.image in record { result_value = c.create_opened-r.ensures.result_value ∙ ap (λ x. x.reply) s; image_after = c.create_opened-r.ensures.image_after ∙ plain_image_lem q p; work_after = plain_work_lem q p (wrote_none _ _ _) e; }

@@ -35,7 +35,6 @@ returns-in-Ready c =
     let p = c.args in
     let q = (let ready' : let p = c.args in OpeningRight p.image.now p.work.now c.open_image.new.work (Ready c.in-Ready.v) = let p = c.args in opening_ready p.image.now p.work.now _ _ c.open_image.ensures c.in-Ready.is in ready') in
     let w = c.open_image.new.work in
-    let i = (c.add_in-r.ensures.result_value, (c.add_in-r.ensures.image_after, (c.add_in-r.ensures.open_volume, c.add_in-r.ensures.wrote))) in
     let x = pulse_for p.valve p.ticks in
     let l = subst Late (add_long w p.work.now (opened_long q) p.image.now p.path.now x) (late_add q.1.0 p.path.now x) in
-    let e = c.close.ensures ∙ ap (λ n. work_cleared (work_need n) c.add_in-r.new.work) c.add_in-r.auto.image in record { result_value = i.0 ∙ reply_long w p.work.now (opened_long q) p.image.now p.path.now x; image_after = i.1.0 ∙ added_long w p.work.now (opened_long q) p.image.now p.path.now x; work_after = work_closed q (add_answer p.image.now p.path.now x p.work.now) l i.1.1.1 e; }
+    let e = c.close.ensures ∙ ap (λ n. work_cleared (work_need n) c.add_in-r.new.work) c.add_in-r.auto.image in record { result_value = c.add_in-r.ensures.result_value ∙ reply_long w p.work.now (opened_long q) p.image.now p.path.now x; image_after = c.add_in-r.ensures.image_after ∙ added_long w p.work.now (opened_long q) p.image.now p.path.now x; work_after = work_closed q (add_answer p.image.now p.path.now x p.work.now) l c.add_in-r.ensures.wrote e; }

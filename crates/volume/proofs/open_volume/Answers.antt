@@ -29,8 +29,8 @@ allowed : (c : Else-not-length_allowed) → length_allowed ((geometry_of c.versi
 allowed c = said_yes (ap not c.if-not-length_allowed.false) c.length_allowed.ensures
 
 -- what is said by its sizes is said of its version
-own : (c : After-version_of-g) → (w : List ℕ) → (w' : List ℕ) → (r : Opened) → let i = c.before.before.before.args.img.now in
-    OpenedRight (g c) i w w' r → OpenedRight (version_of i) i w w' r
+own : (c : After-version_of-g) → (w : List ℕ) → (w' : List ℕ) → (r : Opened) → let i = c.args.img.now in
+    OpenedRight ((geometry_of c.version_of-g.result)) i w w' r → OpenedRight (version_of i) i w w' r
 own c w w' r h = subst (λ (x : Geometry). OpenedRight x c.args.img.now w w' r) c.version_of-g.ensures h
 
 narrow : (c : After-version_of-g) → c.version_of-g.result.bytes ≤ 4096

@@ -32,13 +32,12 @@ list_free-l-requires c =
 
 pub returns : goal.returns
 returns c =
-    let f = rw c.kind-kind.ensures at (c.list_free-l.ensures.value, (c.list_free-l.ensures.work_after, c.list_free-l.ensures.wrote)) in
     let k = kind_of c.args.start in
     let few = old_short c.requires.readied k _ _ c.requires.value in
     let t = gathered_wrote c.requires.readied k _ few c.list_units.ensures.wrote in
     let m : c.args.need ≤ (space_at c.args.v c.args.img.now k).limit = omega (arith, c.if-unit_count-need.false, (let many' : let a = c.args in c.unit_count.result ≡ (space_at a.v a.img.now (kind_of a.start)).limit = c.unit_count.ensures ∙ ap (unit_count c.args.v) c.kind-kind.ensures ∙ count_same c.requires.readied (kind_of c.args.start) in many')) in
     let o : c.args.old ≤ c.args.need = omega (arith, c.if-n-old.false) in
     let g = chain_long c.requires.readied k _ _ c.requires.value in
-    let n = filled_count _ _ _ f.0 o in
-    let u = filled_list _ _ _ f.0 o _ _ (ap length c.list_units.ensures.work_after ∙ g) f.1.0 in
-    let e = growth_is _ _ _ (free_enough _ _ _ _ _ _ _ g c.list_units.ensures.work_after o n u) (free_looked _ _ _ m (filled_looked _ _ _ f.0)) in record { value_2 = e; work_after = own_still _ _ _ _ _ _ _ g c.list_units.ensures.work_after o n u; work_after_2 = all_listed _ _ _ _ _ _ _ g c.list_units.ensures.work_after o n u; wrote = wrote_two t (gathered_wrote c.requires.readied k _ m f.1.1); looked_bound = growth_most _ _ _ e; }
+    let n = filled_count _ _ _ (rw c.kind-kind.ensures at c.list_free-l.ensures.value) o in
+    let u = filled_list _ _ _ (rw c.kind-kind.ensures at c.list_free-l.ensures.value) o _ _ (ap length c.list_units.ensures.work_after ∙ g) (rw c.kind-kind.ensures at c.list_free-l.ensures.work_after) in
+    let e = growth_is _ _ _ (free_enough _ _ _ _ _ _ _ g c.list_units.ensures.work_after o n u) (free_looked _ _ _ m (filled_looked _ _ _ (rw c.kind-kind.ensures at c.list_free-l.ensures.value))) in record { value_2 = e; work_after = own_still _ _ _ _ _ _ _ g c.list_units.ensures.work_after o n u; work_after_2 = all_listed _ _ _ _ _ _ _ g c.list_units.ensures.work_after o n u; wrote = wrote_two t (gathered_wrote c.requires.readied k _ m (rw c.kind-kind.ensures at c.list_free-l.ensures.wrote)); looked_bound = growth_most _ _ _ e; }

@@ -17,5 +17,4 @@ list_directory-requires c = let t = c.requires in rw c.tables_of-t.ensures (reco
 pub returns : goal.returns
 returns c =
     let e = c.tables_of-t.ensures in
-    let l = rw e at (c.list_directory.ensures.answer, (c.list_directory.ensures.listed, c.list_directory.ensures.wrote)) in
-    let h : list_place c.args.img.now - c.args.n + c.args.n ≤ list_place c.args.img.now = omega (arith, room_before c.requires) in record { answer = l.0; directory = l.1.0; fat = (hold_kept c.requires l.1.1 h).listed; wrote = wrote_before c.requires l.1.1 h; }
+    let h : list_place c.args.img.now - c.args.n + c.args.n ≤ list_place c.args.img.now = omega (arith, room_before c.requires) in record { answer = (rw e at c.list_directory.ensures.answer); directory = (rw e at c.list_directory.ensures.listed); fat = (hold_kept c.requires c.list_directory.ensures.wrote h).listed; wrote = wrote_before c.requires c.list_directory.ensures.wrote h; }
