@@ -9,6 +9,7 @@ use Rattle.directory.specs.Listed.{count_of}
 use Rattle.directory.proofs.Places.{count_is, count_few, countable, placed, place_inside}
 use Rattle.repair_writes.proofs.Blackening.{Blackening, black_start, black_put, black_left, black_end}
 use Rattle.repair_writes.proofs.blacken_entries.Goals as goal
+use Rattle.repair_writes.proofs.blacken_entries.Goals.{then-has_colour, else-has_colour}
 use Rattle.repair_writes.proofs.blacken_entries.Goals.{After-place-p, In-loop-d}
 
 -- it lies in the image
@@ -47,10 +48,10 @@ loop-d-preserved c =
     let e = c.place-p.ensures in
     let k = sym c.has_colour.ensures in
     rw c.next-x.ensures
-    (⊎_elim
-    (λ w. black_put c.requires.directory_listed a (inside (goal.at.loop-d-preserved c).In-loop-d) c.requires.img_value (rw e at (k ∙ w.0.taken)) _ (rw e at (w.5 ∙ w.2.ensures)))
-    (λ w. rw w.1 (black_left c.requires.directory_listed a (inside (goal.at.loop-d-preserved c).In-loop-d) (rw e at (k ∙ w.0.left))))
-    c.if-has_colour.branch)
+    (elim c.if-has_colour.branch [
+      then-has_colour w ↦ black_put c.requires.directory_listed a (inside (goal.at.loop-d-preserved c).In-loop-d) c.requires.img_value (rw e at (k ∙ w.if-has_colour.true)) _ (rw e at (w.img-is ∙ w.put_black.ensures))
+      | else-has_colour w ↦ rw w.img-is (black_left c.requires.directory_listed a (inside (goal.at.loop-d-preserved c).In-loop-d) (rw e at (k ∙ w.if-has_colour.false)))
+    ])
 
 pub returns : goal.returns
 returns c = black_end c.requires.directory_listed c.loop-d.invariant (omega (arith, ltb-false c.loop-d.x.0 c.count-n.result (sym c.below.ensures ∙ c.loop-d-test.false), c.count-n.ensures))

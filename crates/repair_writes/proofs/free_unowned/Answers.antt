@@ -5,6 +5,7 @@ use native.Mathlib.Omega.{arith}
 use Rattle.kinds.specs.Sizes.{geometry_of}
 use Rattle.repair_writes.proofs.Releasing.{PickFreeing, pick_start, pick_freed, pick_left, pick_end}
 use Rattle.repair_writes.proofs.free_unowned.Goals as goal
+use Rattle.repair_writes.proofs.free_unowned.Goals.{then-may_free, else-may_free}
 
 pub loop-u-init : goal.loop-u-init
 loop-u-init c = pick_start (geometry_of c.args.g) c.args.work.now c.args.list c.args.at c.args.n c.args.img.now
@@ -24,10 +25,10 @@ loop-u-smaller c = omega arith
 pub loop-u-preserved : goal.loop-u-preserved
 loop-u-preserved c =
     let h = c.loop-u-test.true in
-    ⊎_elim
-    (λ w. pick_freed _ _ _ _ _ _ c.loop-u.invariant h c.may_free.ensures w.0.taken c.requires.cells_apart _ (w.5 ∙ w.2.ensures))
-    (λ w. rw w.1 (pick_left _ _ _ _ _ _ c.loop-u.invariant h c.may_free.ensures w.0.left))
-    c.if-may_free.branch
+    elim c.if-may_free.branch [
+      then-may_free w ↦ pick_freed _ _ _ _ _ _ c.loop-u.invariant h c.may_free.ensures w.if-may_free.true c.requires.cells_apart _ (w.img-is ∙ w.free_cell.ensures)
+      | else-may_free w ↦ rw w.img-is (pick_left _ _ _ _ _ _ c.loop-u.invariant h c.may_free.ensures w.if-may_free.false)
+    ]
 
 pub returns : goal.returns
 returns c = pick_end _ _ _ _ _ _ c.loop-u.invariant c.loop-u-test.false

@@ -21,4 +21,4 @@ returns-in-Sector c = rw c.in-Sector.is (ap (unit_of Sectors) c.cell_at.ensures)
 
 pub returns-in-Mini : goal.returns-in-Mini
 unfolding volume sector_space
-returns-in-Mini c = let e = c.u-in-Mini-1.given in rw e.1 (ap (unit_of Minis) (c.mini_cell.ensures ∙ ap (λ sp. sp.cell e.0.0.0) (minis_same c.requires.readied)))
+returns-in-Mini c = rw c.in-Mini.is (ap (unit_of Minis) (c.mini_cell.ensures ∙ ap (λ sp. sp.cell c.in-Mini.m.0) (minis_same c.requires.readied)))

@@ -17,4 +17,4 @@ list_directory-requires c = let t = c.requires in rw c.tables_of-t.ensures (reco
 pub returns : goal.returns
 returns c =
     let e = c.tables_of-t.ensures in
-    let h : list_place c.args.img.now - c.args.n + c.args.n ≤ list_place c.args.img.now = omega (arith, room_before c.requires) in record { answer = (rw e at c.list_directory.ensures.answer); directory = (rw e at c.list_directory.ensures.listed); fat = (hold_kept c.requires c.list_directory.ensures.wrote h).listed; wrote = wrote_before c.requires c.list_directory.ensures.wrote h; }
+    let h : list_place c.args.img.now - c.args.n + c.args.n ≤ list_place c.args.img.now = omega (arith, room_before c.requires) in record { answer = (rw e at c.list_directory.ensures.answer); directory = c.list_directory.ensures.listed; fat = (hold_kept c.requires (rw e at c.list_directory.ensures.wrote) h).listed; wrote = wrote_before c.requires (rw e at c.list_directory.ensures.wrote) h; }
