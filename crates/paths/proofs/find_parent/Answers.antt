@@ -18,22 +18,51 @@ use mathlib.Core.Bool.{not}
 use Rattle.paths.proofs.find_parent.Goals as goal
 
 pub returns-then-not-well_formed : goal.returns-then-not-well_formed
-returns-then-not-well_formed c = record { answer = parent_malformed _ _ (said_no (ap not c.if-not-well_formed.true) c.well_formed-2.ensures); inside = tt; }
+returns-then-not-well_formed c = record { answer = parent_malformed _ _ (said_no (ap not c.if-not-well_formed.true) c.well_formed-2.ensures); inside = tt }
 
 pub slice_bounds-find_entry-end : goal.slice_bounds-find_entry-end
 slice_bounds-find_entry-end c = sym (length-take-le _ _ (omega (arith, c.less_one.ensures, c.last_name_start-i.ensures.inside)))
 
 pub find_entry-requires : goal.find_entry-requires
-find_entry-requires c = record { directory_listed = c.requires.directory_listed; img_value = c.requires.img_value; img_value_2 = c.requires.img_value_2; }
+find_entry-requires c = record { directory_listed = c.requires.directory_listed; img_value = c.requires.img_value; img_value_2 = c.requires.img_value_2 }
 
 pub type_of-requires : goal.type_of-requires
-type_of-requires c = record { directory_listed = c.requires.directory_listed; x_bound = ((let says' : (let e = entries_of c.args.d c.args.img.now in (found_of e _ ≡ resolve e (take (c.last_name_start-i.result - 1) (c.args.path.now))) × Inside e _) = let e = entries_of c.args.d c.args.img.now in subst (Says c) c.in-At.is (subst (λ n. found_of e c.find_entry.result ≡ resolve e (take n (c.args.path.now))) c.less_one.ensures c.find_entry.ensures.answer, c.find_entry.ensures.inside) in says')).1; }
+type_of-requires c =
+    let e = entries_of c.args.d c.args.img.now in
+    record { directory_listed = c.requires.directory_listed; x_bound = subst (λ r. Inside e r) c.in-At.is c.find_entry.ensures.inside }
 
 pub returns-then-is_stream : goal.returns-then-is_stream
-returns-then-is_stream c = record { answer = parent_stream _ _ ((let formed' : well_formed (c.args.path.now) ≡ true = said_yes (ap not c.if-not-well_formed.false) c.well_formed-2.ensures in formed')) _ ((let parted' : Parted (c.args.path.now) (c.last_name_start-i.result) = after_parted _ _ c.last_name_start-i.ensures ((let formed' : well_formed (c.args.path.now) ≡ true = said_yes (ap not c.if-not-well_formed.false) c.well_formed-2.ensures in formed')) in parted')) _ ((let says' : (let e = entries_of c.args.d c.args.img.now in (found_of e _ ≡ resolve e (take (c.last_name_start-i.result - 1) (c.args.path.now))) × Inside e _) = let e = entries_of c.args.d c.args.img.now in subst (Says c) c.in-At.is (subst (λ n. found_of e c.find_entry.result ≡ resolve e (take n (c.args.path.now))) c.less_one.ensures c.find_entry.ensures.answer, c.find_entry.ensures.inside) in says')).0 (sym ((let streams' : let a = c.args in c.is_stream.result ≡ is_stream ((entries_of a.d a.img.now).entry c.in-At.x.0) = rw (← c.type_of.ensures) c.is_stream.ensures in streams')) ∙ c.if-is_stream.true); inside = tt; }
+returns-then-is_stream c =
+    let a = c.args in
+    let e = entries_of a.d a.img.now in
+    let q = take (c.last_name_start-i.result - 1) a.path.now in
+    let found : (found_of e c.find_entry.result ≡ resolve e q) = subst (λ n. found_of e c.find_entry.result ≡ resolve e (take n a.path.now)) c.less_one.ensures c.find_entry.ensures.answer in
+    let found' = subst (λ r. found_of e r ≡ resolve e q) c.in-At.is found in
+    let formed : (well_formed a.path.now ≡ true) = said_yes (ap not c.if-not-well_formed.false) c.well_formed-2.ensures in
+    let parted : Parted a.path.now c.last_name_start-i.result = after_parted _ _ c.last_name_start-i.ensures formed in
+    let streams : (c.is_stream.result ≡ is_stream (e.entry c.in-At.x.0)) = rw (← c.type_of.ensures) c.is_stream.ensures in
+    record { answer = parent_stream _ _ formed _ parted _ found' (sym streams ∙ c.if-is_stream.true); inside = tt }
 
 pub returns-in-Refused : goal.returns-in-Refused
-returns-in-Refused c = record { answer = parent_refused _ _ ((let formed' : well_formed (c.args.path.now) ≡ true = said_yes (ap not c.if-not-well_formed.false) c.well_formed-2.ensures in formed')) _ ((let parted' : Parted (c.args.path.now) (c.last_name_start-i.result) = after_parted _ _ c.last_name_start-i.ensures ((let formed' : well_formed (c.args.path.now) ≡ true = said_yes (ap not c.if-not-well_formed.false) c.well_formed-2.ensures in formed')) in parted')) _ ((let says' : (let e = entries_of c.args.d c.args.img.now in (found_of e _ ≡ resolve e (take (c.last_name_start-i.result - 1) (c.args.path.now))) × Inside e _) = let e = entries_of c.args.d c.args.img.now in subst (Says c) c.in-Refused.is (subst (λ n. found_of e c.find_entry.result ≡ resolve e (take n (c.args.path.now))) c.less_one.ensures c.find_entry.ensures.answer, c.find_entry.ensures.inside) in says')).0; inside = tt; }
+returns-in-Refused c =
+    let a = c.args in
+    let e = entries_of a.d a.img.now in
+    let q = take (c.last_name_start-i.result - 1) a.path.now in
+    let found : (found_of e c.find_entry.result ≡ resolve e q) = subst (λ n. found_of e c.find_entry.result ≡ resolve e (take n a.path.now)) c.less_one.ensures c.find_entry.ensures.answer in
+    let found' = subst (λ r. found_of e r ≡ resolve e q) c.in-Refused.is found in
+    let formed : (well_formed a.path.now ≡ true) = said_yes (ap not c.if-not-well_formed.false) c.well_formed-2.ensures in
+    let parted : Parted a.path.now c.last_name_start-i.result = after_parted _ _ c.last_name_start-i.ensures formed in
+    record { answer = parent_refused _ _ formed _ parted _ found'; inside = tt }
 
 pub returns-else-is_stream : goal.returns-else-is_stream
-returns-else-is_stream c = let s = (let says' : (let e = entries_of c.args.d c.args.img.now in (found_of e _ ≡ resolve e (take (c.last_name_start-i.result - 1) (c.args.path.now))) × Inside e _) = let e = entries_of c.args.d c.args.img.now in subst (Says c) c.in-At.is (subst (λ n. found_of e c.find_entry.result ≡ resolve e (take n (c.args.path.now))) c.less_one.ensures c.find_entry.ensures.answer, c.find_entry.ensures.inside) in says') in record { answer = parent_found _ _ ((let formed' : well_formed (c.args.path.now) ≡ true = said_yes (ap not c.if-not-well_formed.false) c.well_formed-2.ensures in formed')) _ ((let parted' : Parted (c.args.path.now) (c.last_name_start-i.result) = after_parted _ _ c.last_name_start-i.ensures ((let formed' : well_formed (c.args.path.now) ≡ true = said_yes (ap not c.if-not-well_formed.false) c.well_formed-2.ensures in formed')) in parted')) _ s.0 (sym ((let streams' : let a = c.args in c.is_stream.result ≡ is_stream ((entries_of a.d a.img.now).entry c.in-At.x.0) = rw (← c.type_of.ensures) c.is_stream.ensures in streams')) ∙ c.if-is_stream.false); inside = (s.1, ((let parted' : Parted (c.args.path.now) (c.last_name_start-i.result) = after_parted _ _ c.last_name_start-i.ensures ((let formed' : well_formed (c.args.path.now) ≡ true = said_yes (ap not c.if-not-well_formed.false) c.well_formed-2.ensures in formed')) in parted')).start); }
+returns-else-is_stream c =
+    let a = c.args in
+    let e = entries_of a.d a.img.now in
+    let q = take (c.last_name_start-i.result - 1) a.path.now in
+    let found : (found_of e c.find_entry.result ≡ resolve e q) = subst (λ n. found_of e c.find_entry.result ≡ resolve e (take n a.path.now)) c.less_one.ensures c.find_entry.ensures.answer in
+    let found' = subst (λ r. found_of e r ≡ resolve e q) c.in-At.is found in
+    let inside' = subst (λ r. Inside e r) c.in-At.is c.find_entry.ensures.inside in
+    let formed : (well_formed a.path.now ≡ true) = said_yes (ap not c.if-not-well_formed.false) c.well_formed-2.ensures in
+    let parted : Parted a.path.now c.last_name_start-i.result = after_parted _ _ c.last_name_start-i.ensures formed in
+    let streams : (c.is_stream.result ≡ is_stream (e.entry c.in-At.x.0)) = rw (← c.type_of.ensures) c.is_stream.ensures in
+    record { answer = parent_found _ _ formed _ parted _ found' (sym streams ∙ c.if-is_stream.false); inside = (inside', parted.start) }
