@@ -1,23 +1,21 @@
-use borrow.Author.Rules.{rules}
 use native.Mathlib.Omega.{arith}
 use Prim.Native.Nat.{◌+◌, ◌*◌, ◌<◌}
 use mathlib.Core.Path.{refl, sym, ◌∙◌}
 use mathlib.Core.Logic.{◌≢◌}
-use borrow.Author.Tests.{eqb-true, eqb-false, not-true, not-false}
+use borrow.Author.Tests.{eqb-true, eqb-false}
 use lib.ListN.{length, length-set}
 use Rattle.format.specs.Layout.Entry.{NOSTREAM}
-use Rattle.format.specs.Layout.Tree.{siblings}
-use Rattle.theory.specs.TreeViews.{at, Standing}
+use Rattle.theory.specs.TreeViews.{Standing}
 use Rattle.theory.proofs.Trees.Spines.{left_shorter}
 use Rattle.tables.proofs.WorkLaws.{wrote_none}
 use Rattle.directory.specs.Listed.{entries_of}
-use Rattle.listing.proofs.Stack.{Pushing, push_stands, push_inside, push_more, push_done}
+use Rattle.listing.proofs.Stack.{push_stands, push_inside, push_more, push_done}
 use Rattle.listing.proofs.push.Goals as goal
 use Rattle.listing.proofs.push.Goals.{In-loop-d}
 
 -- the entry of a turn
 real : (c : In-loop-d) → c.loop-d.y.0 ≢ NOSTREAM
-real c = eqb-false _ _ (sym c.is_none.ensures ∙ not-true _ c.loop-d-test.true)
+real c = eqb-false _ _ (sym c.is_none.ensures ∙ c.loop-d-test.true)
 
 stands : (c : In-loop-d) → let p = c.args in
     Standing (entries_of p.d p.img.now) c.loop-d.y.0
@@ -55,7 +53,7 @@ pub overflow_add-k : goal.overflow_add-k
 overflow_add-k c = omega (arith, room (goal.at.overflow_add-k c).In-loop-d)
 
 pub left_of-y-requires : goal.left_of-y-requires
-left_of-y-requires c = record { directory_listed = (push_more c.loop-d.invariant (real (goal.at.left_of-y-requires c).In-loop-d)).listed; x_bound = (stands (goal.at.left_of-y-requires c).In-loop-d).inside; }
+left_of-y-requires c = record { directory_listed = (push_more c.loop-d.invariant (real (goal.at.left_of-y-requires c).In-loop-d)).listed; x_bound = (stands (goal.at.left_of-y-requires c).In-loop-d).inside }
 
 pub loop-d-smaller : goal.loop-d-smaller
 loop-d-smaller c = rw c.left_of-y.ensures (left_shorter _ _ (stands (goal.at.loop-d-smaller c).In-loop-d))
@@ -64,4 +62,4 @@ pub loop-d-preserved : goal.loop-d-preserved
 loop-d-preserved c = rw c.left_of-y.ensures (push_more c.loop-d.invariant (real (goal.at.loop-d-preserved c).In-loop-d))
 
 pub returns : goal.returns
-returns c = let s = c.loop-d.invariant in record { stack = push_done s (eqb-true _ _ (sym c.is_none.ensures ∙ not-false _ c.loop-d-test.false)); wrote = s.wrote; }
+returns c = let s = c.loop-d.invariant in record { stack = push_done s (eqb-true _ _ (sym c.is_none.ensures ∙ c.loop-d-test.false)); wrote = s.wrote }

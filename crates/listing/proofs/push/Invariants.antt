@@ -1,17 +1,8 @@
-use borrow.Author.Rules.{rules}
-use native.Mathlib.Omega.{arith}
-use Prim.Native.Nat.{◌+◌, ◌*◌, ◌<◌}
-use mathlib.Core.Path.{refl, sym, ◌∙◌}
-use mathlib.Core.Logic.{◌≢◌}
-use borrow.Author.Tests.{eqb-true, eqb-false, not-true, not-false}
-use lib.ListN.{length, length-set}
-use Rattle.format.specs.Layout.Entry.{NOSTREAM}
+use lib.ListN.{length}
 use Rattle.format.specs.Layout.Tree.{siblings}
-use Rattle.theory.specs.TreeViews.{at, Standing}
-use Rattle.theory.proofs.Trees.Spines.{left_shorter}
-use Rattle.tables.proofs.WorkLaws.{wrote_none}
+use Rattle.theory.specs.TreeViews.{at}
 use Rattle.directory.specs.Listed.{entries_of}
-use Rattle.listing.proofs.Stack.{Pushing, push_stands, push_inside, push_more, push_done}
+use Rattle.listing.proofs.Stack.{Pushing}
 use Rattle.listing.proofs.push.Given as goal
 
 abbrev pub invariant-loop-d : goal.invariant-loop-d
