@@ -17,6 +17,4 @@ pub returns-in-Done : goal.returns-in-Done
 returns-in-Done c = let r = listed _ c.args.input.now c.args.out.now c.args.work.now (omega arith) c.requires.work_len c.requires.out_len c.in-Done.n (rw c.in-Done.is at c.list.ensures.result_value) c.list.ensures.out_after in record { upper_bound = r.0; out_after = r.1; }
 
 pub returns-in-Refused : goal.returns-in-Refused
-returns-in-Refused c =
-    let a = c.a-1.given in
-    let q = refused _ c.args.input.now c.args.out.now c.args.work.now (omega arith) c.requires.work_len c.requires.out_len a.0.0 (rw a.1 at c.list.ensures.result_value) in let r = written _ _ c.put_refused-in-Refused.ensures.count c.put_refused-in-Refused.ensures.written q in record { upper_bound = r.0; out_after = r.1; }
+returns-in-Refused c = let q = refused _ c.args.input.now c.args.out.now c.args.work.now (omega arith) c.requires.work_len c.requires.out_len c.in-Refused.a (rw c.in-Refused.is at c.list.ensures.result_value) in let r = written _ _ c.put_refused-in-Refused.ensures.count c.put_refused-in-Refused.ensures.written q in record { upper_bound = r.0; out_after = r.1; }

@@ -23,12 +23,11 @@ pub returns-in-Refused : goal.returns-in-Refused
 returns-in-Refused c =
     let p = c.args in
     let r = c.open_image.new.work in
-    let a = c.a-1.given in
-    let o = opening_refused p.image.now p.work.now r _ c.open_image.ensures a.1 in
-    let n = summary_number p.image.now p.work.now r a.0.0 o p.path.now in
+    let o = opening_refused p.image.now p.work.now r _ c.open_image.ensures c.in-Refused.is in
+    let n = summary_number p.image.now p.work.now r c.in-Refused.a o p.path.now in
     let x = pulse_for p.valve p.ticks in
-    let m = addition_number p.image.now p.path.now p.work.now (refusal_number a.0.0) (refusal_some a.0.0) n x in
-    let k = addition_refused p.image.now p.path.now p.work.now (File a.0.0) n x in record { result_value = k.0; image_after = k.1; work_after = work_refused p.image.now p.work.now r a.0.0 o _ m; }
+    let m = addition_number p.image.now p.path.now p.work.now (refusal_number c.in-Refused.a) (refusal_some c.in-Refused.a) n x in
+    let k = addition_refused p.image.now p.path.now p.work.now (File c.in-Refused.a) n x in record { result_value = k.0; image_after = k.1; work_after = work_refused p.image.now p.work.now r c.in-Refused.a o _ m; }
 
 pub returns-in-Ready : goal.returns-in-Ready
 returns-in-Ready c =

@@ -20,10 +20,9 @@ pub returns-in-Refused : goal.returns-in-Refused
 returns-in-Refused c =
     let p = c.args in
     let r = c.open_image.new.work in
-    let a = c.a-1.given in
-    let o = opening_refused p.image.now p.work.now r _ c.open_image.ensures a.1 in
-    let n = summary_number p.image.now p.work.now r a.0.0 o p.path.now in
-    let m = record_number p.image.now p.path.now p.work.now (refusal_number a.0.0) (refusal_some a.0.0) n p.number.0 in record { result_value = record_refused p.image.now p.path.now p.work.now (File a.0.0) n p.number.0; work_after = work_refused p.image.now p.work.now r a.0.0 o _ m; }
+    let o = opening_refused p.image.now p.work.now r _ c.open_image.ensures c.in-Refused.is in
+    let n = summary_number p.image.now p.work.now r c.in-Refused.a o p.path.now in
+    let m = record_number p.image.now p.path.now p.work.now (refusal_number c.in-Refused.a) (refusal_some c.in-Refused.a) n p.number.0 in record { result_value = record_refused p.image.now p.path.now p.work.now (File c.in-Refused.a) n p.number.0; work_after = work_refused p.image.now p.work.now r c.in-Refused.a o _ m; }
 
 pub returns-in-Ready : goal.returns-in-Ready
 returns-in-Ready c =

@@ -18,9 +18,8 @@ pub returns-in-Refused : goal.returns-in-Refused
 returns-in-Refused c =
     let p = c.args in
     let r = c.open_image.new.work in
-    let a = c.a-1.given in
-    let o = opening_refused p.image.now p.work.now r _ c.open_image.ensures a.1 in
-    let n = summary_number p.image.now p.work.now r a.0.0 o p.path.now in record { result_value = summary_refused p.image.now p.path.now p.work.now (File a.0.0) n; work_after = work_refused p.image.now p.work.now r a.0.0 o _ n; }
+    let o = opening_refused p.image.now p.work.now r _ c.open_image.ensures c.in-Refused.is in
+    let n = summary_number p.image.now p.work.now r c.in-Refused.a o p.path.now in record { result_value = summary_refused p.image.now p.path.now p.work.now (File c.in-Refused.a) n; work_after = work_refused p.image.now p.work.now r c.in-Refused.a o _ n; }
 
 pub returns-in-Ready : goal.returns-in-Ready
 returns-in-Ready c =

@@ -16,8 +16,7 @@ pub overflow_add-next : goal.overflow_add-next
 unfolding cursor_call
 overflow_add-next c =
     let p = c.args in
-    let bytes = c.shared_slice_known-1.given in
-    omega (arith, move_fits p.image.now p.c.entry.0 p.c.position p.out.now p.work.now (λ i. omega (arith, bytes i)) (omega arith) c.read_at-r.ensures.result_value c.count.ensures)
+    omega (arith, move_fits p.image.now p.c.entry.0 p.c.position p.out.now p.work.now (λ i. omega (arith, c.shared_slice_known-1.given i)) (omega arith) c.read_at-r.ensures.result_value c.count.ensures)
 
 pub returns : goal.returns
 unfolding cursor_call

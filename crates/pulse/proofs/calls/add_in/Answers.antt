@@ -23,9 +23,8 @@ append-requires c = record { pulses_at = (let found' : let p = c.args in PulsesA
 pub returns-in-Refused : goal.returns-in-Refused
 returns-in-Refused c =
     let p = c.args in
-    let a = c.a-1.given in
-    let f = subst (λ x. PulsesFound p.v p.image.now p.path.now p.work.now c.find_pulses.new.work x) a.1 c.find_pulses.ensures.pulses_found in
-    let k = addition_refused p.image.now p.path.now p.work.now a.0.0 f (pulse_of p.p) in record { result_value = k.0; image_after = k.1; open_volume = c.find_pulses.ensures.open_volume; wrote = c.find_pulses.ensures.wrote; }
+    let f = subst (λ x. PulsesFound p.v p.image.now p.path.now p.work.now c.find_pulses.new.work x) c.in-Refused.is c.find_pulses.ensures.pulses_found in
+    let k = addition_refused p.image.now p.path.now p.work.now c.in-Refused.a f (pulse_of p.p) in record { result_value = k.0; image_after = k.1; open_volume = c.find_pulses.ensures.open_volume; wrote = c.find_pulses.ensures.wrote; }
 
 pub returns-else-not-some : goal.returns-else-not-some
 returns-else-not-some c =

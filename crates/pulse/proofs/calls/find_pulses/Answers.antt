@@ -16,6 +16,4 @@ pub returns-in-Other : goal.returns-in-Other
 returns-in-Other c = let f = (let found' : StreamFound c.args.image.now c.args.path.now c.args.work.now (At c.in-At.e) = subst (λ r. StreamFound c.args.image.now c.args.path.now c.args.work.now r) c.in-At.is c.find_stream.ensures in found') in record { pulses_found = found_other c.args.image.now c.args.path.now c.args.work.now c.in-At.e f (sym c.in-Other.is ∙ c.parse.ensures); open_volume = c.open_stream.ensures.open_stream.opened; wrote = c.open_stream.ensures.wrote; }
 
 pub returns-in-Pulses : goal.returns-in-Pulses
-returns-in-Pulses c =
-    let f = (let found' : StreamFound c.args.image.now c.args.path.now c.args.work.now (At c.in-At.e) = subst (λ r. StreamFound c.args.image.now c.args.path.now c.args.work.now r) c.in-At.is c.find_stream.ensures in found') in
-    let t = c.t-1.given in record { pulses_found = found_pulses c.args.image.now c.args.path.now c.args.work.now c.in-At.e f t.0.0 c.open_stream.ensures.wrote.long c.open_stream.ensures.open_stream (sym t.1 ∙ c.parse.ensures); open_volume = c.open_stream.ensures.open_stream.opened; wrote = c.open_stream.ensures.wrote; }
+returns-in-Pulses c = let f = (let found' : StreamFound c.args.image.now c.args.path.now c.args.work.now (At c.in-At.e) = subst (λ r. StreamFound c.args.image.now c.args.path.now c.args.work.now r) c.in-At.is c.find_stream.ensures in found') in record { pulses_found = found_pulses c.args.image.now c.args.path.now c.args.work.now c.in-At.e f c.in-Pulses.t c.open_stream.ensures.wrote.long c.open_stream.ensures.open_stream (sym c.in-Pulses.is ∙ c.parse.ensures); open_volume = c.open_stream.ensures.open_stream.opened; wrote = c.open_stream.ensures.wrote; }

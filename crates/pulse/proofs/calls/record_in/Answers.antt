@@ -38,8 +38,7 @@ read_pulse-requires c = record { open_stream = ((let found' : let p = c.args in 
 pub returns-in-Refused : goal.returns-in-Refused
 returns-in-Refused c =
     let p = c.args in
-    let a = c.a-1.given in
-    let f = subst (λ x. PulsesFound p.v p.image.now p.path.now p.work.now c.find_pulses.new.work x) a.1 c.find_pulses.ensures.pulses_found in record { result_value = record_refused p.image.now p.path.now p.work.now a.0.0 f p.number.0; open_volume = c.find_pulses.ensures.open_volume; wrote = c.find_pulses.ensures.wrote; }
+    let f = subst (λ x. PulsesFound p.v p.image.now p.path.now p.work.now c.find_pulses.new.work x) c.in-Refused.is c.find_pulses.ensures.pulses_found in record { result_value = record_refused p.image.now p.path.now p.work.now c.in-Refused.a f p.number.0; open_volume = c.find_pulses.ensures.open_volume; wrote = c.find_pulses.ensures.wrote; }
 
 pub returns-else-not-below : goal.returns-else-not-below
 returns-else-not-below c =

@@ -54,9 +54,8 @@ loop-v-smaller c = let n = some (goal.at.loop-v-smaller c).After-from-n in omega
 
 pub loop-v-preserved : goal.loop-v-preserved
 loop-v-preserved c =
-    let t = c.sum-1.given in
     let n = c.from-n.result.0 in
-    (rw c.plus-k.ensures (summing_piece c.loop-v.invariant.0 n t.0.0 (some (goal.at.loop-v-preserved c).After-from-n).2 (sym t.1 ∙ (let summed' : c.add_piece-sum.result ≡ sum_from ((contents (own_volume c.args.image.now) c.args.image.now c.args.e.id.0)) (c.args.first + 8 * c.loop-v.k.0) c.from-n.result.0 c.loop-v.total.0 = c.add_piece-sum.ensures ∙ ap (λ i. sum_from ((contents (own_volume c.args.image.now) c.args.image.now c.args.e.id.0)) (c.args.first + i) c.from-n.result.0 c.loop-v.total.0) c.bytes.ensures in summed'))), (let same' : length c.add_piece-sum.new.piece ≡ length c.args.piece.now = c.add_piece-sum.auto.piece ∙ c.loop-v.invariant.1 in same'))
+    (rw c.plus-k.ensures (summing_piece c.loop-v.invariant.0 n c.in-Ticks.t (some (goal.at.loop-v-preserved c).After-from-n).2 (sym c.in-Ticks.is ∙ (let summed' : c.add_piece-sum.result ≡ sum_from ((contents (own_volume c.args.image.now) c.args.image.now c.args.e.id.0)) (c.args.first + 8 * c.loop-v.k.0) c.from-n.result.0 c.loop-v.total.0 = c.add_piece-sum.ensures ∙ ap (λ i. sum_from ((contents (own_volume c.args.image.now) c.args.image.now c.args.e.id.0)) (c.args.first + i) c.from-n.result.0 c.loop-v.total.0) c.bytes.ensures in summed'))), (let same' : length c.add_piece-sum.new.piece ≡ length c.args.piece.now = c.add_piece-sum.auto.piece ∙ c.loop-v.invariant.1 in same'))
 
 pub returns : goal.returns
 returns c = summing_end c.loop-v.invariant.0 (ltb-false _ _ (sym c.below.ensures ∙ c.loop-v-test.false))

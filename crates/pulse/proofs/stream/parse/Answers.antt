@@ -44,10 +44,10 @@ returns-in_default c = wrong_other _ (room (goal.at.returns-in_default c).Else-e
 
 pub returns-then-not-equals : goal.returns-then-not-equals
 unfolding trailer_for
-returns-then-not-equals c = ap (λ b. cond b (Pulses (trailer_for ((contents (own_volume c.args.image.now) c.args.image.now c.args.e.id.0)))) Other) (sym (not-true c.equals.result (ap not c.if-not-equals.true))) ∙ (let parsed' : let s = (contents (own_volume c.args.image.now) c.args.image.now c.args.e.id.0) in cond c.equals.result (Pulses (trailer_for s)) Other ≡ parsed_as s = let s = (contents (own_volume c.args.image.now) c.args.image.now c.args.e.id.0) in let t = c.sum-1.given in ap (λ b. cond b (Pulses (trailer_for s)) Other) (c.equals.ensures ∙ ap (λ z. eqb z.total.0 t.0.0.0) c.read_trailer-t.ensures) ∙ summed_parsed s (room (goal.at.returns-then-not-equals c).Else-e-lt16) ((let right' : agrees ((contents (own_volume c.args.image.now) c.args.image.now c.args.e.id.0)) ≡ true = sym ((let agreed' : c.agrees.result ≡ agrees ((contents (own_volume c.args.image.now) c.args.image.now c.args.e.id.0)) = c.agrees.ensures ∙ ap₂ (λ t n. eqb t.distance (distance_for t.count.0) && leb t.distance n) c.read_trailer-t.ensures (sym ((let long' : length ((contents (own_volume c.args.image.now) c.args.image.now c.args.e.id.0)) ≡ c.args.e.size = stream_long c.requires.opened c.requires.stream in long'))) in agreed')) ∙ c.if-not-agrees.false in right')) t.0.0 (sym t.1 ∙ (let summed' : let s = (contents (own_volume c.args.image.now) c.args.image.now c.args.e.id.0) in c.add_all-sum.result ≡ sum_from s (first_record s) (count s) 0 = c.add_all-sum.ensures ∙ ap₂ (λ t n. sum_from ((contents (own_volume c.args.image.now) c.args.image.now c.args.e.id.0)) (n - t.distance) t.count.0 0) c.read_trailer-t.ensures (sym ((let long' : length ((contents (own_volume c.args.image.now) c.args.image.now c.args.e.id.0)) ≡ c.args.e.size = stream_long c.requires.opened c.requires.stream in long'))) in summed')) in parsed')
+returns-then-not-equals c = ap (λ b. cond b (Pulses (trailer_for ((contents (own_volume c.args.image.now) c.args.image.now c.args.e.id.0)))) Other) (sym (not-true c.equals.result (ap not c.if-not-equals.true))) ∙ (let parsed' : let s = (contents (own_volume c.args.image.now) c.args.image.now c.args.e.id.0) in cond c.equals.result (Pulses (trailer_for s)) Other ≡ parsed_as s = let s = (contents (own_volume c.args.image.now) c.args.image.now c.args.e.id.0) in ap (λ b. cond b (Pulses (trailer_for s)) Other) (c.equals.ensures ∙ ap (λ z. eqb z.total.0 c.in-Ticks.total.0) c.read_trailer-t.ensures) ∙ summed_parsed s (room (goal.at.returns-then-not-equals c).Else-e-lt16) ((let right' : agrees ((contents (own_volume c.args.image.now) c.args.image.now c.args.e.id.0)) ≡ true = sym ((let agreed' : c.agrees.result ≡ agrees ((contents (own_volume c.args.image.now) c.args.image.now c.args.e.id.0)) = c.agrees.ensures ∙ ap₂ (λ t n. eqb t.distance (distance_for t.count.0) && leb t.distance n) c.read_trailer-t.ensures (sym ((let long' : length ((contents (own_volume c.args.image.now) c.args.image.now c.args.e.id.0)) ≡ c.args.e.size = stream_long c.requires.opened c.requires.stream in long'))) in agreed')) ∙ c.if-not-agrees.false in right')) c.in-Ticks.total (sym c.in-Ticks.is ∙ (let summed' : let s = (contents (own_volume c.args.image.now) c.args.image.now c.args.e.id.0) in c.add_all-sum.result ≡ sum_from s (first_record s) (count s) 0 = c.add_all-sum.ensures ∙ ap₂ (λ t n. sum_from ((contents (own_volume c.args.image.now) c.args.image.now c.args.e.id.0)) (n - t.distance) t.count.0 0) c.read_trailer-t.ensures (sym ((let long' : length ((contents (own_volume c.args.image.now) c.args.image.now c.args.e.id.0)) ≡ c.args.e.size = stream_long c.requires.opened c.requires.stream in long'))) in summed')) in parsed')
 
 pub returns : goal.returns
 unfolding trailer_for
 returns c =
     let s = (contents (own_volume c.args.image.now) c.args.image.now c.args.e.id.0) in
-    ap Pulses c.read_trailer-t.ensures ∙ ap (λ b. cond b (Pulses (trailer_for s)) Other) (sym (not-false c.equals.result (ap not c.if-not-equals.false))) ∙ (let parsed' : let s = (contents (own_volume c.args.image.now) c.args.image.now c.args.e.id.0) in cond c.equals.result (Pulses (trailer_for s)) Other ≡ parsed_as s = let s = (contents (own_volume c.args.image.now) c.args.image.now c.args.e.id.0) in let t = c.sum-1.given in ap (λ b. cond b (Pulses (trailer_for s)) Other) (c.equals.ensures ∙ ap (λ z. eqb z.total.0 t.0.0.0) c.read_trailer-t.ensures) ∙ summed_parsed s (room (goal.at.returns c).Else-e-lt16) ((let right' : agrees ((contents (own_volume c.args.image.now) c.args.image.now c.args.e.id.0)) ≡ true = sym ((let agreed' : c.agrees.result ≡ agrees ((contents (own_volume c.args.image.now) c.args.image.now c.args.e.id.0)) = c.agrees.ensures ∙ ap₂ (λ t n. eqb t.distance (distance_for t.count.0) && leb t.distance n) c.read_trailer-t.ensures (sym ((let long' : length ((contents (own_volume c.args.image.now) c.args.image.now c.args.e.id.0)) ≡ c.args.e.size = stream_long c.requires.opened c.requires.stream in long'))) in agreed')) ∙ c.if-not-agrees.false in right')) t.0.0 (sym t.1 ∙ (let summed' : let s = (contents (own_volume c.args.image.now) c.args.image.now c.args.e.id.0) in c.add_all-sum.result ≡ sum_from s (first_record s) (count s) 0 = c.add_all-sum.ensures ∙ ap₂ (λ t n. sum_from ((contents (own_volume c.args.image.now) c.args.image.now c.args.e.id.0)) (n - t.distance) t.count.0 0) c.read_trailer-t.ensures (sym ((let long' : length ((contents (own_volume c.args.image.now) c.args.image.now c.args.e.id.0)) ≡ c.args.e.size = stream_long c.requires.opened c.requires.stream in long'))) in summed')) in parsed')
+    ap Pulses c.read_trailer-t.ensures ∙ ap (λ b. cond b (Pulses (trailer_for s)) Other) (sym (not-false c.equals.result (ap not c.if-not-equals.false))) ∙ (let parsed' : let s = (contents (own_volume c.args.image.now) c.args.image.now c.args.e.id.0) in cond c.equals.result (Pulses (trailer_for s)) Other ≡ parsed_as s = let s = (contents (own_volume c.args.image.now) c.args.image.now c.args.e.id.0) in ap (λ b. cond b (Pulses (trailer_for s)) Other) (c.equals.ensures ∙ ap (λ z. eqb z.total.0 c.in-Ticks.total.0) c.read_trailer-t.ensures) ∙ summed_parsed s (room (goal.at.returns c).Else-e-lt16) ((let right' : agrees ((contents (own_volume c.args.image.now) c.args.image.now c.args.e.id.0)) ≡ true = sym ((let agreed' : c.agrees.result ≡ agrees ((contents (own_volume c.args.image.now) c.args.image.now c.args.e.id.0)) = c.agrees.ensures ∙ ap₂ (λ t n. eqb t.distance (distance_for t.count.0) && leb t.distance n) c.read_trailer-t.ensures (sym ((let long' : length ((contents (own_volume c.args.image.now) c.args.image.now c.args.e.id.0)) ≡ c.args.e.size = stream_long c.requires.opened c.requires.stream in long'))) in agreed')) ∙ c.if-not-agrees.false in right')) c.in-Ticks.total (sym c.in-Ticks.is ∙ (let summed' : let s = (contents (own_volume c.args.image.now) c.args.image.now c.args.e.id.0) in c.add_all-sum.result ≡ sum_from s (first_record s) (count s) 0 = c.add_all-sum.ensures ∙ ap₂ (λ t n. sum_from ((contents (own_volume c.args.image.now) c.args.image.now c.args.e.id.0)) (n - t.distance) t.count.0 0) c.read_trailer-t.ensures (sym ((let long' : length ((contents (own_volume c.args.image.now) c.args.image.now c.args.e.id.0)) ≡ c.args.e.size = stream_long c.requires.opened c.requires.stream in long'))) in summed')) in parsed')

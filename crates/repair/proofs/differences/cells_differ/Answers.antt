@@ -8,6 +8,7 @@ use Rattle.repair_writes.specs.Cells.{table_in, CellRoom}
 use Rattle.repair.proofs.Counting.{Counting, count_start, count_few, count_yes, count_no, count_end}
 use Rattle.repair.proofs.Differing.{cell_yes, cell_no}
 use Rattle.repair.proofs.differences.cells_differ.Goals as goal
+use Rattle.repair.proofs.differences.cells_differ.Goals.{then-u32_at, else-u32_at}
 use Rattle.repair.proofs.differences.cells_differ.Goals.{After-listed_place-p, In-loop-u}
 
 inside : (c : After-listed_place-p) → c.listed_place-p.result + 4 ≤ length c.args.after.now
@@ -47,10 +48,10 @@ loop-u-preserved c =
     let p = c.listed_place-p.ensures in
     let x = c.u32_at.ensures in
     let y = c.u32_at-in-loop-u.ensures in
-    ⊎_elim
-    (λ w. rw w.1 (count_yes c.loop-u.invariant h (cell_yes _ _ _ _ p x y w.0.taken)))
-    (λ w. rw w.1 (count_no c.loop-u.invariant h (cell_no _ _ _ _ p x y w.0.left)))
-    c.if-u32_at.branch
+    elim c.if-u32_at.branch [
+      then-u32_at w ↦ rw w.count-is (count_yes c.loop-u.invariant h (cell_yes _ _ _ _ p x y w.if-u32_at.true))
+      | else-u32_at w ↦ rw w.count-is (count_no c.loop-u.invariant h (cell_no _ _ _ _ p x y w.if-u32_at.false))
+    ]
 
 pub returns : goal.returns
 returns c = count_end c.loop-u.invariant c.loop-u-test.false

@@ -12,6 +12,7 @@ use Rattle.directory.proofs.Places.{count_is, count_few, countable, placed, plac
 use Rattle.repair.proofs.Counting.{Counting, count_start, count_few as counted-few, count_yes, count_no, count_end}
 use Rattle.repair.proofs.Differing.{colour_yes, colour_no}
 use Rattle.repair.proofs.differences.colours_differ.Goals as goal
+use Rattle.repair.proofs.differences.colours_differ.Goals.{then-colour, else-colour}
 use Rattle.repair.proofs.differences.colours_differ.Goals.{After-place-p, In-loop-d}
 
 -- the entry of a turn
@@ -62,10 +63,10 @@ loop-d-preserved c =
     let x = c.colour.ensures in
     let y = c.colour-in-loop-d.ensures in
     rw c.next-x.ensures
-    (⊎_elim
-    (λ w. rw w.1 (count_yes c.loop-d.invariant (turn (goal.at.loop-d-preserved c).In-loop-d) (colour_yes l _ _ (turn (goal.at.loop-d-preserved c).In-loop-d) p x y w.0.taken)))
-    (λ w. rw w.1 (count_no c.loop-d.invariant (turn (goal.at.loop-d-preserved c).In-loop-d) (colour_no l _ _ (turn (goal.at.loop-d-preserved c).In-loop-d) p x y w.0.left)))
-    c.if-colour.branch)
+    (elim c.if-colour.branch [
+      then-colour w ↦ rw w.count-is (count_yes c.loop-d.invariant (turn (goal.at.loop-d-preserved c).In-loop-d) (colour_yes l _ _ (turn (goal.at.loop-d-preserved c).In-loop-d) p x y w.if-colour.true))
+      | else-colour w ↦ rw w.count-is (count_no c.loop-d.invariant (turn (goal.at.loop-d-preserved c).In-loop-d) (colour_no l _ _ (turn (goal.at.loop-d-preserved c).In-loop-d) p x y w.if-colour.false))
+    ])
 
 pub returns : goal.returns
 returns c =
