@@ -15,19 +15,23 @@ use Rattle.reading.proofs.read_units.Goals.{After-unit_after-u, After-unit_place
 
 -- where it starts
 starts : (c : After-unit_place) → c.unit_place.result ≡ ((space_at c.args.v c.args.img.now (kind_of c.args.start))).unit_place (number_in c.loop-i.u)
+unfolding units_for
 starts c =
     (rw ((let same_kind' : kind_of c.loop-i.u ≡ kind_of c.args.start = c.loop-i.invariant.0 ∙ (let first_kind' : kind_of c.unit_after-u.result ≡ kind_of c.args.start = (unit_as (kind_of c.args.start) _ c.unit_after-u.ensures).0 in first_kind') in same_kind')) at c.unit_place.ensures) ∙ unit_place_lem c.requires.readied (kind_of c.args.start) (number_in c.loop-i.u) ((let below' : number_in c.loop-i.u < ((space_at c.args.v c.args.img.now (kind_of c.args.start))).limit = reading_below c.args.img.now (units_stand c.requires.readied (kind_of c.args.start)) c.requires.start_value c.requires.out_bound ((let walk' : let a = c.args in Reading ((space_at c.args.v c.args.img.now (kind_of c.args.start))) a.img.now a.size (number_in a.start) a.offset a.out.now c.loop-i.out (number_in c.loop-i.u) c.loop-i.o c.loop-i.i = let e = (unit_as (kind_of c.args.start) _ c.unit_after-u.ensures).1 in (rw ((let first_kind' : kind_of c.unit_after-u.result ≡ kind_of c.args.start = (unit_as (kind_of c.args.start) _ c.unit_after-u.ensures).0 in first_kind')) at c.loop-i.invariant.1) (number_in c.args.start) c.requires.start_value (rw (c.units_for-n.ensures, (let bytes_are' : c.unit_bytes-bytes.result ≡ ((space_at c.args.v c.args.img.now (kind_of c.args.start))).unit = c.unit_bytes-bytes.ensures ∙ ap (unit_bytes c.args.v) c.kind.ensures ∙ unit_same c.requires.readied (kind_of c.args.start) in bytes_are')) at e) in walk')) c.loop-i-test.true in below'))
 
 inner : (c : In-loop-i) → c.loop-i.o < c.unit_bytes-bytes.result
+unfolding units_for
 inner c =
     rw ((let bytes_are' : c.unit_bytes-bytes.result ≡ ((space_at c.args.v c.args.img.now (kind_of c.args.start))).unit = c.unit_bytes-bytes.ensures ∙ ap (unit_bytes c.args.v) c.kind.ensures ∙ unit_same c.requires.readied (kind_of c.args.start) in bytes_are')) (reading_inner c.args.img.now (units_stand c.requires.readied (kind_of c.args.start)) c.requires.start_value c.requires.out_bound ((let walk' : let a = c.args in Reading ((space_at c.args.v c.args.img.now (kind_of c.args.start))) a.img.now a.size (number_in a.start) a.offset a.out.now c.loop-i.out (number_in c.loop-i.u) c.loop-i.o c.loop-i.i = let e = (unit_as (kind_of c.args.start) _ c.unit_after-u.ensures).1 in (rw ((let first_kind' : kind_of c.unit_after-u.result ≡ kind_of c.args.start = (unit_as (kind_of c.args.start) _ c.unit_after-u.ensures).0 in first_kind')) at c.loop-i.invariant.1) (number_in c.args.start) c.requires.start_value (rw (c.units_for-n.ensures, (let bytes_are' : c.unit_bytes-bytes.result ≡ ((space_at c.args.v c.args.img.now (kind_of c.args.start))).unit = c.unit_bytes-bytes.ensures ∙ ap (unit_bytes c.args.v) c.kind.ensures ∙ unit_same c.requires.readied (kind_of c.args.start) in bytes_are')) at e) in walk')) c.loop-i-test.true)
 
 room : (c : After-unit_place) → c.unit_place.result + c.loop-i.o + (c.unit_bytes-bytes.result - c.loop-i.o) ≤ length c.args.img.now
+unfolding units_for
 room c =
     rw (starts c, (let bytes_are' : c.unit_bytes-bytes.result ≡ ((space_at c.args.v c.args.img.now (kind_of c.args.start))).unit = c.unit_bytes-bytes.ensures ∙ ap (unit_bytes c.args.v) c.kind.ensures ∙ unit_same c.requires.readied (kind_of c.args.start) in bytes_are')) (reading_room c.args.img.now (units_stand c.requires.readied (kind_of c.args.start)) c.requires.start_value c.requires.out_bound ((let walk' : let a = c.args in Reading ((space_at c.args.v c.args.img.now (kind_of c.args.start))) a.img.now a.size (number_in a.start) a.offset a.out.now c.loop-i.out (number_in c.loop-i.u) c.loop-i.o c.loop-i.i = let e = (unit_as (kind_of c.args.start) _ c.unit_after-u.ensures).1 in (rw ((let first_kind' : kind_of c.unit_after-u.result ≡ kind_of c.args.start = (unit_as (kind_of c.args.start) _ c.unit_after-u.ensures).0 in first_kind')) at c.loop-i.invariant.1) (number_in c.args.start) c.requires.start_value (rw (c.units_for-n.ensures, (let bytes_are' : c.unit_bytes-bytes.result ≡ ((space_at c.args.v c.args.img.now (kind_of c.args.start))).unit = c.unit_bytes-bytes.ensures ∙ ap (unit_bytes c.args.v) c.kind.ensures ∙ unit_same c.requires.readied (kind_of c.args.start) in bytes_are')) at e) in walk')) c.loop-i-test.true)
 
 -- in the loop the unit at hand is one, and so is the byte in it
 below : (c : In-loop-i) → number_in c.loop-i.u < ((space_at c.args.v c.args.img.now (kind_of c.args.start))).limit
+unfolding units_for
 below c = reading_below c.args.img.now (units_stand c.requires.readied (kind_of c.args.start)) c.requires.start_value c.requires.out_bound ((let walk' : let a = c.args in Reading ((space_at c.args.v c.args.img.now (kind_of c.args.start))) a.img.now a.size (number_in a.start) a.offset a.out.now c.loop-i.out (number_in c.loop-i.u) c.loop-i.o c.loop-i.i = let e = (unit_as (kind_of c.args.start) _ c.unit_after-u.ensures).1 in (rw ((let first_kind' : kind_of c.unit_after-u.result ≡ kind_of c.args.start = (unit_as (kind_of c.args.start) _ c.unit_after-u.ensures).0 in first_kind')) at c.loop-i.invariant.1) (number_in c.args.start) c.requires.start_value (rw (c.units_for-n.ensures, (let bytes_are' : c.unit_bytes-bytes.result ≡ ((space_at c.args.v c.args.img.now (kind_of c.args.start))).unit = c.unit_bytes-bytes.ensures ∙ ap (unit_bytes c.args.v) c.kind.ensures ∙ unit_same c.requires.readied (kind_of c.args.start) in bytes_are')) at e) in walk')) c.loop-i-test.true
 
 -- the kind stays
