@@ -12,10 +12,10 @@ use Rattle.creation.proofs.Writing.{none_blank, some_blank, created_is}
 use Rattle.creation.proofs.create_at.Goals as goal
 
 pub place-requires : goal.place-requires
-place-requires c = entry_placed c.requires.fact _ ((let blank' : let a = c.args in LowestBlank (volume_in a.v a.img.now).directory _ = blank_in c.requires.fact c.lowest_blank.ensures c.in-At.is in blank')).0
+place-requires c = entry_placed c.requires.fact _ ((blank_in c.requires.fact c.lowest_blank.ensures c.in-At.is)).0
 
 pub put_new_entry-requires : goal.put_new_entry-requires
-put_new_entry-requires c = record { p_in_bounds = rw c.place.ensures (entry_room c.requires.fact _ ((let blank' : let a = c.args in LowestBlank (volume_in a.v a.img.now).directory _ = blank_in c.requires.fact c.lowest_blank.ensures c.in-At.is in blank')).0); name_len_bound = c.requires.name_len_bound; }
+put_new_entry-requires c = record { p_in_bounds = rw c.place.ensures (entry_room c.requires.fact _ ((blank_in c.requires.fact c.lowest_blank.ensures c.in-At.is)).0); name_len_bound = c.requires.name_len_bound; }
 
 pub place-requires-in-At : goal.place-requires-in-At
 place-requires-in-At c = entry_placed c.requires.fact _ c.requires.h_bound
@@ -24,11 +24,11 @@ pub put_link-requires : goal.put_link-requires
 put_link-requires c = omega (arith, c.place-in-At.ensures, entry_room c.requires.fact _ c.requires.h_bound)
 
 pub returns-in-Nothing : goal.returns-in-Nothing
-returns-in-Nothing c = let r = none_blank _ _ _ ((let blank' : let a = c.args in LowestBlank (volume_in a.v a.img.now).directory _ = blank_in c.requires.fact c.lowest_blank.ensures c.in-Nothing.is in blank')) in record { result_value = r.0; img_after = r.1; }
+returns-in-Nothing c = let r = none_blank _ _ _ ((blank_in c.requires.fact c.lowest_blank.ensures c.in-Nothing.is)) in record { result_value = r.0; img_after = r.1; }
 
 pub returns-in-At : goal.returns-in-At
 returns-in-At c =
-    let x = (let blank' : let a = c.args in LowestBlank (volume_in a.v a.img.now).directory _ = blank_in c.requires.fact c.lowest_blank.ensures c.in-At.is in blank') in let r = some_blank _ _ _ _ x.1.0
+    let x = (blank_in c.requires.fact c.lowest_blank.ensures c.in-At.is) in let r = some_blank _ _ _ _ x.1.0
     (rw (
       c.put_link.ensures,
       c.put_new_entry.ensures,

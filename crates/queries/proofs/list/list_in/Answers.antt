@@ -9,7 +9,7 @@ pub write-requires : goal.write-requires
 write-requires c =
     let a = list_asks c.requires in
     let s = list_room c.requires c.args.out.now _ c.measure.ensures.answer c.in-Fits.is in
-    (listed_still c.requires c.measure.ensures.wrote, (a.1.0, (a.1.1.0, (a.1.1.1.0, (a.1.1.1.1, s)))))
+    record { directory_listed = listed_still c.requires c.measure.ensures.wrote; img_value = a.1.0; img_value_2 = a.1.1.0; d_bound = a.1.1.1.0; d_bound_2 = a.1.1.1.1; objects_value = s.0; img_in_bounds = s.1 }
 
 pub returns-in-TooLong : goal.returns-in-TooLong
 returns-in-TooLong c = let a = list_refused c.requires c.args.out.now _ c.measure.ensures.answer c.in-TooLong.is in record { result_value = a.0; out_after = a.1; wrote = list_wrote c.requires c.measure.ensures.wrote; }

@@ -34,7 +34,7 @@ pub returns-then-not-is_stream : goal.returns-then-not-is_stream
 returns-then-not-is_stream c =
     let a = c.args in
     let h = (let found' : ObjectOf (volume_in c.args.v c.args.img.now) c.object_at-object.result = looked_up c.requires _ (inside (goal.at.returns-then-not-is_stream c).Else-not-below) (c.object_at-object.ensures.id_value, (c.object_at-object.ensures.entry_type_value, c.object_at-object.ensures.size_value)) in found') in
-    rw (← ap (λ i. i.0) c.object_at-object.ensures.id_value) (at_other _ _ a.img.now a.position a.out.now c.object_at-object.result.id.0 h.0 (object_other (volume_in a.v a.img.now) _ h (eqb-false _ _ (sym c.is_stream.ensures ∙ c.if-not-is_stream.true))))
+    rw (← ap (λ i. i.0) c.object_at-object.ensures.id_value) (let r = at_other _ _ a.img.now a.position a.out.now c.object_at-object.result.id.0 h.0 (object_other (volume_in a.v a.img.now) _ h (eqb-false _ _ (sym c.is_stream.ensures ∙ c.if-not-is_stream.true))) in record { result_value = r.0; out_after = r.1 })
 
 pub read_object-requires : goal.read_object-requires
 read_object-requires c = record { fact = c.requires; stream_at = object_stream (volume_in c.args.v c.args.img.now) _ ((let found' : ObjectOf (volume_in c.args.v c.args.img.now) c.object_at-object.result = looked_up c.requires _ (inside (goal.at.read_object-requires c).Else-not-below) (c.object_at-object.ensures.id_value, (c.object_at-object.ensures.entry_type_value, c.object_at-object.ensures.size_value)) in found')) (eqb-true _ _ (sym c.is_stream.ensures ∙ c.if-not-is_stream.false)); }
