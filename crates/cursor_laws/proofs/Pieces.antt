@@ -116,7 +116,7 @@ module _ (img : Bytes) (acc : Accepted (version_of img) img) (e : ℕ) (inside :
   answers_are p [] h f = refl
   answers_are p (l ∷ ls) h f =
       let u = both (work_fits img l) (all (work_fits img) ls) f in
-      ap₂ ◌∷◌ (zero_is p l h u.0) (ap (λ (c : Cursor). numbers_at img c ls) (moves p l h u.0) ∙ answers_are _ ls (within p l h u.0) u.1)
+      ap₂ ◌∷◌ (zero_is p l h u.0) (ap (λ (c : Cursor). numbers_at img c ls) (moves p l h u.0) ∙ answers_are (p + read_count (length s) p (length l.out)) ls (within p l h u.0) u.1)
 
   bytes_are : (p : ℕ) (ls : List Lent) → p ≤ stream_size v e → all (work_fits img) ls ≡ true →
       handed_all img (at p) ls ++ rest_at img (cursor_at_end img (at p) ls) ≡ rest_at img (at p)

@@ -42,7 +42,7 @@ module _ (sp sq : Space) where
     pub put_same : (img : Bytes) (i : ℕ) (xs : Bytes) → i + length xs ≤ length us * sq.unit → put_chain sp us img i xs ≡ put_chain sq us img i xs
     unfolding put_chain
     put_same img i [] l = refl
-    put_same img i (x ∷ xs) l = rw (byte_same i (omega arith)) (put_same _ (suc i) xs (omega arith))
+    put_same img i (x ∷ xs) l = rw (byte_same i (omega arith)) (put_same (set img (byte_place sq us i) x) (suc i) xs (omega arith))
 
     pub zeroed_same : (img : Bytes) (from : ℕ) → from ≤ length us * sq.unit → zeroed sp us img from ≡ zeroed sq us img from
     unfolding zeroed

@@ -22,4 +22,4 @@ loop-i-preserved c =
     (passed_more c.loop-i.invariant.0 h (right_turn _ _ _ c.u32_at-v.ensures _ _), copying_more c.loop-i.invariant.1 _ h (cell_turn _ _ _ c.u32_at-v.ensures))
 
 pub returns : goal.returns
-returns c = record { answer = passed_all c.loop-i.invariant.0 c.loop-i-test.false; copied = copying_all c.loop-i.invariant.1 c.loop-i-test.false; }
+returns c = record { answer = passed_all c.loop-i.invariant.0 c.loop-i-test.false; copied = copying_all c.loop-i.invariant.1 c.loop-i-test.false }

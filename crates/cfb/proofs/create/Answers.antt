@@ -34,7 +34,7 @@ returns-in-Refused c =
     let a = c.args in
     let o = opening_refused a.image.now a.work.now _ _ c.open_image.ensures c.in-Refused.is in
     let q = lent a.work.now (create (new_kind_of a.kind) a.path.now []) in
-    let r = call_refused _ a.image.now q c.open_image.new.work (Refused c.in-Refused.a) o refl in record { result_value = r.0; image_after = call_unchanged _ a.image.now q c.open_image.new.work (Refused c.in-Refused.a) o refl; work_after = r.1; }
+    let r = call_refused _ a.image.now q c.open_image.new.work (Refused c.in-Refused.a) o refl in record { result_value = r.0; image_after = call_unchanged _ a.image.now q c.open_image.new.work (Refused c.in-Refused.a) o refl; work_after = r.1 }
 
 pub returns-in-Ready : goal.returns-in-Ready
 unfolding lent work_of
@@ -43,4 +43,4 @@ returns-in-Ready c =
     let q = opening_ready a.image.now a.work.now _ _ c.open_image.ensures c.in-Ready.is in
     let p = create (new_kind_of a.kind) a.path.now [] in
     let s = plain_given_lem q p in
-    let e = c.close.ensures ∙ ap (λ n. work_cleared (work_need n) c.open_image.new.work) c.create_opened-r.auto.image in record { result_value = c.create_opened-r.ensures.result_value ∙ ap (λ x. x.reply) s; image_after = c.create_opened-r.ensures.image_after ∙ plain_image_lem q p; work_after = plain_work_lem q p (wrote_none _ _ _) e; }
+    let e = c.close.ensures ∙ ap (λ n. work_cleared (work_need n) c.open_image.new.work) c.create_opened-r.auto.image in record { result_value = c.create_opened-r.ensures.result_value ∙ ap (λ x. x.reply) s; image_after = c.create_opened-r.ensures.image_after ∙ plain_image_lem q p; work_after = plain_work_lem q p (wrote_none _ _ _) e }

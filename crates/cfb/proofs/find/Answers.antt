@@ -34,7 +34,7 @@ returns-in-Refused c =
     let a = c.args in
     let o = opening_refused a.image.now a.work.now _ _ c.open_image.ensures c.in-Refused.is in
     let q = lent a.work.now (find a.path.now []) in
-    let r = call_refused _ a.image.now q c.open_image.new.work (Refused c.in-Refused.a) o refl in let r = r in record { result_value = r.0; work_after = r.1; }
+    let r = call_refused _ a.image.now q c.open_image.new.work (Refused c.in-Refused.a) o refl in let r = r in record { result_value = r.0; work_after = r.1 }
 
 pub returns-in-Ready : goal.returns-in-Ready
 unfolding lent work_of
@@ -43,4 +43,4 @@ returns-in-Ready c =
     let q = opening_ready a.image.now a.work.now _ _ c.open_image.ensures c.in-Ready.is in
     let i = c.find_opened-r.ensures in
     let p = find a.path.now [] in
-    let s = plain_given_lem q p in record { result_value = i ∙ ap (λ x. x.reply) s; work_after = plain_work_lem q p (wrote_none _ _ _) c.close.ensures; }
+    let s = plain_given_lem q p in record { result_value = i ∙ ap (λ x. x.reply) s; work_after = plain_work_lem q p (wrote_none _ _ _) c.close.ensures }

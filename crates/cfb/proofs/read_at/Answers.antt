@@ -34,7 +34,7 @@ returns-in-Refused c =
     let a = c.args in
     let o = opening_refused a.image.now a.work.now _ _ c.open_image.ensures c.in-Refused.is in
     let q = lent a.work.now (read_at a.entry.0 a.position a.out.now []) in
-    let r = call_refused _ a.image.now q c.open_image.new.work (Refused c.in-Refused.a) o refl in record { result_value = r.0; out_after = call_kept _ a.image.now q c.open_image.new.work (Refused c.in-Refused.a) o refl; work_after = r.1; }
+    let r = call_refused _ a.image.now q c.open_image.new.work (Refused c.in-Refused.a) o refl in record { result_value = r.0; out_after = call_kept _ a.image.now q c.open_image.new.work (Refused c.in-Refused.a) o refl; work_after = r.1 }
 
 pub returns-in-Ready : goal.returns-in-Ready
 unfolding lent work_of out_of
@@ -42,4 +42,4 @@ returns-in-Ready c =
     let a = c.args in
     let q = opening_ready a.image.now a.work.now _ _ c.open_image.ensures c.in-Ready.is in
     let p = read_at a.entry.0 a.position a.out.now [] in
-    let s = plain_given_lem q p in record { result_value = c.read_at_opened-r.ensures.result_value ∙ ap (λ x. x.reply) s; out_after = c.read_at_opened-r.ensures.out_after ∙ ap (λ x. x.out) s; work_after = plain_work_lem q p (wrote_none _ _ _) c.close.ensures; }
+    let s = plain_given_lem q p in record { result_value = c.read_at_opened-r.ensures.result_value ∙ ap (λ x. x.reply) s; out_after = c.read_at_opened-r.ensures.out_after ∙ ap (λ x. x.out) s; work_after = plain_work_lem q p (wrote_none _ _ _) c.close.ensures }

@@ -19,7 +19,7 @@ pub returns-in-Refused : goal.returns-in-Refused
 unfolding lent
 returns-in-Refused c =
     let a = c.args in
-    let o = opening_refused a.image.now a.work.now _ _ c.open_image.ensures c.in-Refused.is in let r = validate_refused _ a.image.now a.work.now c.open_image.new.work (Refused c.in-Refused.a) o refl in record { result_value = r.0; work_after = r.1; }
+    let o = opening_refused a.image.now a.work.now _ _ c.open_image.ensures c.in-Refused.is in let r = validate_refused _ a.image.now a.work.now c.open_image.new.work (Refused c.in-Refused.a) o refl in record { result_value = r.0; work_after = r.1 }
 
 pub close-requires : goal.close-requires
 unfolding lent
@@ -32,4 +32,4 @@ pub returns : goal.returns
 unfolding lent
 returns c =
     let a = c.args in
-    let q = opening_ready a.image.now a.work.now _ _ c.open_image.ensures c.in-Ready.is in record { result_value = sym (reply_is _ a.image.now a.work.now ∙ ap plain q.0); work_after = plain_work_lem q (validate []) (wrote_none _ _ _) c.close.ensures; }
+    let q = opening_ready a.image.now a.work.now _ _ c.open_image.ensures c.in-Ready.is in record { result_value = sym (reply_is _ a.image.now a.work.now ∙ ap plain q.0); work_after = plain_work_lem q (validate []) (wrote_none _ _ _) c.close.ensures }

@@ -18,8 +18,8 @@ refusal_number-requires c = search rules
 
 pub returns-in-Entry : goal.returns-in-Entry
 unfolding plain
-returns-in-Entry c = record { count_after = sym (ap find_reply c.in-Entry.is) ∙ c.find.ensures.result_value; work_after = c.find.ensures.work_after; }
+returns-in-Entry c = record { count_after = sym (ap find_reply c.in-Entry.is) ∙ c.find.ensures.result_value; work_after = c.find.ensures.work_after }
 
 pub returns-in-Refused : goal.returns-in-Refused
 unfolding plain
-returns-in-Refused c = record { count_after = ap plain c.refusal_number.ensures ∙ sym (ap find_reply c.in-Refused.is) ∙ c.find.ensures.result_value; work_after = c.find.ensures.work_after; }
+returns-in-Refused c = record { count_after = ap plain c.refusal_number.ensures ∙ sym (ap find_reply c.in-Refused.is) ∙ c.find.ensures.result_value; work_after = c.find.ensures.work_after }

@@ -14,8 +14,8 @@ refused-requires c = search rules
 
 pub returns-in-Done : goal.returns-in-Done
 unfolding plain counted
-returns-in-Done c = record { count_after = sym (ap list_reply c.in-Done.is) ∙ c.list.ensures.result_value; out_after = c.list.ensures.out_after; work_after = c.list.ensures.work_after; }
+returns-in-Done c = record { count_after = sym (ap list_reply c.in-Done.is) ∙ c.list.ensures.result_value; out_after = c.list.ensures.out_after; work_after = c.list.ensures.work_after }
 
 pub returns-in-Refused : goal.returns-in-Refused
 unfolding plain counted
-returns-in-Refused c = record { count_after = rw (c.refused.ensures.value, c.refused.ensures.count_after) (sym (ap list_reply c.in-Refused.is) ∙ c.list.ensures.result_value); out_after = c.list.ensures.out_after; work_after = c.list.ensures.work_after; }
+returns-in-Refused c = record { count_after = rw (c.refused.ensures.value, c.refused.ensures.count_after) (sym (ap list_reply c.in-Refused.is) ∙ c.list.ensures.result_value); out_after = c.list.ensures.out_after; work_after = c.list.ensures.work_after }

@@ -14,8 +14,8 @@ refused-requires c = search rules
 
 pub returns-in-Done : goal.returns-in-Done
 unfolding plain counted
-returns-in-Done c = record { changed_after = sym (ap repair_reply_of c.in-Done.is) ∙ c.repair.ensures.result_value; image_after = c.repair.ensures.image_after; work_after = c.repair.ensures.work_after; spare_after = c.repair.ensures.spare_after; }
+returns-in-Done c = record { changed_after = sym (ap repair_reply_of c.in-Done.is) ∙ c.repair.ensures.result_value; image_after = c.repair.ensures.image_after; work_after = c.repair.ensures.work_after; spare_after = c.repair.ensures.spare_after }
 
 pub returns-in-Refused : goal.returns-in-Refused
 unfolding plain counted
-returns-in-Refused c = record { changed_after = rw (c.refused.ensures.value, c.refused.ensures.count_after) (sym (ap repair_reply_of c.in-Refused.is) ∙ c.repair.ensures.result_value); image_after = c.repair.ensures.image_after; work_after = c.repair.ensures.work_after; spare_after = c.repair.ensures.spare_after; }
+returns-in-Refused c = record { changed_after = rw (c.refused.ensures.value, c.refused.ensures.count_after) (sym (ap repair_reply_of c.in-Refused.is) ∙ c.repair.ensures.result_value); image_after = c.repair.ensures.image_after; work_after = c.repair.ensures.work_after; spare_after = c.repair.ensures.spare_after }

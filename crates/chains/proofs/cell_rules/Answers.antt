@@ -8,4 +8,4 @@ pub cells_rest-requires : goal.cells_rest-requires
 cells_rest-requires c = let l = c.requires in listed_kept l c.copy_fat-below.ensures.wrote (omega (arith, l.apart))
 
 pub returns : goal.returns
-returns c = record { answer = rw (rules_are, ← c.copy_fat-below.ensures.answer, ← c.cells_rest.ensures); holds = c.copy_fat-below.ensures.holds; wrote = c.copy_fat-below.ensures.wrote; }
+returns c = record { answer = rw (rules_are, ← c.copy_fat-below.ensures.answer, ← c.cells_rest.ensures); holds = c.copy_fat-below.ensures.holds; wrote = c.copy_fat-below.ensures.wrote }

@@ -20,7 +20,7 @@ pub overflow_mul-cells : goal.overflow_mul-cells
 overflow_mul-cells c = omega (arith, end_is (goal.at.overflow_mul-cells c).After-cells, cells_short c.requires, c.requires.sized.short)
 
 pub table_free-requires : goal.table_free-requires
-table_free-requires c = let l = c.requires in record { table_listed = fat_listed l _ (omega (arith, end_is (goal.at.table_free-requires c).After-cells)); low_le_end = omega (arith, end_is (goal.at.table_free-requires c).After-cells, l.count, l.covers); }
+table_free-requires c = let l = c.requires in record { table_listed = fat_listed l _ (omega (arith, end_is (goal.at.table_free-requires c).After-cells)); low_le_end = omega (arith, end_is (goal.at.table_free-requires c).After-cells, l.count, l.covers) }
 
 pub returns : goal.returns
 returns c =

@@ -27,7 +27,7 @@ bounds-work-at c = in_work (goal.at.bounds-work-at c).In-loop-i
 pub cell_at-s-requires : goal.cell_at-s-requires
 cell_at-s-requires c =
     let l = c.loop-i.invariant in
-    let h = c.loop-i-test.true in record { fat_listed = listing_set l h; s_bound = omega (arith, listing_below l h, l.listed.covers); }
+    let h = c.loop-i-test.true in record { fat_listed = listing_set l h; s_bound = omega (arith, listing_below l h, l.listed.covers) }
 
 pub loop-i-preserved : goal.loop-i-preserved
 loop-i-preserved c = rw c.cell_at-s.ensures (listing_step c.loop-i.invariant c.loop-i-test.true)
@@ -35,4 +35,4 @@ loop-i-preserved c = rw c.cell_at-s.ensures (listing_step c.loop-i.invariant c.l
 pub returns : goal.returns
 returns c =
     let a = c.loop-i.invariant in
-    let z : c.loop-i.i ≡ c.args.n = omega (arith, a.some) in record { wrote = a.wrote; holds = rw z at a.holds; }
+    let z : c.loop-i.i ≡ c.args.n = omega (arith, a.some) in record { wrote = a.wrote; holds = rw z at a.holds }

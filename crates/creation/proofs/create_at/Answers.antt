@@ -15,7 +15,7 @@ pub place-requires : goal.place-requires
 place-requires c = entry_placed c.requires.fact _ ((blank_in c.requires.fact c.lowest_blank.ensures c.in-At.is)).0
 
 pub put_new_entry-requires : goal.put_new_entry-requires
-put_new_entry-requires c = record { p_in_bounds = rw c.place.ensures (entry_room c.requires.fact _ ((blank_in c.requires.fact c.lowest_blank.ensures c.in-At.is)).0); name_len_bound = c.requires.name_len_bound; }
+put_new_entry-requires c = record { p_in_bounds = rw c.place.ensures (entry_room c.requires.fact _ ((blank_in c.requires.fact c.lowest_blank.ensures c.in-At.is)).0); name_len_bound = c.requires.name_len_bound }
 
 pub place-requires-in-At : goal.place-requires-in-At
 place-requires-in-At c = entry_placed c.requires.fact _ c.requires.h_bound
@@ -24,7 +24,7 @@ pub put_link-requires : goal.put_link-requires
 put_link-requires c = omega (arith, c.place-in-At.ensures, entry_room c.requires.fact _ c.requires.h_bound)
 
 pub returns-in-Nothing : goal.returns-in-Nothing
-returns-in-Nothing c = let r = none_blank _ _ _ ((blank_in c.requires.fact c.lowest_blank.ensures c.in-Nothing.is)) in record { result_value = r.0; img_after = r.1; }
+returns-in-Nothing c = let r = none_blank _ _ _ ((blank_in c.requires.fact c.lowest_blank.ensures c.in-Nothing.is)) in record { result_value = r.0; img_after = r.1 }
 
 pub returns-in-At : goal.returns-in-At
 returns-in-At c =
@@ -37,4 +37,4 @@ returns-in-At c =
       c.entry_type.ensures,
       c.place.ensures,
     )
-    (created_is c.requires.fact (new_kind_of c.args.kind) c.args.name.now (slot_of c.args.h) _ c.requires.h_bound x.0 x.1.1)) in record { result_value = r.0; img_after = r.1; }
+    (created_is c.requires.fact (new_kind_of c.args.kind) c.args.name.now (slot_of c.args.h) _ c.requires.h_bound x.0 x.1.1)) in record { result_value = r.0; img_after = r.1 }

@@ -27,7 +27,7 @@ pub loop-d-init : goal.loop-d-init
 loop-d-init c = none_start _
 
 pub type_of-requires : goal.type_of-requires
-type_of-requires c = record { directory_listed = c.requires; x_bound = inside (goal.at.type_of-requires c).In-loop-d; }
+type_of-requires c = record { directory_listed = c.requires; x_bound = inside (goal.at.type_of-requires c).In-loop-d }
 
 pub returns-then-is_blank : goal.returns-then-is_blank
 unfolding blank_at

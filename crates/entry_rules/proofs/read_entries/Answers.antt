@@ -48,10 +48,10 @@ pub loop-d-init : goal.loop-d-init
 loop-d-init c = passed_start _ _
 
 pub ahead_right-requires : goal.ahead_right-requires
-ahead_right-requires c = record { directory_listed = listed (goal.at.ahead_right-requires c).In-loop-d; x_bound = omega (arith, inside (goal.at.ahead_right-requires c).In-loop-d, count_is (listed (goal.at.ahead_right-requires c).In-loop-d)); }
+ahead_right-requires c = record { directory_listed = listed (goal.at.ahead_right-requires c).In-loop-d; x_bound = omega (arith, inside (goal.at.ahead_right-requires c).In-loop-d, count_is (listed (goal.at.ahead_right-requires c).In-loop-d)) }
 
 pub returns-then-not-ahead_right : goal.returns-then-not-ahead_right
-returns-then-not-ahead_right c = record { answer = sym (ahead_wrong _ _ _ _ (sym c.ahead_right.ensures ∙ c.if-not-ahead_right.true)); nodes = λ h. absurd (clash h refl); wrote = rw (← count_is (listed (goal.at.returns-then-not-ahead_right c).In-loop-d)) c.loop-d.invariant.wrote; }
+returns-then-not-ahead_right c = record { answer = sym (ahead_wrong _ _ _ _ (sym c.ahead_right.ensures ∙ c.if-not-ahead_right.true)); nodes = λ h. absurd (clash h refl); wrote = rw (← count_is (listed (goal.at.returns-then-not-ahead_right c).In-loop-d)) c.loop-d.invariant.wrote }
 
 pub place-p-requires : goal.place-p-requires
 place-p-requires c = placed (listed (goal.at.place-p-requires c).In-loop-d) _ (inside (goal.at.place-p-requires c).In-loop-d)
@@ -61,13 +61,13 @@ entry_fields-requires c = omega (arith, c.place-p.ensures, place_inside (listed 
 
 pub returns-then-not-entry_fields : goal.returns-then-not-entry_fields
 unfolding entry_right
-returns-then-not-entry_fields c = let p = c.loop-d.invariant in record { answer = sym (passed_wrong p (inside (goal.at.returns-then-not-entry_fields c).In-loop-d) (room (goal.at.returns-then-not-entry_fields c).In-loop-d) ((let tested' : let p = c.args in entry_right (entries_of p.d p.img.now) c.loop-d.x.0 ≡ c.entry_fields.result = ap (entry_fields c.loop-d.x.0) (standing (goal.at.returns-then-not-entry_fields c).After-place-p) ∙ sym c.entry_fields.ensures in tested') ∙ c.if-not-entry_fields.true)); nodes = λ h. absurd (clash h refl); wrote = rw (← count_is (listed (goal.at.returns-then-not-entry_fields c).In-loop-d)) p.wrote; }
+returns-then-not-entry_fields c = let p = c.loop-d.invariant in record { answer = sym (passed_wrong p (inside (goal.at.returns-then-not-entry_fields c).In-loop-d) (room (goal.at.returns-then-not-entry_fields c).In-loop-d) ((let tested' : let p = c.args in entry_right (entries_of p.d p.img.now) c.loop-d.x.0 ≡ c.entry_fields.result = ap (entry_fields c.loop-d.x.0) (standing (goal.at.returns-then-not-entry_fields c).After-place-p) ∙ sym c.entry_fields.ensures in tested') ∙ c.if-not-entry_fields.true)); nodes = λ h. absurd (clash h refl); wrote = rw (← count_is (listed (goal.at.returns-then-not-entry_fields c).In-loop-d)) p.wrote }
 
 pub at-requires : goal.at-requires
 at-requires c = omega (arith, inside (goal.at.at-requires c).In-loop-d, few (goal.at.at-requires c).In-loop-d)
 
 pub node_of-requires : goal.node_of-requires
-node_of-requires c = record { p_in_bounds = omega (arith, c.place-p.ensures, place_inside (listed (goal.at.node_of-requires c).In-loop-d) _ (inside (goal.at.node_of-requires c).In-loop-d)); n_nonzero = (omega (arith, count (goal.at.node_of-requires c).In-loop-d, inside (goal.at.node_of-requires c).In-loop-d), omega (arith, count (goal.at.node_of-requires c).In-loop-d, few (goal.at.node_of-requires c).In-loop-d)); object_named = object_named _ _ (sym c.entry_fields.ensures ∙ c.if-not-entry_fields.false); }
+node_of-requires c = record { p_in_bounds = omega (arith, c.place-p.ensures, place_inside (listed (goal.at.node_of-requires c).In-loop-d) _ (inside (goal.at.node_of-requires c).In-loop-d)); n_nonzero = (omega (arith, count (goal.at.node_of-requires c).In-loop-d, inside (goal.at.node_of-requires c).In-loop-d), omega (arith, count (goal.at.node_of-requires c).In-loop-d, few (goal.at.node_of-requires c).In-loop-d)); object_named = object_named _ _ (sym c.entry_fields.ensures ∙ c.if-not-entry_fields.false) }
 
 pub put_node-requires : goal.put_node-requires
 put_node-requires c = omega (arith, c.at.ensures, room (goal.at.put_node-requires c).In-loop-d, inside (goal.at.put_node-requires c).In-loop-d)
@@ -90,4 +90,4 @@ returns c =
     let l = passed_listed c.requires.directory_listed c.requires.d_bound p in
     let n = count_is l in
     let a = c.args in
-    let h : (entries_of a.d a.img.now).count ≤ c.loop-d.x.0 = omega (arith, c.loop-d-test.false, c.index.ensures, c.count-n.ensures, n) in record { answer = sym (passed_rules p h); nodes = λ q. passed_nodes p h (root_inside l) (omega (arith, n, count_short l)) (omega (arith, n, c.requires.d_bound, l.room)); wrote = rw (← n) p.wrote; }
+    let h : (entries_of a.d a.img.now).count ≤ c.loop-d.x.0 = omega (arith, c.loop-d-test.false, c.index.ensures, c.count-n.ensures, n) in record { answer = sym (passed_rules p h); nodes = λ q. passed_nodes p h (root_inside l) (omega (arith, n, count_short l)) (omega (arith, n, c.requires.d_bound, l.room)); wrote = rw (← n) p.wrote }

@@ -9,7 +9,7 @@ use Rattle.fresh_sectors.specs.Parts.{plan_of}
 use Rattle.formatting.proofs.buffer_fits.Goals as goal
 
 pub length_allowed-requires : goal.length_allowed-requires
-length_allowed-requires c = record { bytes_nonzero = omega (arith, (plan_sized (geometry_of c.args.g) (plan_of c.args.p) c.requires).wide); bytes_bound = plan_narrow (geometry_of c.args.g) (plan_of c.args.p) c.requires; }
+length_allowed-requires c = record { bytes_nonzero = omega (arith, (plan_sized (geometry_of c.args.g) (plan_of c.args.p) c.requires).wide); bytes_bound = plan_narrow (geometry_of c.args.g) (plan_of c.args.p) c.requires }
 
 pub returns-then-not-length_allowed : goal.returns-then-not-length_allowed
 returns-then-not-length_allowed c = not_allowed (geometry_of c.args.g) (plan_of c.args.p) c.requires _ (sym c.length_allowed.ensures ∙ c.if-not-length_allowed.true)

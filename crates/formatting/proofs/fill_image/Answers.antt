@@ -15,7 +15,7 @@ pub slice_bounds-fill_header-end : goal.slice_bounds-fill_header-end
 slice_bounds-fill_header-end c = omega (arith, c.requires.img_len)
 
 pub fill_header-requires : goal.fill_header-requires
-fill_header-requires c = record { stands = c.requires.stands; part_len = omega (arith, c.requires.img_len, length-take (c.args.l.geometry.bytes - 0) c.args.img.now); }
+fill_header-requires c = record { stands = c.requires.stands; part_len = omega (arith, c.requires.img_len, length-take (c.args.l.geometry.bytes - 0) c.args.img.now) }
 
 pub loop-l-init : goal.loop-l-init
 loop-l-init c = let e = c.fill_header.ensures in (header_long c.args.l c.requires.stands _ c.args.img.now e c.requires.img_len, header_written c.args.l c.requires.stands _ _ e)
@@ -36,7 +36,7 @@ pub slice_bounds-fill_sector-end : goal.slice_bounds-fill_sector-end
 slice_bounds-fill_sector-end c = let r = image_room c.args.l c.requires.stands c.loop-l.s.0 _ (ltb-true c.loop-l.s.0 c.args.l.plan.sectors (sym c.below.ensures ∙ c.loop-l-test.true)) c.place-at.ensures in omega (arith, r, c.loop-l.invariant.0, c.loop-l.invariant.1.long)
 
 pub fill_sector-requires : goal.fill_sector-requires
-fill_sector-requires c = record { stands = c.requires.stands; part_len = let r = image_room c.args.l c.requires.stands c.loop-l.s.0 _ (ltb-true c.loop-l.s.0 c.args.l.plan.sectors (sym c.below.ensures ∙ c.loop-l-test.true)) c.place-at.ensures in let m = c.args.l.geometry.bytes in let at = c.place-at.result in omega (arith, r, c.loop-l.invariant.0, c.loop-l.invariant.1.long, length-take (at + m - at) (drop at c.loop-l.img), length-drop at c.loop-l.img); }
+fill_sector-requires c = record { stands = c.requires.stands; part_len = let r = image_room c.args.l c.requires.stands c.loop-l.s.0 _ (ltb-true c.loop-l.s.0 c.args.l.plan.sectors (sym c.below.ensures ∙ c.loop-l-test.true)) c.place-at.ensures in let m = c.args.l.geometry.bytes in let at = c.place-at.result in omega (arith, r, c.loop-l.invariant.0, c.loop-l.invariant.1.long, length-take (at + m - at) (drop at c.loop-l.img), length-drop at c.loop-l.img) }
 
 pub next-s-requires : goal.next-s-requires
 next-s-requires c = let h = ltb-true c.loop-l.s.0 c.args.l.plan.sectors (sym c.below.ensures ∙ c.loop-l-test.true) in omega (arith, h, (parts_order c.args.l c.requires.stands).few)

@@ -55,7 +55,7 @@ overflow_cast-first c = omega (arith, few (goal.at.overflow_cast-first c).After-
 
 pub put_entry-requires : goal.put_entry-requires
 unfolding put_bytes entry_from
-put_entry-requires c = let n = c.entries-n.ensures in record { stands = c.requires.stands; p_in_bounds = omega (arith, n, entries_bytes c.args.l c.requires.stands, c.loop-i.invariant.long, c.requires.part_len); }
+put_entry-requires c = let n = c.entries-n.ensures in record { stands = c.requires.stands; p_in_bounds = omega (arith, n, entries_bytes c.args.l c.requires.stands, c.loop-i.invariant.long, c.requires.part_len) }
 
 pub overflow_add-i : goal.overflow_add-i
 unfolding put_bytes entry_from

@@ -17,7 +17,7 @@ pub overflow_mul-i : goal.overflow_mul-i
 overflow_mul-i c = let n = c.cells-cells.ensures in omega (arith, n, cells_few c.args.l c.requires.stands)
 
 pub table_number-requires : goal.table_number-requires
-table_number-requires c = let n = c.cells-cells.ensures in record { stands = c.requires.stands; i_bound = omega arith; }
+table_number-requires c = let n = c.cells-cells.ensures in record { stands = c.requires.stands; i_bound = omega arith }
 
 pub put_u32-requires : goal.put_u32-requires
 put_u32-requires c = let n = c.cells-cells.ensures in omega (arith, n, cells_bytes c.args.l c.requires.stands, c.loop-i.invariant.long, c.requires.part_len)

@@ -22,7 +22,7 @@ pub at-requires : goal.at-requires
 at-requires c = omega (arith, few (goal.at.at-requires c).After-index)
 
 pub fresh_cell-requires : goal.fresh_cell-requires
-fresh_cell-requires c = record { stands = c.requires.stands; s_bound = omega (arith, few (goal.at.fresh_cell-requires c).After-index, c.at.ensures); }
+fresh_cell-requires c = record { stands = c.requires.stands; s_bound = omega (arith, few (goal.at.fresh_cell-requires c).After-index, c.at.ensures) }
 
 pub returns-then-s-l : goal.returns-then-s-l
 returns-then-s-l c = table_fat c.args.l c.requires.stands c.args.s.0 c.args.i _ _ c.cells.ensures (omega arith) (c.fresh_cell.ensures ∙ cc)

@@ -15,7 +15,7 @@ use Rattle.hierarchy.proofs.Batches.{Batch, batch_start, batch_turn, batch_room,
 use Rattle.hierarchy.proofs.walk.Goals as goal
 
 pub child_of-requires : goal.child_of-requires
-child_of-requires c = let l = c.requires.listed in record { directory_listed = l; x_bound = root_inside l; }
+child_of-requires c = let l = c.requires.listed in record { directory_listed = l; x_bound = root_inside l }
 
 pub count-requires : goal.count-requires
 count-requires c = countable c.requires.listed
@@ -34,7 +34,7 @@ take_turn-requires c = (_, c.loop-next.invariant.0.on)
 pub note-k-requires : goal.note-k-requires
 note-k-requires c =
     let i = c.loop-next.invariant in
-    let g = turn_on (c.take_turn.ensures _ i.0.on) c.in-Go.is in record { directory_listed = g.on.lent.listed; due_paired = g.due; k_bound = (i.1, i.0.lows, i.0.highs); }
+    let g = turn_on (c.take_turn.ensures _ i.0.on) c.in-Go.is in record { directory_listed = g.on.lent.listed; due_paired = g.due; k_bound = (i.1, i.0.lows, i.0.highs) }
 
 pub full_rises-requires : goal.full_rises-requires
 full_rises-requires c =

@@ -17,10 +17,10 @@ path c =
     put_parent c.args.out.now c.args.at c.args.from c.args.parent c.requires.parent_in_bounds ((let some' : 0 < c.args.parent = omega (arith, c.if-parent-eq0.false) in some')) c.requires.parent_bound c.copy_within.ensures
 
 pub returns-then-parent-eq0 : goal.returns-then-parent-eq0
-returns-then-parent-eq0 c = record { count = sym (none_length c.args.parent c.if-parent-eq0.true); written = put_none c.args.out.now c.args.at c.args.from c.args.parent c.requires.parent_in_bounds c.if-parent-eq0.true; }
+returns-then-parent-eq0 c = record { count = sym (none_length c.args.parent c.if-parent-eq0.true); written = put_none c.args.out.now c.args.at c.args.from c.args.parent c.requires.parent_in_bounds c.if-parent-eq0.true }
 
 pub copy_within-requires : goal.copy_within-requires
-copy_within-requires c = record { n_bound = c.requires.parent_bound; n_in_bounds = omega (arith, (let room' : let a = c.args in a.at + a.parent < length a.out.now = omega (arith, some_length c.args.parent ((let some' : 0 < c.args.parent = omega (arith, c.if-parent-eq0.false) in some')), c.requires.parent_in_bounds) in room')); }
+copy_within-requires c = record { n_bound = c.requires.parent_bound; n_in_bounds = omega (arith, (let room' : let a = c.args in a.at + a.parent < length a.out.now = omega (arith, some_length c.args.parent ((let some' : 0 < c.args.parent = omega (arith, c.if-parent-eq0.false) in some')), c.requires.parent_in_bounds) in room')) }
 
 pub overflow_add-out : goal.overflow_add-out
 overflow_add-out c = omega (arith, (let room' : let a = c.args in a.at + a.parent < length a.out.now = omega (arith, some_length c.args.parent ((let some' : 0 < c.args.parent = omega (arith, c.if-parent-eq0.false) in some')), c.requires.parent_in_bounds) in room'))
@@ -32,4 +32,4 @@ pub overflow_add-result : goal.overflow_add-result
 overflow_add-result c = omega (arith, (let room' : let a = c.args in a.at + a.parent < length a.out.now = omega (arith, some_length c.args.parent ((let some' : 0 < c.args.parent = omega (arith, c.if-parent-eq0.false) in some')), c.requires.parent_in_bounds) in room'))
 
 pub returns : goal.returns
-returns c = record { count = sym (some_length c.args.parent ((let some' : 0 < c.args.parent = omega (arith, c.if-parent-eq0.false) in some'))); written = put_slash c.args.out.now c.args.at c.args.from c.args.parent c.requires.parent_in_bounds ((let some' : 0 < c.args.parent = omega (arith, c.if-parent-eq0.false) in some')) c.requires.parent_bound (path (goal.at.returns c).After-slice_known-2-1); }
+returns c = record { count = sym (some_length c.args.parent ((let some' : 0 < c.args.parent = omega (arith, c.if-parent-eq0.false) in some'))); written = put_slash c.args.out.now c.args.at c.args.from c.args.parent c.requires.parent_in_bounds ((let some' : 0 < c.args.parent = omega (arith, c.if-parent-eq0.false) in some')) c.requires.parent_bound (path (goal.at.returns c).After-slice_known-2-1) }

@@ -82,7 +82,7 @@ pub overflow_add-result : goal.overflow_add-result
 overflow_add-result c = omega (arith, digits (goal.at.overflow_add-result c).After-slice_known-then-is_stream-1, decimal_most (size ((width_of c.args.g)) ((entry_at c.args.img.now c.args.p))))
 
 pub returns-then-is_stream : goal.returns-then-is_stream
-returns-then-is_stream c = record { count = omega (arith, digits (goal.at.returns-then-is_stream c).After-slice_known-then-is_stream-1, stream_length ((width_of c.args.g)) ((entry_at c.args.img.now c.args.p)) (stream (goal.at.returns-then-is_stream c).Then-is_stream)); written = written (goal.at.returns-then-is_stream c).After-slice_known-then-is_stream-1; }
+returns-then-is_stream c = record { count = omega (arith, digits (goal.at.returns-then-is_stream c).After-slice_known-then-is_stream-1, stream_length ((width_of c.args.g)) ((entry_at c.args.img.now c.args.p)) (stream (goal.at.returns-then-is_stream c).Then-is_stream)); written = written (goal.at.returns-then-is_stream c).After-slice_known-then-is_stream-1 }
 
 pub bounds-out-0-2 : goal.bounds-out-0-2
 bounds-out-0-2 c = omega (arith, storage_room (goal.at.bounds-out-0-2 c).Else-is_stream)
@@ -97,4 +97,4 @@ pub bounds-out-3 : goal.bounds-out-3
 bounds-out-3 c = simp length-set (omega (arith, storage_room (goal.at.bounds-out-3 c).Else-is_stream))
 
 pub returns : goal.returns
-returns c = record { count = sym (storage_length _ _ (storage (goal.at.returns c).Else-is_stream)); written = put_storage _ _ _ (storage (goal.at.returns c).Else-is_stream) c.requires.p_in_bounds_2; }
+returns c = record { count = sym (storage_length _ _ (storage (goal.at.returns c).Else-is_stream)); written = put_storage _ _ _ (storage (goal.at.returns c).Else-is_stream) c.requires.p_in_bounds_2 }

@@ -47,13 +47,13 @@ pub slice_bounds-put_head-start : goal.slice_bounds-put_head-start
 slice_bounds-put_head-start c = omega (arith, c.requires.parent_in_bounds)
 
 pub put_head-requires : goal.put_head-requires
-put_head-requires c = record { p_in_bounds = c.requires.named_at.whole; p_in_bounds_2 = rw (lent_length c.args.out.now c.args.at) (omega (arith, c.requires.parent_in_bounds, length_parts ((width_of c.args.g)) ((entry_at c.args.img.now c.args.p)) c.args.parent)); }
+put_head-requires c = record { p_in_bounds = c.requires.named_at.whole; p_in_bounds_2 = rw (lent_length c.args.out.now c.args.at) (omega (arith, c.requires.parent_in_bounds, length_parts ((width_of c.args.g)) ((entry_at c.args.img.now c.args.p)) c.args.parent)) }
 
 pub overflow_add-start : goal.overflow_add-start
 overflow_add-start c = omega (arith, (headed (goal.at.overflow_add-start c).After-slice_known-2-1).room)
 
 pub put_before-requires : goal.put_before-requires
-put_before-requires c = record { parent_bound = omega (arith, c.requires.parent_bound); parent_in_bounds = omega (arith, filled_length (headed (goal.at.put_before-requires c).After-slice_known-2-1), c.put_head.ensures.count, c.requires.parent_in_bounds, length_parts ((width_of c.args.g)) ((entry_at c.args.img.now c.args.p)) c.args.parent); }
+put_before-requires c = record { parent_bound = omega (arith, c.requires.parent_bound); parent_in_bounds = omega (arith, filled_length (headed (goal.at.put_before-requires c).After-slice_known-2-1), c.put_head.ensures.count, c.requires.parent_in_bounds, length_parts ((width_of c.args.g)) ((entry_at c.args.img.now c.args.p)) c.args.parent) }
 
 pub overflow_add-end : goal.overflow_add-end
 overflow_add-end c = omega (arith, (begun (goal.at.overflow_add-end c).After-slice_known-3-1).room)
@@ -65,7 +65,7 @@ pub slice_bounds-put_name-start : goal.slice_bounds-put_name-start
 slice_bounds-put_name-start c = omega (arith, (begun (goal.at.slice_bounds-put_name-start c).After-slice_known-3-1).room, filled_length (begun (goal.at.slice_bounds-put_name-start c).After-slice_known-3-1))
 
 pub put_name-n-requires : goal.put_name-n-requires
-put_name-n-requires c = record { named_at = c.requires.named_at; p_in_bounds = rw (lent_length c.put_before.new.out ((c.args.at + c.put_head.result + c.put_before.result))) (omega (arith, filled_length (begun (goal.at.put_name-n-requires c).After-slice_known-3-1), room (goal.at.put_name-n-requires c).After-slice_known-3-1)); }
+put_name-n-requires c = record { named_at = c.requires.named_at; p_in_bounds = rw (lent_length c.put_before.new.out ((c.args.at + c.put_head.result + c.put_before.result))) (omega (arith, filled_length (begun (goal.at.put_name-n-requires c).After-slice_known-3-1), room (goal.at.put_name-n-requires c).After-slice_known-3-1)) }
 
 pub overflow_add-out : goal.overflow_add-out
 overflow_add-out c = omega (arith, (named (goal.at.overflow_add-out c).After-slice_known-4-1).room)
@@ -75,5 +75,8 @@ bounds-out-end c = omega (arith, filled_length (named (goal.at.bounds-out-end c)
 
 pub returns : goal.returns
 returns c =
-    record { path = ap (λ n. c.args.at + n) c.put_head.ensures.count; written = line_end ((width_of c.args.g)) c.args.out.now ((entry_at c.args.img.now c.args.p)) c.args.at c.args.from c.args.parent c.requires.parent_bound c.requires.parent_in_bounds (named (goal.at.returns c).After-slice_known-4-1)
-          (omega (arith, c.put_name-n.ensures.count, room (goal.at.returns c).After-slice_known-3-1)); }
+    record {
+      path = ap (λ n. c.args.at + n) c.put_head.ensures.count;
+      written = line_end ((width_of c.args.g)) c.args.out.now ((entry_at c.args.img.now c.args.p)) c.args.at c.args.from c.args.parent c.requires.parent_bound c.requires.parent_in_bounds (named (goal.at.returns c).After-slice_known-4-1)
+          (omega (arith, c.put_name-n.ensures.count, room (goal.at.returns c).After-slice_known-3-1));
+    }

@@ -30,10 +30,10 @@ pub returns-then-is_none : goal.returns-then-is_none
 returns-then-is_none c = sym (seek_none _ _ names_ordered _ _ c.loop-d.invariant (none_yes c.is_none.ensures c.if-is_none.true refl))
 
 pub order_to-o-requires : goal.order_to-o-requires
-order_to-o-requires c = record { directory_listed = c.requires.directory_listed; named_in = c.requires.ruled.names _ (stands (goal.at.order_to-o-requires c).Else-is_none).above (stands (goal.at.order_to-o-requires c).Else-is_none).inside; }
+order_to-o-requires c = record { directory_listed = c.requires.directory_listed; named_in = c.requires.ruled.names _ (stands (goal.at.order_to-o-requires c).Else-is_none).above (stands (goal.at.order_to-o-requires c).Else-is_none).inside }
 
 pub left_of-x-requires : goal.left_of-x-requires
-left_of-x-requires c = record { directory_listed = c.requires.directory_listed; x_bound = (stands (goal.at.left_of-x-requires c).Else-is_none).inside; }
+left_of-x-requires c = record { directory_listed = c.requires.directory_listed; x_bound = (stands (goal.at.left_of-x-requires c).Else-is_none).inside }
 
 pub loop-d-smaller-in-Less : goal.loop-d-smaller-in-Less
 loop-d-smaller-in-Less c = rw c.left_of-x.ensures (left_shorter _ _ (stands (goal.at.loop-d-smaller-in-Less c).Else-is_none))
@@ -49,7 +49,7 @@ returns-in-Same c =
     sym (seek_hit _ _ names_ordered _ _ c.loop-d.invariant (real (goal.at.returns-in-Same c).Else-is_none) l.0)
 
 pub right_of-x-requires : goal.right_of-x-requires
-right_of-x-requires c = record { directory_listed = c.requires.directory_listed; x_bound = (stands (goal.at.right_of-x-requires c).Else-is_none).inside; }
+right_of-x-requires c = record { directory_listed = c.requires.directory_listed; x_bound = (stands (goal.at.right_of-x-requires c).Else-is_none).inside }
 
 pub loop-d-smaller : goal.loop-d-smaller
 loop-d-smaller c = rw c.right_of-x.ensures (right_shorter _ _ (stands (goal.at.loop-d-smaller c).Else-is_none))

@@ -22,7 +22,7 @@ stands : (c : Else-is_none) → let p = c.args in Standing (entries_of p.d p.img
 stands c = descent_stands _ _ _ c.loop-d.invariant (real c)
 
 pub child_of-y-requires : goal.child_of-y-requires
-child_of-y-requires c = record { directory_listed = c.requires.directory_listed; x_bound = c.requires.parent_bound; }
+child_of-y-requires c = record { directory_listed = c.requires.directory_listed; x_bound = c.requires.parent_bound }
 
 pub loop-d-init : goal.loop-d-init
 loop-d-init c = rw c.child_of-y.ensures (descent_start _ _ _ c.requires.parent_bound c.requires.searchable)
@@ -31,10 +31,10 @@ pub returns-then-is_none : goal.returns-then-is_none
 returns-then-is_none c = descent_none _ _ _ c.loop-d.invariant (none_yes c.is_none.ensures c.if-is_none.true refl)
 
 pub order_to-o-requires : goal.order_to-o-requires
-order_to-o-requires c = record { directory_listed = c.requires.directory_listed; named_in = c.requires.ruled.names _ (stands (goal.at.order_to-o-requires c).Else-is_none).above (stands (goal.at.order_to-o-requires c).Else-is_none).inside; }
+order_to-o-requires c = record { directory_listed = c.requires.directory_listed; named_in = c.requires.ruled.names _ (stands (goal.at.order_to-o-requires c).Else-is_none).above (stands (goal.at.order_to-o-requires c).Else-is_none).inside }
 
 pub left_of-y-requires : goal.left_of-y-requires
-left_of-y-requires c = record { directory_listed = c.requires.directory_listed; x_bound = (stands (goal.at.left_of-y-requires c).Else-is_none).inside; }
+left_of-y-requires c = record { directory_listed = c.requires.directory_listed; x_bound = (stands (goal.at.left_of-y-requires c).Else-is_none).inside }
 
 pub loop-d-smaller-in-Less : goal.loop-d-smaller-in-Less
 loop-d-smaller-in-Less c = rw c.left_of-y.ensures (left_shorter _ _ (stands (goal.at.loop-d-smaller-in-Less c).Else-is_none))
@@ -50,7 +50,7 @@ returns-in-Same c =
     descent_hit _ _ _ c.loop-d.invariant (real (goal.at.returns-in-Same c).Else-is_none) l.0
 
 pub right_of-y-requires : goal.right_of-y-requires
-right_of-y-requires c = record { directory_listed = c.requires.directory_listed; x_bound = (stands (goal.at.right_of-y-requires c).Else-is_none).inside; }
+right_of-y-requires c = record { directory_listed = c.requires.directory_listed; x_bound = (stands (goal.at.right_of-y-requires c).Else-is_none).inside }
 
 pub loop-d-smaller : goal.loop-d-smaller
 loop-d-smaller c = rw c.right_of-y.ensures (right_shorter _ _ (stands (goal.at.loop-d-smaller c).Else-is_none))

@@ -14,7 +14,7 @@ pub overflow_mul-cells : goal.overflow_mul-cells
 overflow_mul-cells c = omega (arith, (let end_is' : c.cells.result * c.args.t.sectors ≡ cells_in (geometry_of c.args.t.geometry) * c.args.t.sectors = ap (λ k. k * c.args.t.sectors) c.cells.ensures in end_is'), cells_short c.requires, c.requires.sized.short)
 
 pub table_free-requires : goal.table_free-requires
-table_free-requires c = let l = c.requires in record { table_listed = mini_listed l _ (omega (arith, (let end_is' : c.cells.result * c.args.t.sectors ≡ cells_in (geometry_of c.args.t.geometry) * c.args.t.sectors = ap (λ k. k * c.args.t.sectors) c.cells.ensures in end_is'))); low_le_end = omega (arith, (let end_is' : c.cells.result * c.args.t.sectors ≡ cells_in (geometry_of c.args.t.geometry) * c.args.t.sectors = ap (λ k. k * c.args.t.sectors) c.cells.ensures in end_is'), cells_cover l); }
+table_free-requires c = let l = c.requires in record { table_listed = mini_listed l _ (omega (arith, (let end_is' : c.cells.result * c.args.t.sectors ≡ cells_in (geometry_of c.args.t.geometry) * c.args.t.sectors = ap (λ k. k * c.args.t.sectors) c.cells.ensures in end_is'))); low_le_end = omega (arith, (let end_is' : c.cells.result * c.args.t.sectors ≡ cells_in (geometry_of c.args.t.geometry) * c.args.t.sectors = ap (λ k. k * c.args.t.sectors) c.cells.ensures in end_is'), cells_cover l) }
 
 pub returns : goal.returns
 returns c =

@@ -22,7 +22,7 @@ right c =
 
 pub copy_table-requires : goal.copy_table-requires
 unfolding mini_cell_right
-copy_table-requires c = let l = c.requires.mini_listed in record { table_listed = mini_listed l _ (cells_cover l); limit_bound = (c.requires.units_bound, omega (arith, l.room)); limit_bound_2 = omega (arith, l.counts.count, units_few l); }
+copy_table-requires c = let l = c.requires.mini_listed in record { table_listed = mini_listed l _ (cells_cover l); limit_bound = (c.requires.units_bound, omega (arith, l.room)); limit_bound_2 = omega (arith, l.counts.count, units_few l) }
 
 pub returns : goal.returns
 unfolding mini_cell_right

@@ -60,7 +60,7 @@ overflow_cast-high-in-loop-i c = omega (arith, (pair (goal.at.overflow_cast-high
 pub first_alike-requires : goal.first_alike-requires
 first_alike-requires c =
     let p = pair (goal.at.first_alike-requires c).In-loop-i in
-    let n = c.name_units-n.ensures in record { named_at = p.first; named_at_2 = p.second; n_value = (n ∙ sym p.units, n); }
+    let n = c.name_units-n.ensures in record { named_at = p.first; named_at_2 = p.second; n_value = (n ∙ sym p.units, n) }
 
 pub overflow_cast-from : goal.overflow_cast-from
 overflow_cast-from c = omega (arith, c.first_alike.ensures.within, units_few (pair (goal.at.overflow_cast-from c).In-loop-i).first)

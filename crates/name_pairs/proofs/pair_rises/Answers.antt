@@ -3,7 +3,7 @@ use Rattle.name_pairs.proofs.Pairs.{order_less, order_same, order_more}
 use Rattle.name_pairs.proofs.pair_rises.Goals as goal
 
 pub compare_alike-requires : goal.compare_alike-requires
-compare_alike-requires c = record { named_at = c.requires.named_at; named_at_2 = c.requires.named_at_2; n_value = c.requires.n_value; alike = c.requires.alike; }
+compare_alike-requires c = record { named_at = c.requires.named_at; named_at_2 = c.requires.named_at_2; n_value = c.requires.n_value; alike = c.requires.alike }
 
 pub returns-in-Less : goal.returns-in-Less
 returns-in-Less c = order_less _ _ c.compare_alike.ensures c.in-Less.is

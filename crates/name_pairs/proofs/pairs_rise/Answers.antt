@@ -21,7 +21,7 @@ inside : (c : In-loop-i) → c.loop-i.i < 64
 inside c = omega (arith, c.loop-i-test.true, c.requires.few)
 
 pub look-requires : goal.look-requires
-look-requires c = record { pairs_named = c.requires; units_len = (refl, refl); }
+look-requires c = record { pairs_named = c.requires; units_len = (refl, refl) }
 
 pub loop-i-init : goal.loop-i-init
 loop-i-init c = (omega arith, below_none _)
@@ -65,7 +65,7 @@ overflow_cast-from c = omega (arith, (c.look.ensures.begun _ c.loop-i-test.true)
 pub pair_rises-requires : goal.pair_rises-requires
 pair_rises-requires c =
     let p = pair (goal.at.pair_rises-requires c).In-loop-i in
-    let n = c.look.ensures.counted _ c.loop-i-test.true in record { named_at = p.first; named_at_2 = p.second; n_value = (n ∙ sym p.units, n); alike = c.look.ensures.begun _ c.loop-i-test.true; }
+    let n = c.look.ensures.counted _ c.loop-i-test.true in record { named_at = p.first; named_at_2 = p.second; n_value = (n ∙ sym p.units, n); alike = c.look.ensures.begun _ c.loop-i-test.true }
 
 pub returns-then-not-pair_rises : goal.returns-then-not-pair_rises
 returns-then-not-pair_rises c = sym (below_not _ _ _ c.loop-i-test.true ((let told' : let a = c.args in pair_rises a.img.now a.low.now a.high.now c.loop-i.i ≡ c.pair_rises.result = sym c.pair_rises.ensures in told') ∙ c.if-not-pair_rises.true))

@@ -17,4 +17,4 @@ returns c =
     let a = c.args in
     let q = create (new_kind_of a.kind) a.path.now a.work.now in
     let l = create_any _ _ a.image.now a.work.now _ a.path.now c.create_in.ensures.result_value in
-    let m = c.create_in.ensures.img_after ∙ l.1 ∙ opened_image c.requires q refl in record { result_value = l.0 ∙ opened_reply c.requires q refl; image_after = m; open_volume = (opened_edited c.requires q m (wrote_none _ 0 _)).0; }
+    let m = c.create_in.ensures.img_after ∙ l.1 ∙ opened_image c.requires q refl in record { result_value = l.0 ∙ opened_reply c.requires q refl; image_after = m; open_volume = (opened_edited c.requires q m (wrote_none _ 0 _)).0 }

@@ -14,4 +14,4 @@ unfolding work_of
 returns c =
     let a = c.args in
     let q = read a.path.now a.offset a.out.now a.work.now in
-    let l = read_any _ _ a.image.now a.work.now a.out.now a.path.now a.offset in record { result_value = c.read_in.ensures.result_value ∙ l.0 ∙ opened_reply c.requires q refl; out_after = c.read_in.ensures.out_after ∙ l.1 ∙ opened_out c.requires q refl; }
+    let l = read_any _ _ a.image.now a.work.now a.out.now a.path.now a.offset in record { result_value = c.read_in.ensures.result_value ∙ l.0 ∙ opened_reply c.requires q refl; out_after = c.read_in.ensures.out_after ∙ l.1 ∙ opened_out c.requires q refl }

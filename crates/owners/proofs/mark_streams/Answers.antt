@@ -23,7 +23,7 @@ pub overflow_add-index : goal.overflow_add-index
 overflow_add-index c = omega (arith, c.index-in-loop-t.ensures, few (goal.at.overflow_add-index c).In-loop-t)
 
 pub mark_block-one-requires : goal.mark_block-one-requires
-mark_block-one-requires c = record { streams_markable = c.loop-t.invariant.marked.stands refl; x_le_end = (omega (arith, (let some' : c.loop-t.x.0 < c.least-end.result = omega (arith, c.least-end.ensures, c.index-in-loop-t.ensures, c.loop-t-test.true, c.index.ensures) in some')), (let inside' : let p = c.args in c.least-end.result ≤ (entries_of p.d p.img.now).count = omega (arith, c.least-end.ensures, c.count-n.ensures, count_is c.requires.directory) in inside'), (let near' : c.least-end.result ≤ c.loop-t.x.0 + 32 = omega (arith, c.least-end.ensures, c.index-in-loop-t.ensures) in near')); }
+mark_block-one-requires c = record { streams_markable = c.loop-t.invariant.marked.stands refl; x_le_end = (omega (arith, (let some' : c.loop-t.x.0 < c.least-end.result = omega (arith, c.least-end.ensures, c.index-in-loop-t.ensures, c.loop-t-test.true, c.index.ensures) in some')), (let inside' : let p = c.args in c.least-end.result ≤ (entries_of p.d p.img.now).count = omega (arith, c.least-end.ensures, c.count-n.ensures, count_is c.requires.directory) in inside'), (let near' : c.least-end.result ≤ c.loop-t.x.0 + 32 = omega (arith, c.least-end.ensures, c.index-in-loop-t.ensures) in near')) }
 
 pub returns-then-is_broken : goal.returns-then-is_broken
 returns-then-is_broken c = marking_broken c.loop-t.invariant (omega (arith, (let some' : c.loop-t.x.0 < c.least-end.result = omega (arith, c.least-end.ensures, c.index-in-loop-t.ensures, c.loop-t-test.true, c.index.ensures) in some'))) ((let within' : let p = c.args in c.least-end.result ≤ (volume_of p.t.geometry p.img.now).directory.count = rw (same_count c.args.d c.args.t.geometry c.args.img.now c.requires.same) at ((let inside' : let p = c.args in c.least-end.result ≤ (entries_of p.d p.img.now).count = omega (arith, c.least-end.ensures, c.count-n.ensures, count_is c.requires.directory) in inside')) in within')) c.mark_block-one.ensures (sym c.is_broken.ensures ∙ c.if-is_broken.true)

@@ -27,7 +27,7 @@ returns-in-Refused c =
     let n = summary_number p.image.now p.work.now r c.in-Refused.a o p.path.now in
     let x = pulse_for p.valve p.ticks in
     let m = addition_number p.image.now p.path.now p.work.now (refusal_number c.in-Refused.a) (refusal_some c.in-Refused.a) n x in
-    let k = addition_refused p.image.now p.path.now p.work.now (File c.in-Refused.a) n x in record { result_value = k.0; image_after = k.1; work_after = work_refused p.image.now p.work.now r c.in-Refused.a o _ m; }
+    let k = addition_refused p.image.now p.path.now p.work.now (File c.in-Refused.a) n x in record { result_value = k.0; image_after = k.1; work_after = work_refused p.image.now p.work.now r c.in-Refused.a o _ m }
 
 pub returns-in-Ready : goal.returns-in-Ready
 returns-in-Ready c =
@@ -36,4 +36,4 @@ returns-in-Ready c =
     let w = c.open_image.new.work in
     let x = pulse_for p.valve p.ticks in
     let l = subst Late (add_long w p.work.now (opened_long q) p.image.now p.path.now x) (late_add q.1.0 p.path.now x) in
-    let e = c.close.ensures ∙ ap (λ n. work_cleared (work_need n) c.add_in-r.new.work) c.add_in-r.auto.image in record { result_value = c.add_in-r.ensures.result_value ∙ reply_long w p.work.now (opened_long q) p.image.now p.path.now x; image_after = c.add_in-r.ensures.image_after ∙ added_long w p.work.now (opened_long q) p.image.now p.path.now x; work_after = work_closed q (add_answer p.image.now p.path.now x p.work.now) l c.add_in-r.ensures.wrote e; }
+    let e = c.close.ensures ∙ ap (λ n. work_cleared (work_need n) c.add_in-r.new.work) c.add_in-r.auto.image in record { result_value = c.add_in-r.ensures.result_value ∙ reply_long w p.work.now (opened_long q) p.image.now p.path.now x; image_after = c.add_in-r.ensures.image_after ∙ added_long w p.work.now (opened_long q) p.image.now p.path.now x; work_after = work_closed q (add_answer p.image.now p.path.now x p.work.now) l c.add_in-r.ensures.wrote e }

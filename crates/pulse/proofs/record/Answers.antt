@@ -22,11 +22,11 @@ returns-in-Refused c =
     let r = c.open_image.new.work in
     let o = opening_refused p.image.now p.work.now r _ c.open_image.ensures c.in-Refused.is in
     let n = summary_number p.image.now p.work.now r c.in-Refused.a o p.path.now in
-    let m = record_number p.image.now p.path.now p.work.now (refusal_number c.in-Refused.a) (refusal_some c.in-Refused.a) n p.number.0 in record { result_value = record_refused p.image.now p.path.now p.work.now (File c.in-Refused.a) n p.number.0; work_after = work_refused p.image.now p.work.now r c.in-Refused.a o _ m; }
+    let m = record_number p.image.now p.path.now p.work.now (refusal_number c.in-Refused.a) (refusal_some c.in-Refused.a) n p.number.0 in record { result_value = record_refused p.image.now p.path.now p.work.now (File c.in-Refused.a) n p.number.0; work_after = work_refused p.image.now p.work.now r c.in-Refused.a o _ m }
 
 pub returns-in-Ready : goal.returns-in-Ready
 returns-in-Ready c =
     let p = c.args in
     let q = (let ready' : let p = c.args in OpeningRight p.image.now p.work.now c.open_image.new.work (Ready c.in-Ready.v) = let p = c.args in opening_ready p.image.now p.work.now _ _ c.open_image.ensures c.in-Ready.is in ready') in
     let w = c.open_image.new.work in
-    let l = subst Late (record_long w p.work.now (opened_long q) p.image.now p.path.now p.number.0) (late_record q.1.0 p.path.now p.number.0) in record { result_value = c.record_in-r.ensures.result_value ∙ record_reply_long w p.work.now (opened_long q) p.image.now p.path.now p.number.0; work_after = work_closed q (record_answer p.image.now p.path.now p.number.0 p.work.now) l c.record_in-r.ensures.wrote c.close.ensures; }
+    let l = subst Late (record_long w p.work.now (opened_long q) p.image.now p.path.now p.number.0) (late_record q.1.0 p.path.now p.number.0) in record { result_value = c.record_in-r.ensures.result_value ∙ record_reply_long w p.work.now (opened_long q) p.image.now p.path.now p.number.0; work_after = work_closed q (record_answer p.image.now p.path.now p.number.0 p.work.now) l c.record_in-r.ensures.wrote c.close.ensures }

@@ -16,7 +16,7 @@ loop-i-init c =
     (search rules, (refl, sym (unit_first (space_at a.v a.img.now (kind_of a.start)).cell a.n (number_in a.start) (omega arith))))
 
 pub cell_of-u-requires : goal.cell_of-u-requires
-cell_of-u-requires c = record { readied = c.requires.readied; u_bound = rw (c.loop-i.invariant.1.0, c.loop-i.invariant.1.1) (unit_below _ _ c.args.n (number_in c.args.start) c.requires.n_value c.loop-i.i (omega arith)); }
+cell_of-u-requires c = record { readied = c.requires.readied; u_bound = rw (c.loop-i.invariant.1.0, c.loop-i.invariant.1.1) (unit_below _ _ c.args.n (number_in c.args.start) c.requires.n_value c.loop-i.i (omega arith)) }
 
 pub loop-i-preserved : goal.loop-i-preserved
 loop-i-preserved c =

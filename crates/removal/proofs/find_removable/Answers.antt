@@ -7,7 +7,7 @@ pub returns-in_default : goal.returns-in_default
 returns-in_default c = found_none _ _ _ c.find_entry-f.ensures.answer c.find_entry-f.ensures.inside c.in_default.is
 
 pub filled-requires : goal.filled-requires
-filled-requires c = let k = found_entry _ _ _ c.find_entry-f.ensures.answer c.find_entry-f.ensures.inside c.in-At.is in record { directory_listed = c.requires.directory_listed; x_bound = k.0; }
+filled-requires c = let k = found_entry _ _ _ c.find_entry-f.ensures.answer c.find_entry-f.ensures.inside c.in-At.is in record { directory_listed = c.requires.directory_listed; x_bound = k.0 }
 
 pub returns-then-filled : goal.returns-then-filled
 returns-then-filled c =

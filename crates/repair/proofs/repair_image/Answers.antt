@@ -27,13 +27,13 @@ allowed c =
     ap (λ h. length_allowed h (length c.args.image.now)) (sym c.version_of-g.ensures) ∙ said_yes (ap not c.if-not-length_allowed.false) c.length_allowed.ensures
 
 pub length_allowed-requires : goal.length_allowed-requires
-length_allowed-requires c = let i = c.args.image.now in record { bytes_nonzero = omega (arith, (own_value i c.version_of-g.ensures).wide); bytes_bound = own_narrow i c.version_of-g.ensures; }
+length_allowed-requires c = let i = c.args.image.now in record { bytes_nonzero = omega (arith, (own_value i c.version_of-g.ensures).wide); bytes_bound = own_narrow i c.version_of-g.ensures }
 
 pub returns-then-not-length_allowed : goal.returns-then-not-length_allowed
 returns-then-not-length_allowed c =
     let p = c.args in let r = early p.image.now p.spare.now p.work.now BadLength
     (length_refused p.image.now p.spare.now p.work.now (ap (λ h. length_allowed h (length p.image.now)) (sym c.version_of-g.ensures) ∙ said_no (ap not c.if-not-length_allowed.true) c.length_allowed.ensures))
-    (inl refl) in record { result_value = r.0; image_after = r.1.0; work_after = r.1.1.0; spare_after = r.1.1.1; }
+    (inl refl) in record { result_value = r.0; image_after = r.1.0; work_after = r.1.1.0; spare_after = r.1.1.1 }
 
 pub work_need-need-requires : goal.work_need-need-requires
 work_need-need-requires c = omega (arith, allowed_short _ c.args.image.now (allowed (goal.at.work_need-need-requires c).Else-not-length_allowed))
@@ -42,7 +42,7 @@ pub returns-then-not-enough : goal.returns-then-not-enough
 returns-then-not-enough c =
     let p = c.args in let r = early p.image.now p.spare.now p.work.now ShortWork
     (short_refused p.image.now p.spare.now p.work.now (allowed (goal.at.returns-then-not-enough c).Else-not-length_allowed) (said_no (ap not c.if-not-enough.true) ((let tested' : let p = c.args in (leb c.work_need-need.result (length p.work.now) && leb (length p.image.now) (length p.spare.now)) ≡ enough p.image.now p.spare.now p.work.now = rw c.work_need-need.ensures in tested'))))
-    (inr refl) in record { result_value = r.0; image_after = r.1.0; work_after = r.1.1.0; spare_after = r.1.1.1; }
+    (inr refl) in record { result_value = r.0; image_after = r.1.0; work_after = r.1.1.0; spare_after = r.1.1.1 }
 
 pub slice_bounds-repair_by-end : goal.slice_bounds-repair_by-end
 slice_bounds-repair_by-end c = ((let fits' : let p = c.args in (work_need (length p.image.now) ≤ length p.work.now) × (length p.image.now ≤ length p.spare.now) = let p = c.args in enough_is p.image.now p.spare.now p.work.now ((let room' : let p = c.args in enough p.image.now p.spare.now p.work.now ≡ true = said_yes (ap not c.if-not-enough.false) ((let tested' : let p = c.args in (leb c.work_need-need.result (length p.work.now) && leb (length p.image.now) (length p.spare.now)) ≡ enough p.image.now p.spare.now p.work.now = rw c.work_need-need.ensures in tested')) in room')) in fits')).1
@@ -74,4 +74,4 @@ returns c =
     let ok = allowed (goal.at.returns c).Else-not-length_allowed in
     let n = length p.image.now in
     let s = take n p.spare.now in
-    let l : n ≤ length s = omega (arith, length-take-le n p.spare.now ((let fits' : let p = c.args in (work_need (length p.image.now) ≤ length p.work.now) × (length p.image.now ≤ length p.spare.now) = let p = c.args in enough_is p.image.now p.spare.now p.work.now ((let room' : let p = c.args in enough p.image.now p.spare.now p.work.now ≡ true = said_yes (ap not c.if-not-enough.false) ((let tested' : let p = c.args in (leb c.work_need-need.result (length p.work.now) && leb (length p.image.now) (length p.spare.now)) ≡ enough p.image.now p.spare.now p.work.now = rw c.work_need-need.ensures in tested')) in room')) in fits')).1) in record { result_value = same_reply p.image.now s p.spare.now p.work.now p.work.now l ((let fits' : let p = c.args in (work_need (length p.image.now) ≤ length p.work.now) × (length p.image.now ≤ length p.spare.now) = let p = c.args in enough_is p.image.now p.spare.now p.work.now ((let room' : let p = c.args in enough p.image.now p.spare.now p.work.now ≡ true = said_yes (ap not c.if-not-enough.false) ((let tested' : let p = c.args in (leb c.work_need-need.result (length p.work.now) && leb (length p.image.now) (length p.spare.now)) ≡ enough p.image.now p.spare.now p.work.now = rw c.work_need-need.ensures in tested')) in room')) in fits')).1 refl c.repair_by-r.ensures.reply; image_after = same_image p.image.now s p.spare.now p.work.now p.work.now l ((let fits' : let p = c.args in (work_need (length p.image.now) ≤ length p.work.now) × (length p.image.now ≤ length p.spare.now) = let p = c.args in enough_is p.image.now p.spare.now p.work.now ((let room' : let p = c.args in enough p.image.now p.spare.now p.work.now ≡ true = said_yes (ap not c.if-not-enough.false) ((let tested' : let p = c.args in (leb c.work_need-need.result (length p.work.now) && leb (length p.image.now) (length p.spare.now)) ≡ enough p.image.now p.spare.now p.work.now = rw c.work_need-need.ensures in tested')) in room')) in fits')).1 refl c.repair_by-r.ensures.image; work_after = work_clear p.image.now p.spare.now p.work.now ok ((let room' : let p = c.args in enough p.image.now p.spare.now p.work.now ≡ true = said_yes (ap not c.if-not-enough.false) ((let tested' : let p = c.args in (leb c.work_need-need.result (length p.work.now) && leb (length p.image.now) (length p.spare.now)) ≡ enough p.image.now p.spare.now p.work.now = rw c.work_need-need.ensures in tested')) in room')) _ (c.zero_first.ensures ∙ ap (λ k. work_cleared k c.repair_by-r.new.work) c.work_need-need.ensures ∙ cleared_same (work_need n) c.repair_by-r.ensures.wrote); spare_after = spare_clear p.image.now p.spare.now p.work.now ok ((let room' : let p = c.args in enough p.image.now p.spare.now p.work.now ≡ true = said_yes (ap not c.if-not-enough.false) ((let tested' : let p = c.args in (leb c.work_need-need.result (length p.work.now) && leb (length p.image.now) (length p.spare.now)) ≡ enough p.image.now p.spare.now p.work.now = rw c.work_need-need.ensures in tested')) in room')) _ (lent_clear n p.spare.now c.repair_by-r.new.after ((let fits' : let p = c.args in (work_need (length p.image.now) ≤ length p.work.now) × (length p.image.now ≤ length p.spare.now) = let p = c.args in enough_is p.image.now p.spare.now p.work.now ((let room' : let p = c.args in enough p.image.now p.spare.now p.work.now ≡ true = said_yes (ap not c.if-not-enough.false) ((let tested' : let p = c.args in (leb c.work_need-need.result (length p.work.now) && leb (length p.image.now) (length p.spare.now)) ≡ enough p.image.now p.spare.now p.work.now = rw c.work_need-need.ensures in tested')) in room')) in fits')).1 c.repair_by-r.auto.after _ c.clear.ensures); }
+    let l : n ≤ length s = omega (arith, length-take-le n p.spare.now ((let fits' : let p = c.args in (work_need (length p.image.now) ≤ length p.work.now) × (length p.image.now ≤ length p.spare.now) = let p = c.args in enough_is p.image.now p.spare.now p.work.now ((let room' : let p = c.args in enough p.image.now p.spare.now p.work.now ≡ true = said_yes (ap not c.if-not-enough.false) ((let tested' : let p = c.args in (leb c.work_need-need.result (length p.work.now) && leb (length p.image.now) (length p.spare.now)) ≡ enough p.image.now p.spare.now p.work.now = rw c.work_need-need.ensures in tested')) in room')) in fits')).1) in record { result_value = same_reply p.image.now s p.spare.now p.work.now p.work.now l ((let fits' : let p = c.args in (work_need (length p.image.now) ≤ length p.work.now) × (length p.image.now ≤ length p.spare.now) = let p = c.args in enough_is p.image.now p.spare.now p.work.now ((let room' : let p = c.args in enough p.image.now p.spare.now p.work.now ≡ true = said_yes (ap not c.if-not-enough.false) ((let tested' : let p = c.args in (leb c.work_need-need.result (length p.work.now) && leb (length p.image.now) (length p.spare.now)) ≡ enough p.image.now p.spare.now p.work.now = rw c.work_need-need.ensures in tested')) in room')) in fits')).1 refl c.repair_by-r.ensures.reply; image_after = same_image p.image.now s p.spare.now p.work.now p.work.now l ((let fits' : let p = c.args in (work_need (length p.image.now) ≤ length p.work.now) × (length p.image.now ≤ length p.spare.now) = let p = c.args in enough_is p.image.now p.spare.now p.work.now ((let room' : let p = c.args in enough p.image.now p.spare.now p.work.now ≡ true = said_yes (ap not c.if-not-enough.false) ((let tested' : let p = c.args in (leb c.work_need-need.result (length p.work.now) && leb (length p.image.now) (length p.spare.now)) ≡ enough p.image.now p.spare.now p.work.now = rw c.work_need-need.ensures in tested')) in room')) in fits')).1 refl c.repair_by-r.ensures.image; work_after = work_clear p.image.now p.spare.now p.work.now ok ((let room' : let p = c.args in enough p.image.now p.spare.now p.work.now ≡ true = said_yes (ap not c.if-not-enough.false) ((let tested' : let p = c.args in (leb c.work_need-need.result (length p.work.now) && leb (length p.image.now) (length p.spare.now)) ≡ enough p.image.now p.spare.now p.work.now = rw c.work_need-need.ensures in tested')) in room')) _ (c.zero_first.ensures ∙ ap (λ k. work_cleared k c.repair_by-r.new.work) c.work_need-need.ensures ∙ cleared_same (work_need n) c.repair_by-r.ensures.wrote); spare_after = spare_clear p.image.now p.spare.now p.work.now ok ((let room' : let p = c.args in enough p.image.now p.spare.now p.work.now ≡ true = said_yes (ap not c.if-not-enough.false) ((let tested' : let p = c.args in (leb c.work_need-need.result (length p.work.now) && leb (length p.image.now) (length p.spare.now)) ≡ enough p.image.now p.spare.now p.work.now = rw c.work_need-need.ensures in tested')) in room')) _ (lent_clear n p.spare.now c.repair_by-r.new.after ((let fits' : let p = c.args in (work_need (length p.image.now) ≤ length p.work.now) × (length p.image.now ≤ length p.spare.now) = let p = c.args in enough_is p.image.now p.spare.now p.work.now ((let room' : let p = c.args in enough p.image.now p.spare.now p.work.now ≡ true = said_yes (ap not c.if-not-enough.false) ((let tested' : let p = c.args in (leb c.work_need-need.result (length p.work.now) && leb (length p.image.now) (length p.spare.now)) ≡ enough p.image.now p.spare.now p.work.now = rw c.work_need-need.ensures in tested')) in room')) in fits')).1 c.repair_by-r.auto.after _ c.clear.ensures) }

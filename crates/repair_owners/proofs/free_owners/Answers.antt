@@ -9,7 +9,7 @@ use Rattle.repair_owners.proofs.Asking.{system_breaks, rest_breaks, streams_deci
 use Rattle.repair_owners.proofs.free_owners.Goals as goal
 
 pub returns-in_default : goal.returns-in_default
-returns-in_default c = let l = c.system_holds.ensures in record { image = system_breaks _ _ (system_wrong l c.in_default.is); wrote = l.wrote; }
+returns-in_default c = let l = c.system_holds.ensures in record { image = system_breaks _ _ (system_wrong l c.in_default.is); wrote = l.wrote }
 
 pub cells_rest-requires : goal.cells_rest-requires
 cells_rest-requires c = (system_marked c.system_holds.ensures c.in-Right.is).lists.minis
@@ -17,12 +17,12 @@ cells_rest-requires c = (system_marked c.system_holds.ensures c.in-Right.is).lis
 pub free_marked-requires : goal.free_marked-requires
 free_marked-requires c =
     let l = c.system_holds.ensures in
-    let e = c.in-Right.is in record { system_marked = system_marked l e; img_value = mini_cells_lem l e (system_entries _ _ (system_right_lem l e)); }
+    let e = c.in-Right.is in record { system_marked = system_marked l e; img_value = mini_cells_lem l e (system_entries _ _ (system_right_lem l e)) }
 
 pub returns-then-cells_rest : goal.returns-then-cells_rest
 returns-then-cells_rest c =
     let l = c.system_holds.ensures in
-    let e = c.in-Right.is in record { image = c.free_marked.ensures.image ∙ freed_own l e ∙ streams_decide _ _ (system_right_lem l e) (sym ((let rest' : let p = c.args in c.cells_rest.result ≡ rest_free (volume (geometry_of p.g) p.img.now).minis = c.cells_rest.ensures ∙ ap rest_free (system_minis c.system_holds.ensures c.in-Right.is) in rest')) ∙ c.if-cells_rest.true); wrote = wrote_two l.wrote c.free_marked.ensures.wrote; }
+    let e = c.in-Right.is in record { image = c.free_marked.ensures.image ∙ freed_own l e ∙ streams_decide _ _ (system_right_lem l e) (sym ((let rest' : let p = c.args in c.cells_rest.result ≡ rest_free (volume (geometry_of p.g) p.img.now).minis = c.cells_rest.ensures ∙ ap rest_free (system_minis c.system_holds.ensures c.in-Right.is) in rest')) ∙ c.if-cells_rest.true); wrote = wrote_two l.wrote c.free_marked.ensures.wrote }
 
 pub returns-else-cells_rest : goal.returns-else-cells_rest
-returns-else-cells_rest c = let l = c.system_holds.ensures in record { image = rest_breaks _ _ (system_right_lem l c.in-Right.is) (sym ((let rest' : let p = c.args in c.cells_rest.result ≡ rest_free (volume (geometry_of p.g) p.img.now).minis = c.cells_rest.ensures ∙ ap rest_free (system_minis c.system_holds.ensures c.in-Right.is) in rest')) ∙ c.if-cells_rest.false); wrote = l.wrote; }
+returns-else-cells_rest c = let l = c.system_holds.ensures in record { image = rest_breaks _ _ (system_right_lem l c.in-Right.is) (sym ((let rest' : let p = c.args in c.cells_rest.result ≡ rest_free (volume (geometry_of p.g) p.img.now).minis = c.cells_rest.ensures ∙ ap rest_free (system_minis c.system_holds.ensures c.in-Right.is) in rest')) ∙ c.if-cells_rest.false); wrote = l.wrote }

@@ -34,10 +34,10 @@ passed c =
     }
 
 pub returns-then-not-tables_hold : goal.returns-then-not-tables_hold
-returns-then-not-tables_hold c = record { image = sym (first_left _ _ (said_no (ap not c.if-not-tables_hold.true) c.tables_hold.ensures.answer)); wrote = tables_wrote _ _ c.tables_hold.ensures.left c.tables_hold.auto.work; }
+returns-then-not-tables_hold c = record { image = sym (first_left _ _ (said_no (ap not c.if-not-tables_hold.true) c.tables_hold.ensures.answer)); wrote = tables_wrote _ _ c.tables_hold.ensures.left c.tables_hold.auto.work }
 
 pub tables_of-t-requires : goal.tables_of-t-requires
-tables_of-t-requires c = let l = (passed (goal.at.tables_of-t-requires c).Else-not-tables_hold).listed in record { image_sized = l.sized; img_bound = l.few; }
+tables_of-t-requires c = let l = (passed (goal.at.tables_of-t-requires c).Else-not-tables_hold).listed in record { image_sized = l.sized; img_bound = l.few }
 
 pub overflow_mul-cells : goal.overflow_mul-cells
 overflow_mul-cells c =
@@ -47,10 +47,10 @@ overflow_mul-cells c =
 pub free_rest-requires : goal.free_rest-requires
 free_rest-requires c =
     let p = c.args in
-    let l = (passed (goal.at.free_rest-requires c).Else-not-tables_hold).listed in rw (c.tables_of-t.ensures, cells (goal.at.free_rest-requires c).After-fat_count) (record { table_room = fat_room {t = tables_of p.g p.img.now} l; from_le_to = l.covers; })
+    let l = (passed (goal.at.free_rest-requires c).Else-not-tables_hold).listed in rw (c.tables_of-t.ensures, cells (goal.at.free_rest-requires c).After-fat_count) (record { table_room = fat_room {t = tables_of p.g p.img.now} l; from_le_to = l.covers })
 
 pub repair_directory-requires : goal.repair_directory-requires
 repair_directory-requires c = first_passed _ (passed (goal.at.repair_directory-requires c).Else-not-tables_hold) ((let freed' : let p = c.args in c.free_rest.new.img ≡ rest_freed (volume (geometry_of p.g) p.img.now).sectors p.img.now = let p = c.args in (rw (c.tables_of-t.ensures, cells (goal.at.repair_directory-requires c).After-fat_count) at c.free_rest.ensures) ∙ first_is p.g (passed (goal.at.repair_directory-requires c).Else-not-tables_hold) in freed'))
 
 pub returns : goal.returns
-returns c = let p = c.args in record { image = c.repair_directory.ensures.image ∙ ap (second_step (geometry_of p.g)) ((let freed' : let p = c.args in c.free_rest.new.img ≡ rest_freed (volume (geometry_of p.g) p.img.now).sectors p.img.now = let p = c.args in (rw (c.tables_of-t.ensures, cells (goal.at.returns c).After-fat_count) at c.free_rest.ensures) ∙ first_is p.g (passed (goal.at.returns c).Else-not-tables_hold) in freed')) ∙ sym (first_taken _ _ (said_yes (ap not c.if-not-tables_hold.false) c.tables_hold.ensures.answer)); wrote = wrote_two (tables_wrote _ _ c.tables_hold.ensures.left c.tables_hold.auto.work) (rw c.free_rest.auto.img at c.repair_directory.ensures.wrote); }
+returns c = let p = c.args in record { image = c.repair_directory.ensures.image ∙ ap (second_step (geometry_of p.g)) ((let freed' : let p = c.args in c.free_rest.new.img ≡ rest_freed (volume (geometry_of p.g) p.img.now).sectors p.img.now = let p = c.args in (rw (c.tables_of-t.ensures, cells (goal.at.returns c).After-fat_count) at c.free_rest.ensures) ∙ first_is p.g (passed (goal.at.returns c).Else-not-tables_hold) in freed')) ∙ sym (first_taken _ _ (said_yes (ap not c.if-not-tables_hold.false) c.tables_hold.ensures.answer)); wrote = wrote_two (tables_wrote _ _ c.tables_hold.ensures.left c.tables_hold.auto.work) (rw c.free_rest.auto.img at c.repair_directory.ensures.wrote) }

@@ -17,7 +17,7 @@ pub entries_hold-requires : goal.entries_hold-requires
 entries_hold-requires c = c.requires.hold
 
 pub returns-in_default : goal.returns-in_default
-returns-in_default c = let l = c.entries_hold.ensures in record { image = sym (third_left _ _ (system_wrong l c.in_default.is)); wrote = l.wrote; }
+returns-in_default c = let l = c.entries_hold.ensures in record { image = sym (third_left _ _ (system_wrong l c.in_default.is)); wrote = l.wrote }
 
 pub cells_rest-idle-requires : goal.cells_rest-idle-requires
 cells_rest-idle-requires c = (system_marked c.entries_hold.ensures c.in-Right.is).lists.minis
@@ -25,12 +25,12 @@ cells_rest-idle-requires c = (system_marked c.entries_hold.ensures c.in-Right.is
 pub free_marked-requires : goal.free_marked-requires
 free_marked-requires c =
     let l = c.entries_hold.ensures in
-    let e = c.in-Right.is in record { system_marked = system_marked l e; img_value = mini_cells_lem l e (system_right_lem l e); }
+    let e = c.in-Right.is in record { system_marked = system_marked l e; img_value = mini_cells_lem l e (system_right_lem l e) }
 
 pub returns-then-idle : goal.returns-then-idle
 returns-then-idle c =
     let l = c.entries_hold.ensures in
-    let e = c.in-Right.is in record { image = c.free_marked.ensures.image ∙ freed_own l e ∙ third_idle _ _ (λ i. omega (arith, c.slice_known-1.given i)) c.requires.tables c.requires.directory (system_right_lem l e) (sym ((let rest' : let p = c.args in c.cells_rest-idle.result ≡ rest_free (volume (geometry_of p.g) p.img.now).minis = c.cells_rest-idle.ensures ∙ ap rest_free (system_minis c.entries_hold.ensures c.in-Right.is) in rest')) ∙ c.if-idle.true); wrote = wrote_two l.wrote c.free_marked.ensures.wrote; }
+    let e = c.in-Right.is in record { image = c.free_marked.ensures.image ∙ freed_own l e ∙ third_idle _ _ (λ i. omega (arith, c.slice_known-1.given i)) c.requires.tables c.requires.directory (system_right_lem l e) (sym ((let rest' : let p = c.args in c.cells_rest-idle.result ≡ rest_free (volume (geometry_of p.g) p.img.now).minis = c.cells_rest-idle.ensures ∙ ap rest_free (system_minis c.entries_hold.ensures c.in-Right.is) in rest')) ∙ c.if-idle.true); wrote = wrote_two l.wrote c.free_marked.ensures.wrote }
 
 pub overflow_mul-cells : goal.overflow_mul-cells
 overflow_mul-cells c = rw c.cells.ensures (omega (arith, rest_short c.args.g c.entries_hold.ensures c.in-Right.is, c.requires.hold.listed.sized.short))
@@ -38,14 +38,14 @@ overflow_mul-cells c = rw c.cells.ensures (omega (arith, rest_short c.args.g c.e
 pub free_rest-requires : goal.free_rest-requires
 free_rest-requires c =
     let l = c.entries_hold.ensures in
-    let e = c.in-Right.is in rw c.cells.ensures (record { table_room = rest_room _ l e; from_le_to = rest_some _ l e; })
+    let e = c.in-Right.is in rw c.cells.ensures (record { table_room = rest_room _ l e; from_le_to = rest_some _ l e })
 
 pub free_owners-requires : goal.free_owners-requires
 free_owners-requires c =
     let p = c.requires.hold in
-    let k = c.free_rest.auto.img in record { image_sized = sized_same k p.listed.sized; img_in_bounds = rw k (omega (arith, p.whole, c.entries_hold.ensures.wrote.long)); }
+    let k = c.free_rest.auto.img in record { image_sized = sized_same k p.listed.sized; img_in_bounds = rw k (omega (arith, p.whole, c.entries_hold.ensures.wrote.long)) }
 
 pub returns : goal.returns
 returns c =
     let p = c.args in
-    let l = c.entries_hold.ensures in record { image = c.free_owners.ensures.image ∙ ap (fourth_step (geometry_of p.g)) ((let freed' : let p = c.args in c.free_rest.new.img ≡ rest_freed (volume (geometry_of p.g) p.img.now).minis p.img.now = let p = c.args in (rw c.cells.ensures at c.free_rest.ensures) ∙ third_is p.g c.entries_hold.ensures c.in-Right.is in freed')) ∙ sym (third_taken _ _ (system_right_lem l c.in-Right.is)); wrote = wrote_two l.wrote (rw c.free_rest.auto.img at c.free_owners.ensures.wrote); }
+    let l = c.entries_hold.ensures in record { image = c.free_owners.ensures.image ∙ ap (fourth_step (geometry_of p.g)) ((let freed' : let p = c.args in c.free_rest.new.img ≡ rest_freed (volume (geometry_of p.g) p.img.now).minis p.img.now = let p = c.args in (rw c.cells.ensures at c.free_rest.ensures) ∙ third_is p.g c.entries_hold.ensures c.in-Right.is in freed')) ∙ sym (third_taken _ _ (system_right_lem l c.in-Right.is)); wrote = wrote_two l.wrote (rw c.free_rest.auto.img at c.free_owners.ensures.wrote) }

@@ -49,7 +49,7 @@ loop-d-preserved c =
     let k = sym c.has_colour.ensures in
     rw c.next-x.ensures
     (elim c.if-has_colour.branch [
-      then-has_colour w ↦ black_put c.requires.directory_listed a (inside (goal.at.loop-d-preserved c).In-loop-d) c.requires.img_value (rw e at (k ∙ w.if-has_colour.true)) _ (rw e at (w.img-is ∙ w.put_black.ensures))
+      | then-has_colour w ↦ black_put c.requires.directory_listed a (inside (goal.at.loop-d-preserved c).In-loop-d) c.requires.img_value (rw e at (k ∙ w.if-has_colour.true)) _ (rw e at (w.img-is ∙ w.put_black.ensures))
       | else-has_colour w ↦ rw w.img-is (black_left c.requires.directory_listed a (inside (goal.at.loop-d-preserved c).In-loop-d) (rw e at (k ∙ w.if-has_colour.false)))
     ])
 

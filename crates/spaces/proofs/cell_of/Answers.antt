@@ -9,11 +9,11 @@ use Rattle.spaces.proofs.cell_of.Goals as goal
 
 pub cell_at-requires : goal.cell_at-requires
 unfolding volume sector_space
-cell_at-requires c = record { fat_listed = c.requires.readied.lists.mini.fat; s_bound = sector_cell c.requires.readied _ (rw c.in-Sector.is at c.requires.u_bound); }
+cell_at-requires c = record { fat_listed = c.requires.readied.lists.mini.fat; s_bound = sector_cell c.requires.readied _ (rw c.in-Sector.is at c.requires.u_bound) }
 
 pub mini_cell-requires : goal.mini_cell-requires
 unfolding volume sector_space
-mini_cell-requires c = record { mini_listed = c.requires.readied.lists.minis; m_bound = mini_cell_lem c.requires.readied _ (rw c.in-Mini.is at c.requires.u_bound); }
+mini_cell-requires c = record { mini_listed = c.requires.readied.lists.minis; m_bound = mini_cell_lem c.requires.readied _ (rw c.in-Mini.is at c.requires.u_bound) }
 
 pub returns-in-Sector : goal.returns-in-Sector
 unfolding volume sector_space

@@ -11,7 +11,7 @@ pub loop-j-init : goal.loop-j-init
 loop-j-init c = (omega arith, split_none)
 
 pub add_lane-a-requires : goal.add_lane-a-requires
-add_lane-a-requires c = record { j_bound = (omega (arith, c.loop-j.invariant.0, c.requires, c), c.requires.1, c.requires.2); split_ready = c.loop-j.invariant.1; }
+add_lane-a-requires c = record { j_bound = (omega (arith, c.loop-j.invariant.0, c.requires, c), c.requires.1, c.requires.2); split_ready = c.loop-j.invariant.1 }
 
 pub returns-in_default : goal.returns-in_default
 returns-in_default c = λ v m. let w = rw c.in_default.is at c.add_lane-a.ensures in below_longer _ _ _ (omega (arith, c)) (w v m)

@@ -61,7 +61,7 @@ pub overflow_sub-end : goal.overflow_sub-end
 overflow_sub-end c = omega (arith, c.loop-i-test.true)
 
 pub copy_part-requires : goal.copy_part-requires
-copy_part-requires c = record { n_in_bounds = omega (arith, ((let more' : (0 < c.least-run.result) × (c.loop-i.i + c.least-run.result ≤ length c.args.out.now) = piece_more (asked (goal.at.copy_part-requires c).After-kind_for-kind) c.loop-i.invariant c.unit_bytes-bytes.ensures c.loop-i-test.true c.least-run.ensures in more')).1, (let long' : length c.loop-i.out ≡ length c.args.out.now = piece_long (asked (goal.at.copy_part-requires c).After-kind_for-kind) c.loop-i.invariant in long')); n_in_bounds_2 = omega (arith, c.least-run.ensures, room (goal.at.copy_part-requires c).After-unit_place, (let inner' : (c.args.offset + c.loop-i.i) % c.unit_bytes-bytes.result < c.unit_bytes-bytes.result = mod-lt _ (some (goal.at.copy_part-requires c).After-unit_bytes-bytes) in inner')); }
+copy_part-requires c = record { n_in_bounds = omega (arith, ((let more' : (0 < c.least-run.result) × (c.loop-i.i + c.least-run.result ≤ length c.args.out.now) = piece_more (asked (goal.at.copy_part-requires c).After-kind_for-kind) c.loop-i.invariant c.unit_bytes-bytes.ensures c.loop-i-test.true c.least-run.ensures in more')).1, (let long' : length c.loop-i.out ≡ length c.args.out.now = piece_long (asked (goal.at.copy_part-requires c).After-kind_for-kind) c.loop-i.invariant in long')); n_in_bounds_2 = omega (arith, c.least-run.ensures, room (goal.at.copy_part-requires c).After-unit_place, (let inner' : (c.args.offset + c.loop-i.i) % c.unit_bytes-bytes.result < c.unit_bytes-bytes.result = mod-lt _ (some (goal.at.copy_part-requires c).After-unit_bytes-bytes) in inner')) }
 
 pub overflow_add-i : goal.overflow_add-i
 overflow_add-i c = omega (arith, ((let more' : (0 < c.least-run.result) × (c.loop-i.i + c.least-run.result ≤ length c.args.out.now) = piece_more (asked (goal.at.overflow_add-i c).After-kind_for-kind) c.loop-i.invariant c.unit_bytes-bytes.ensures c.loop-i-test.true c.least-run.ensures in more')).1)

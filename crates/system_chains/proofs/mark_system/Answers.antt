@@ -15,7 +15,7 @@ use Rattle.system_chains.proofs.mark_system.Goals as goal
 
 pub mark_directory-a-requires : goal.mark_directory-a-requires
 unfolding sector_space
-mark_directory-a-requires c = let l = c.requires.system_markable in record { sectors_markable = l.sectors; n_value = l.directory.count ∙ ap (λ g. length (directory_sectors_of (geometry_of g) c.args.img.now)) l.same; img_value = c.requires.img_value; }
+mark_directory-a-requires c = let l = c.requires.system_markable in record { sectors_markable = l.sectors; n_value = l.directory.count ∙ ap (λ g. length (directory_sectors_of (geometry_of g) c.args.img.now)) l.same; img_value = c.requires.img_value }
 
 pub mark_mini_fat-b-requires : goal.mark_mini_fat-b-requires
 unfolding sector_space

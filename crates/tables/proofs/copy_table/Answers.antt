@@ -32,7 +32,7 @@ loop-i-init c = (passed_none, copy_none _ _ _ _ (omega (arith, c.requires.limit_
 pub block_at-b-requires : goal.block_at-b-requires
 block_at-b-requires c =
     let h = c.loop-i-test.true in
-    let l = table_kept c.loop-i.invariant.1.wrote c.requires.limit_bound.0 c.requires.table_listed in record { le_bytes = (l.sized.wide, l.sized.narrow); g_in_bounds = l.room _ h; low_lt_end = h; }
+    let l = table_kept c.loop-i.invariant.1.wrote c.requires.limit_bound.0 c.requires.table_listed in record { le_bytes = (l.sized.wide, l.sized.narrow); g_in_bounds = l.room _ h; low_lt_end = h }
 
 pub overflow_add-to : goal.overflow_add-to
 overflow_add-to c = omega (arith, room (goal.at.overflow_add-to c).After-block_at-b)
@@ -71,4 +71,4 @@ loop-i-preserved c =
     (right_block _ _ c.loop-i.invariant.0 (block (goal.at.loop-i-preserved c).After-block_at-b) answer, copy_block _ c.loop-i.invariant.1 (omega (arith, c.requires.limit_bound)) (block (goal.at.loop-i-preserved c).After-block_at-b) copied)
 
 pub returns : goal.returns
-returns c = let e : c.loop-i.i ≡ c.args.limit = omega (arith, c.loop-i.invariant.0.to, c.loop-i-test.false) in record { answer = passed_all c.loop-i.invariant.0 c.loop-i-test.false; wrote = c.loop-i.invariant.1.wrote; holds = rw e at c.loop-i.invariant.1.holds; }
+returns c = let e : c.loop-i.i ≡ c.args.limit = omega (arith, c.loop-i.invariant.0.to, c.loop-i-test.false) in record { answer = passed_all c.loop-i.invariant.0 c.loop-i-test.false; wrote = c.loop-i.invariant.1.wrote; holds = rw e at c.loop-i.invariant.1.holds }

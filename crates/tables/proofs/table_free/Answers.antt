@@ -24,7 +24,7 @@ pub overflow_add-low : goal.overflow_add-low
 overflow_add-low c = omega (arith, turn (goal.at.overflow_add-low c).In-loop-i)
 
 pub block_at-b-requires : goal.block_at-b-requires
-block_at-b-requires c = let l = c.requires.table_listed in record { le_bytes = (l.sized.wide, l.sized.narrow); g_in_bounds = l.room _ (turn (goal.at.block_at-b-requires c).In-loop-i); low_lt_end = turn (goal.at.block_at-b-requires c).In-loop-i; }
+block_at-b-requires c = let l = c.requires.table_listed in record { le_bytes = (l.sized.wide, l.sized.narrow); g_in_bounds = l.room _ (turn (goal.at.block_at-b-requires c).In-loop-i); low_lt_end = turn (goal.at.block_at-b-requires c).In-loop-i }
 
 pub overflow_mul-k : goal.overflow_mul-k
 overflow_mul-k c = omega (arith, (block (goal.at.overflow_mul-k c).After-block_at-b).inside, c.requires.table_listed.sized.short)

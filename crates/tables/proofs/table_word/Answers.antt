@@ -32,7 +32,7 @@ cell_index-requires c = search rules
 
 pub word_in-requires : goal.word_in-requires
 unfolding table_cell
-word_in-requires c = record { image_sized = c.requires.image_sized; s_bound = rw c.cell_sector.ensures c.requires.i_bound; i_bound = rw c.cell_index.ensures (cell_index c.requires.image_sized c.args.i); }
+word_in-requires c = record { image_sized = c.requires.image_sized; s_bound = rw c.cell_sector.ensures c.requires.i_bound; i_bound = rw c.cell_index.ensures (cell_index c.requires.image_sized c.args.i) }
 
 pub returns : goal.returns
 unfolding table_cell

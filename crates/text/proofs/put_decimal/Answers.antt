@@ -13,4 +13,4 @@ pub loop-i-preserved : goal.loop-i-preserved
 loop-i-preserved c = writing_next c.loop-i.invariant c.loop-i-test.true
 
 pub returns : goal.returns
-returns c = record { count = c.decimal_length-k.ensures; written = writing_end c.loop-i.invariant (omega arith); }
+returns c = record { count = c.decimal_length-k.ensures; written = writing_end c.loop-i.invariant (omega arith) }

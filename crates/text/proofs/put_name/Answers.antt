@@ -48,4 +48,4 @@ loop-i-preserved c = put_next c.loop-i.invariant (inside (goal.at.loop-i-preserv
 pub returns : goal.returns
 returns c =
     let w = c.loop-i.invariant in
-    let h : length ((name (entry_at c.args.img.now c.args.p))) ≤ c.loop-i.i = omega (arith, c.loop-i-test.false, c.name_units-n.ensures) in record { count = printed_end w.printed h; written = put_end w h; }
+    let h : length ((name (entry_at c.args.img.now c.args.p))) ≤ c.loop-i.i = omega (arith, c.loop-i-test.false, c.name_units-n.ensures) in record { count = printed_end w.printed h; written = put_end w h }

@@ -24,7 +24,7 @@ pub bounds-out-0 : goal.bounds-out-0
 bounds-out-0 c = omega (arith, length_plain c.args.u (is_plain (goal.at.bounds-out-0 c).Then-plain), c.requires)
 
 pub returns-then-plain : goal.returns-then-plain
-returns-then-plain c = record { count = sym (length_plain _ (is_plain (goal.at.returns-then-plain c).Then-plain)); written = put_plain _ _ (is_plain (goal.at.returns-then-plain c).Then-plain) c.requires; }
+returns-then-plain c = record { count = sym (length_plain _ (is_plain (goal.at.returns-then-plain c).Then-plain)); written = put_plain _ _ (is_plain (goal.at.returns-then-plain c).Then-plain) c.requires }
 
 pub bounds-out-0-2 : goal.bounds-out-0-2
 bounds-out-0-2 c = omega (arith, room (goal.at.bounds-out-0-2 c).Else-plain)
@@ -42,4 +42,4 @@ pub bounds-out-4 : goal.bounds-out-4
 bounds-out-4 c = simp length-set (omega (arith, room (goal.at.bounds-out-4 c).Else-plain))
 
 pub returns : goal.returns
-returns c = record { count = sym (length_coded _ (is_coded (goal.at.returns c).Else-plain)); written = put_coded _ _ (is_coded (goal.at.returns c).Else-plain) c.requires c.hex_digit.ensures c.hex_digit-2.ensures c.hex_digit-3.ensures c.hex_digit-4.ensures; }
+returns c = record { count = sym (length_coded _ (is_coded (goal.at.returns c).Else-plain)); written = put_coded _ _ (is_coded (goal.at.returns c).Else-plain) c.requires c.hex_digit.ensures c.hex_digit-2.ensures c.hex_digit-3.ensures c.hex_digit-4.ensures }

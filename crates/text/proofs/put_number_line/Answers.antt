@@ -49,4 +49,4 @@ pub overflow_add-result-2 : goal.overflow_add-result-2
 overflow_add-result-2 c = omega (arith, (let room' : length c.args.word.now + length (decimal c.args.n) + 1 ≤ length c.args.out.now = let w = c.args.word.now in let d = decimal c.args.n in omega (arith, c.requires, length-append (w ++ d) (newline ∷ []), length-append w d) in room'), c.put_decimal-m.ensures.count)
 
 pub returns : goal.returns
-returns c = let w = filled_set (numbered (goal.at.returns c).After-slice_known-3-1) newline (omega (arith, (let room' : length c.args.word.now + length (decimal c.args.n) + 1 ≤ length c.args.out.now = let w = c.args.word.now in let d = decimal c.args.n in omega (arith, c.requires, length-append (w ++ d) (newline ∷ []), length-append w d) in room'), c.put_decimal-m.ensures.count)) in record { count = w.count; written = w.bytes; }
+returns c = let w = filled_set (numbered (goal.at.returns c).After-slice_known-3-1) newline (omega (arith, (let room' : length c.args.word.now + length (decimal c.args.n) + 1 ≤ length c.args.out.now = let w = c.args.word.now in let d = decimal c.args.n in omega (arith, c.requires, length-append (w ++ d) (newline ∷ []), length-append w d) in room'), c.put_decimal-m.ensures.count)) in record { count = w.count; written = w.bytes }

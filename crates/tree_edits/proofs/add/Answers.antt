@@ -9,7 +9,7 @@ is_none-requires c = search rules
 
 pub returns-then-is_none : goal.returns-then-is_none
 unfolding added added_count
-returns-then-is_none c = rw (sym c.is_none.ensures ∙ c.if-is_none.true) (record { value = refl; work_after = refl; })
+returns-then-is_none c = rw (sym c.is_none.ensures ∙ c.if-is_none.true) (record { value = refl; work_after = refl })
 
 pub offset_bounds-work-n : goal.offset_bounds-work-n
 unfolding added added_count
@@ -25,4 +25,4 @@ overflow_add-result c = search rules
 
 pub returns : goal.returns
 unfolding added added_count
-returns c = rw (sym c.is_none.ensures ∙ c.if-is_none.false) (record { value = refl; work_after = refl; })
+returns c = rw (sym c.is_none.ensures ∙ c.if-is_none.false) (record { value = refl; work_after = refl })

@@ -13,7 +13,7 @@ pub loop-d-init : goal.loop-d-init
 loop-d-init c = heir_start _ _ _ c.requires.x_bound c.requires.standing
 
 pub right_of-right-requires : goal.right_of-right-requires
-right_of-right-requires c = record { directory_listed = c.requires.directory_listed; x_bound = c.loop-d.invariant.stands.inside; }
+right_of-right-requires c = record { directory_listed = c.requires.directory_listed; x_bound = c.loop-d.invariant.stands.inside }
 
 pub returns-then-is_none : goal.returns-then-is_none
 returns-then-is_none c = heir_end _ _ _ _ _ c.loop-d.invariant (none_yes c.is_none.ensures c.if-is_none.true c.right_of-right.ensures)

@@ -31,10 +31,10 @@ pub bounds-work-i : goal.bounds-work-i
 bounds-work-i c = let r = gather_room _ _ _ _ (here (goal.at.bounds-work-i c).In-loop-i) in let f = (here (goal.at.bounds-work-i c).In-loop-i).upto in let h = c.loop-i-test.true in omega (arith, r, h)
 
 pub left_of-left-requires : goal.left_of-left-requires
-left_of-left-requires c = let g = here (goal.at.left_of-left-requires c).In-loop-i in record { directory_listed = g.listed; x_bound = (g.stands _ c.loop-i-test.true).inside; }
+left_of-left-requires c = let g = here (goal.at.left_of-left-requires c).In-loop-i in record { directory_listed = g.listed; x_bound = (g.stands _ c.loop-i-test.true).inside }
 
 pub right_of-right-requires : goal.right_of-right-requires
-right_of-right-requires c = let g = here (goal.at.right_of-right-requires c).In-loop-i in record { directory_listed = g.listed; x_bound = (g.stands _ c.loop-i-test.true).inside; }
+right_of-right-requires c = let g = here (goal.at.right_of-right-requires c).In-loop-i in record { directory_listed = g.listed; x_bound = (g.stands _ c.loop-i-test.true).inside }
 
 pub add-n-requires-in-loop-i : goal.add-n-requires-in-loop-i
 add-n-requires-in-loop-i c = gather_room _ _ _ _ (here (goal.at.add-n-requires-in-loop-i c).In-loop-i)
@@ -55,4 +55,4 @@ loop-i-preserved c =
     c.right_of-right.ensures c.add-n-in-loop-i-2.ensures.value c.add-n-in-loop-i-2.ensures.work_after
 
 pub returns : goal.returns
-returns c = record { listed = gather_end _ _ _ _ (done (goal.at.returns c).After-loop-i) (omega arith); wrote = (done (goal.at.returns c).After-loop-i).wrote; }
+returns c = record { listed = gather_end _ _ _ _ (done (goal.at.returns c).After-loop-i) (omega arith); wrote = (done (goal.at.returns c).After-loop-i).wrote }

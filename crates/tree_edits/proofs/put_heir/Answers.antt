@@ -6,7 +6,7 @@ pub put_slot-requires : goal.put_slot-requires
 put_slot-requires c = c.requires.entry_placed
 
 pub free_place-requires : goal.free_place-requires
-free_place-requires c = let k = c.put_slot.auto.img in record { entry_placed = placed_kept c.requires.entry_placed_2 k; entry_placed_2 = placed_kept c.requires.entry_placed_3 k; }
+free_place-requires c = let k = c.put_slot.auto.img in record { entry_placed = placed_kept c.requires.entry_placed_2 k; entry_placed_2 = placed_kept c.requires.entry_placed_3 k }
 
 pub put_slot-requires-2 : goal.put_slot-requires-2
 put_slot-requires-2 c = placed_kept c.requires.entry_placed_2 (c.free_place.auto.img ∙ c.put_slot.auto.img)

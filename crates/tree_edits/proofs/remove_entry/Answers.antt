@@ -6,13 +6,13 @@ use Rattle.tree_edits.proofs.Whole.{it_stands, owner_inside, parent_inside, sibl
 use Rattle.tree_edits.proofs.remove_entry.Goals as goal
 
 pub child_of-top-requires : goal.child_of-top-requires
-child_of-top-requires c = record { directory_listed = c.requires.directory_listed; x_bound = parent_inside c.requires.removable; }
+child_of-top-requires c = record { directory_listed = c.requires.directory_listed; x_bound = parent_inside c.requires.removable }
 
 pub list_siblings-n-requires : goal.list_siblings-n-requires
-list_siblings-n-requires c = record { directory_listed = c.requires.directory_listed; d_bound = c.requires.d_bound; sibling_tree = rw c.child_of-top.ensures (sibling_tree c.requires.removable); }
+list_siblings-n-requires c = record { directory_listed = c.requires.directory_listed; d_bound = c.requires.d_bound; sibling_tree = rw c.child_of-top.ensures (sibling_tree c.requires.removable) }
 
 pub unlink-requires : goal.unlink-requires
-unlink-requires c = record { directory_listed = list_stays c.requires.directory_listed c.list_siblings-n.ensures.wrote c.requires.d_bound; owner_bound = owner_inside c.requires.removable; standing = it_stands c.requires.removable; }
+unlink-requires c = record { directory_listed = list_stays c.requires.directory_listed c.list_siblings-n.ensures.wrote c.requires.d_bound; owner_bound = owner_inside c.requires.removable; standing = it_stands c.requires.removable }
 
 pub blacken-requires : goal.blacken-requires
 blacken-requires c =
@@ -31,5 +31,8 @@ put_blank_entry-requires c =
 
 pub returns : goal.returns
 returns c =
-    let l = list_stays c.requires.directory_listed c.list_siblings-n.ensures.wrote c.requires.d_bound in record { image = removed_listed c.requires.removable c.requires.directory_listed.sized (λ i. omega (arith, c.slice_known-1.given i)) l (rw c.child_of-top.ensures at c.list_siblings-n.ensures.listed)
-          c.unlink.ensures c.blacken.ensures c.place.ensures c.put_blank_entry.ensures (λ i. omega (arith, c.slice_known-6-1.given i)); wrote = c.list_siblings-n.ensures.wrote; }
+    let l = list_stays c.requires.directory_listed c.list_siblings-n.ensures.wrote c.requires.d_bound in record {
+      image = removed_listed c.requires.removable c.requires.directory_listed.sized (λ i. omega (arith, c.slice_known-1.given i)) l (rw c.child_of-top.ensures at c.list_siblings-n.ensures.listed)
+          c.unlink.ensures c.blacken.ensures c.place.ensures c.put_blank_entry.ensures (λ i. omega (arith, c.slice_known-6-1.given i));
+      wrote = c.list_siblings-n.ensures.wrote;
+    }

@@ -17,13 +17,13 @@ pub loop-n-init : goal.loop-n-init
 loop-n-init c = picking_start c.requires.k_le_need
 
 pub next_free-s-requires : goal.next_free-s-requires
-next_free-s-requires c = let l = c.loop-n.invariant in record { readied = ready_kept l.wrote ((let room' : let a = c.args in (a.need ≤ a.v.stream) × (a.need ≤ length a.work.now) = (c.requires.need_le_stream, omega (arith, c.requires.need_le_stream, c.requires.readied.stream.room)) in room')).0 c.requires.readied; from_bound = omega (arith, l.within); }
+next_free-s-requires c = let l = c.loop-n.invariant in record { readied = ready_kept l.wrote ((let room' : let a = c.args in (a.need ≤ a.v.stream) × (a.need ≤ length a.work.now) = (c.requires.need_le_stream, omega (arith, c.requires.need_le_stream, c.requires.readied.stream.room)) in room')).0 c.requires.readied; from_bound = omega (arith, l.within) }
 
 pub overflow_add-looked : goal.overflow_add-looked
 overflow_add-looked c = omega (arith, picking_cells c.loop-n.invariant c.args.kind c.next_free-s.ensures c.loop-n-test.true, limit_end c.requires.readied c.args.kind)
 
 pub returns-in_default : goal.returns-in_default
-returns-in_default c = let d = picking_none c.loop-n.invariant c.args.kind c.next_free-s.ensures c.loop-n-test.true c.in_default.is in record { value = d.0; work_after = d.1; wrote = c.loop-n.invariant.wrote; }
+returns-in_default c = let d = picking_none c.loop-n.invariant c.args.kind c.next_free-s.ensures c.loop-n-test.true c.in_default.is in record { value = d.0; work_after = d.1; wrote = c.loop-n.invariant.wrote }
 
 pub offset_bounds-work-n : goal.offset_bounds-work-n
 offset_bounds-work-n c = omega (arith, in_work (goal.at.offset_bounds-work-n c).In-loop-n)
@@ -43,4 +43,4 @@ loop-n-preserved c = rw (c.number.ensures, c.index-from.ensures) (picking_step c
 pub returns : goal.returns
 returns c =
     let l = c.loop-n.invariant in
-    let d = picking_full l c.loop-n-test.false in record { value = d.0; work_after = d.1; wrote = l.wrote; }
+    let d = picking_full l c.loop-n-test.false in record { value = d.0; work_after = d.1; wrote = l.wrote }

@@ -31,7 +31,7 @@ pub at-u-requires : goal.at-u-requires
 at-u-requires c = omega (arith, (let limit_is' : let a = c.args in c.unit_count-count.result ≡ (space_at a.v a.img.now a.kind).limit = c.unit_count-count.ensures ∙ count_same c.requires.readied c.args.kind in limit_is'), limit_end c.requires.readied c.args.kind)
 
 pub cell_of-cell-requires : goal.cell_of-cell-requires
-cell_of-cell-requires c = let u = unit_is (goal.at.cell_of-cell-requires c).After-at-u in record { readied = c.requires.readied; u_bound = rw (u.0, u.1) (omega (arith, (let limit_is' : let a = c.args in c.unit_count-count.result ≡ (space_at a.v a.img.now a.kind).limit = c.unit_count-count.ensures ∙ count_same c.requires.readied c.args.kind in limit_is'))); }
+cell_of-cell-requires c = let u = unit_is (goal.at.cell_of-cell-requires c).After-at-u in record { readied = c.requires.readied; u_bound = rw (u.0, u.1) (omega (arith, (let limit_is' : let a = c.args in c.unit_count-count.result ≡ (space_at a.v a.img.now a.kind).limit = c.unit_count-count.ensures ∙ count_same c.requires.readied c.args.kind in limit_is'))) }
 
 pub overflow_add-looked : goal.overflow_add-looked
 overflow_add-looked c = omega (arith, c.loop-place.invariant.count)

@@ -45,7 +45,7 @@ version_of-g-requires c = search rules
 
 pub length_allowed-requires : goal.length_allowed-requires
 unfolding work_need
-length_allowed-requires c = record { bytes_nonzero = omega (arith, wide (goal.at.length_allowed-requires c).After-version_of-g); bytes_bound = narrow (goal.at.length_allowed-requires c).After-version_of-g; }
+length_allowed-requires c = record { bytes_nonzero = omega (arith, wide (goal.at.length_allowed-requires c).After-version_of-g); bytes_bound = narrow (goal.at.length_allowed-requires c).After-version_of-g }
 
 pub returns-then-not-length_allowed : goal.returns-then-not-length_allowed
 unfolding work_need
@@ -61,7 +61,7 @@ returns-then-work-need c = own (goal.at.returns-then-work-need c).After-version_
 
 pub table_groups-requires : goal.table_groups-requires
 unfolding work_need
-table_groups-requires c = let i = c.args.img.now in record { image_sized = allowed_sized ((geometry_of c.version_of-g.result)) i (own_value i c.version_of-g.ensures) (narrow (goal.at.table_groups-requires c).After-version_of-g) (allowed (goal.at.table_groups-requires c).Else-not-length_allowed); img_in_bounds = (let enough' : let p = c.args in work_need (length p.img.now) ≤ length p.work.now = omega (arith, c.if-work-need.false, c.work_need-need.ensures) in enough'); }
+table_groups-requires c = let i = c.args.img.now in record { image_sized = allowed_sized ((geometry_of c.version_of-g.result)) i (own_value i c.version_of-g.ensures) (narrow (goal.at.table_groups-requires c).After-version_of-g) (allowed (goal.at.table_groups-requires c).Else-not-length_allowed); img_in_bounds = (let enough' : let p = c.args in work_need (length p.img.now) ≤ length p.work.now = omega (arith, c.if-work-need.false, c.work_need-need.ensures) in enough') }
 
 pub zero_first-requires : goal.zero_first-requires
 unfolding work_need

@@ -63,7 +63,7 @@ pub overflow_sub-end : goal.overflow_sub-end
 overflow_sub-end c = let h = c.loop-i-test.true in omega arith
 
 pub copy_part-requires : goal.copy_part-requires
-copy_part-requires c = record { n_in_bounds = omega (arith, c.least-run.ensures, inside (goal.at.copy_part-requires c).After-unit_place, inner (goal.at.copy_part-requires c).After-unit_place); n_in_bounds_2 = ((let more' : (0 < c.least-run.result) × (c.loop-i.i + c.least-run.result ≤ length c.args.bytes.now) = let w = inner (goal.at.copy_part-requires c).After-unit_place in let e = c.least-run.ensures in let h = c.loop-i-test.true in (omega (arith, w, e, h), omega (arith, e, h)) in more')).1; }
+copy_part-requires c = record { n_in_bounds = omega (arith, c.least-run.ensures, inside (goal.at.copy_part-requires c).After-unit_place, inner (goal.at.copy_part-requires c).After-unit_place); n_in_bounds_2 = ((let more' : (0 < c.least-run.result) × (c.loop-i.i + c.least-run.result ≤ length c.args.bytes.now) = let w = inner (goal.at.copy_part-requires c).After-unit_place in let e = c.least-run.ensures in let h = c.loop-i-test.true in (omega (arith, w, e, h), omega (arith, e, h)) in more')).1 }
 
 pub overflow_add-i : goal.overflow_add-i
 overflow_add-i c = omega (arith, ((let more' : (0 < c.least-run.result) × (c.loop-i.i + c.least-run.result ≤ length c.args.bytes.now) = let w = inner (goal.at.overflow_add-i c).After-unit_place in let e = c.least-run.ensures in let h = c.loop-i-test.true in (omega (arith, w, e, h), omega (arith, e, h)) in more')).1)

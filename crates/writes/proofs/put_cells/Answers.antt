@@ -19,13 +19,13 @@ pub bounds-work-j : goal.bounds-work-j
 bounds-work-j c = let r = c.requires.writable.room in omega arith
 
 pub cell_value-requires : goal.cell_value-requires
-cell_value-requires c = record { to_in_bounds = c.requires.writable.room; j_lt_to = c.loop-j-test.true; }
+cell_value-requires c = record { to_in_bounds = c.requires.writable.room; j_lt_to = c.loop-j-test.true }
 
 pub put_cell-requires : goal.put_cell-requires
 put_cell-requires c =
     let u = (let unit_is' : let a = c.args in (kind_of c.of-u.result ≡ a.kind) × (number_in c.of-u.result ≡ get_or a.work.now c.loop-j.j 0) = unit_as c.args.kind _ c.of-u.ensures in unit_is') in
     let p = c.requires.writable in
-    let h = c.loop-j-test.true in rw (u.0, u.1) (record { cell_listed = p.cells c.loop-j.j h; u_in_bounds = omega (arith, p.cell_room c.loop-j.j h, c.loop-j.invariant.long); })
+    let h = c.loop-j-test.true in rw (u.0, u.1) (record { cell_listed = p.cells c.loop-j.j h; u_in_bounds = omega (arith, p.cell_room c.loop-j.j h, c.loop-j.invariant.long) })
 
 pub overflow_add-j : goal.overflow_add-j
 overflow_add-j c = omega arith

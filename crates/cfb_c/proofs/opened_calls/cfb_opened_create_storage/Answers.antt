@@ -8,4 +8,4 @@ pub create_opened-requires : goal.create_opened-requires
 create_opened-requires c = numbers_open c.unpack.ensures c.requires
 
 pub returns : goal.returns
-returns c = record { result_value = ap plain c.number.ensures ∙ c.create_opened.ensures.result_value; image_after = c.create_opened.ensures.image_after; open_volume = open_numbers c.unpack.ensures c.create_opened.ensures.open_volume; }
+returns c = record { result_value = ap plain c.number.ensures ∙ c.create_opened.ensures.result_value; image_after = c.create_opened.ensures.image_after; open_volume = open_numbers c.unpack.ensures c.create_opened.ensures.open_volume }

@@ -19,8 +19,8 @@ refused-requires c = search rules
 
 pub returns-in-Done : goal.returns-in-Done
 unfolding plain counted
-returns-in-Done c = record { count_after = sym (ap list_reply c.in-Done.is) ∙ c.list_opened.ensures.result_value; out_after = c.list_opened.ensures.out_after; open_volume = open_numbers c.unpack.ensures c.list_opened.ensures.open_volume; wrote = c.list_opened.ensures.wrote; }
+returns-in-Done c = record { count_after = sym (ap list_reply c.in-Done.is) ∙ c.list_opened.ensures.result_value; out_after = c.list_opened.ensures.out_after; open_volume = open_numbers c.unpack.ensures c.list_opened.ensures.open_volume; wrote = c.list_opened.ensures.wrote }
 
 pub returns-in-Refused : goal.returns-in-Refused
 unfolding plain counted
-returns-in-Refused c = record { count_after = rw (c.refused.ensures.value, c.refused.ensures.count_after) (sym (ap list_reply c.in-Refused.is) ∙ c.list_opened.ensures.result_value); out_after = c.list_opened.ensures.out_after; open_volume = open_numbers c.unpack.ensures c.list_opened.ensures.open_volume; wrote = c.list_opened.ensures.wrote; }
+returns-in-Refused c = record { count_after = rw (c.refused.ensures.value, c.refused.ensures.count_after) (sym (ap list_reply c.in-Refused.is) ∙ c.list_opened.ensures.result_value); out_after = c.list_opened.ensures.out_after; open_volume = open_numbers c.unpack.ensures c.list_opened.ensures.open_volume; wrote = c.list_opened.ensures.wrote }

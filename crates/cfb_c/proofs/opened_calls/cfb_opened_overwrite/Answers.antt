@@ -8,4 +8,4 @@ pub overwrite_opened-requires : goal.overwrite_opened-requires
 overwrite_opened-requires c = numbers_open c.unpack.ensures c.requires
 
 pub returns : goal.returns
-returns c = record { result_value = ap plain c.number.ensures ∙ c.overwrite_opened.ensures.result_value; image_after = c.overwrite_opened.ensures.image_after; open_volume = open_numbers c.unpack.ensures c.overwrite_opened.ensures.open_volume; wrote = c.overwrite_opened.ensures.wrote; }
+returns c = record { result_value = ap plain c.number.ensures ∙ c.overwrite_opened.ensures.result_value; image_after = c.overwrite_opened.ensures.image_after; open_volume = open_numbers c.unpack.ensures c.overwrite_opened.ensures.open_volume; wrote = c.overwrite_opened.ensures.wrote }

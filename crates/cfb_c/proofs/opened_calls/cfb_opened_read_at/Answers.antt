@@ -19,8 +19,8 @@ refused-requires c = search rules
 
 pub returns-in-Done : goal.returns-in-Done
 unfolding plain counted
-returns-in-Done c = record { count_after = sym (ap read_reply c.in-Done.is) ∙ c.read_at_opened.ensures.result_value; out_after = c.read_at_opened.ensures.out_after; }
+returns-in-Done c = record { count_after = sym (ap read_reply c.in-Done.is) ∙ c.read_at_opened.ensures.result_value; out_after = c.read_at_opened.ensures.out_after }
 
 pub returns-in-Refused : goal.returns-in-Refused
 unfolding plain counted
-returns-in-Refused c = record { count_after = rw (c.refused.ensures.value, c.refused.ensures.count_after) (sym (ap read_reply c.in-Refused.is) ∙ c.read_at_opened.ensures.result_value); out_after = c.read_at_opened.ensures.out_after; }
+returns-in-Refused c = record { count_after = rw (c.refused.ensures.value, c.refused.ensures.count_after) (sym (ap read_reply c.in-Refused.is) ∙ c.read_at_opened.ensures.result_value); out_after = c.read_at_opened.ensures.out_after }

@@ -8,4 +8,4 @@ pub remove_opened-requires : goal.remove_opened-requires
 remove_opened-requires c = numbers_open c.unpack.ensures c.requires
 
 pub returns : goal.returns
-returns c = record { result_value = ap plain c.number.ensures ∙ c.remove_opened.ensures.result_value; image_after = c.remove_opened.ensures.image_after; open_volume = open_numbers c.unpack.ensures c.remove_opened.ensures.open_volume; wrote = c.remove_opened.ensures.wrote; }
+returns c = record { result_value = ap plain c.number.ensures ∙ c.remove_opened.ensures.result_value; image_after = c.remove_opened.ensures.image_after; open_volume = open_numbers c.unpack.ensures c.remove_opened.ensures.open_volume; wrote = c.remove_opened.ensures.wrote }

@@ -8,4 +8,4 @@ pub set_length_opened-requires : goal.set_length_opened-requires
 set_length_opened-requires c = numbers_open c.unpack.ensures c.requires
 
 pub returns : goal.returns
-returns c = record { result_value = ap plain c.number.ensures ∙ c.set_length_opened.ensures.result_value; image_after = c.set_length_opened.ensures.image_after; open_volume = open_numbers c.unpack.ensures c.set_length_opened.ensures.open_volume; wrote = c.set_length_opened.ensures.wrote; }
+returns c = record { result_value = ap plain c.number.ensures ∙ c.set_length_opened.ensures.result_value; image_after = c.set_length_opened.ensures.image_after; open_volume = open_numbers c.unpack.ensures c.set_length_opened.ensures.open_volume; wrote = c.set_length_opened.ensures.wrote }

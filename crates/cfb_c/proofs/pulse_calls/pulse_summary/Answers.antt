@@ -14,8 +14,8 @@ pulse_number-requires c = search rules
 
 pub returns-in-Done : goal.returns-in-Done
 unfolding number_alone summary_given
-returns-in-Done c = record { total_after = sym (ap summary_reply_of c.in-Done.is) ∙ c.summary.ensures.result_value; work_after = c.summary.ensures.work_after; }
+returns-in-Done c = record { total_after = sym (ap summary_reply_of c.in-Done.is) ∙ c.summary.ensures.result_value; work_after = c.summary.ensures.work_after }
 
 pub returns-in-Refused : goal.returns-in-Refused
 unfolding number_alone summary_given
-returns-in-Refused c = record { total_after = ap number_alone c.pulse_number.ensures ∙ sym (ap summary_reply_of c.in-Refused.is) ∙ c.summary.ensures.result_value; work_after = c.summary.ensures.work_after; }
+returns-in-Refused c = record { total_after = ap number_alone c.pulse_number.ensures ∙ sym (ap summary_reply_of c.in-Refused.is) ∙ c.summary.ensures.result_value; work_after = c.summary.ensures.work_after }

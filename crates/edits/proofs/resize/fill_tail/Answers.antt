@@ -5,7 +5,7 @@ use Rattle.edits.proofs.resize.fill_tail.Goals as goal
 
 pub zero_from-requires : goal.zero_from-requires
 unfolding tail_filled
-zero_from-requires c = record { writable = c.requires.writable; from_bound = c.requires.size_bound c.if-size-new.true; }
+zero_from-requires c = record { writable = c.requires.writable; from_bound = c.requires.size_bound c.if-size-new.true }
 
 pub returns-then-size-new : goal.returns-then-size-new
 unfolding tail_filled

@@ -11,7 +11,7 @@ kind_is : (c : After-kind_for) → let a = c.args in c.kind_for.result ≡ kind_
 kind_is c = c.kind_for.ensures ∙ ap kind_for c.greatest.ensures
 
 pub rewrite-requires : goal.rewrite-requires
-rewrite-requires c = let t = c.requires.gathered in rw (kind_is (goal.at.rewrite-requires c).After-kind_for) (record { writable = resize_writable c.requires.fact c.requires.stream_at c.args.new c.requires.value _ _ t.many t.wanted c.requires.fact.ready t; entry_room = resize_entry c.requires.fact c.requires.stream_at c.args.new c.requires.value _ _ t.many t.wanted c.requires.fact.ready t; size_bound = resize_tail c.requires.fact c.requires.stream_at c.args.new c.requires.value _ _ t.many t.wanted c.requires.fact.ready t; })
+rewrite-requires c = let t = c.requires.gathered in rw (kind_is (goal.at.rewrite-requires c).After-kind_for) (record { writable = resize_writable c.requires.fact c.requires.stream_at c.args.new c.requires.value _ _ t.many t.wanted c.requires.fact.ready t; entry_room = resize_entry c.requires.fact c.requires.stream_at c.args.new c.requires.value _ _ t.many t.wanted c.requires.fact.ready t; size_bound = resize_tail c.requires.fact c.requires.stream_at c.args.new c.requires.value _ _ t.many t.wanted c.requires.fact.ready t })
 
 pub returns : goal.returns
 returns c =

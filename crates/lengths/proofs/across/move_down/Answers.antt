@@ -35,4 +35,4 @@ pub loop-i-preserved : goal.loop-i-preserved
 loop-i-preserved c = shifting_step c.loop-i.invariant c.requires c.loop-i-test.true
 
 pub returns : goal.returns
-returns c = let r = shifting_done c.loop-i.invariant c.loop-i-test.false in record { front = r.0; wrote = r.1; }
+returns c = let r = shifting_done c.loop-i.invariant c.loop-i-test.false in record { front = r.0; wrote = r.1 }

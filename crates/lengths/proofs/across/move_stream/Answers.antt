@@ -89,7 +89,7 @@ start_unit-first-requires c = stream_room c.requires.fact c.requires.stream_at _
 
 pub gather_across-g-requires : goal.gather_across-g-requires
 unfolding on_zero
-gather_across-g-requires c = let f = (let first' : let a = c.args in (kind_of c.start_unit-first.result ≡ kind_for a.e.size) × (number_in c.start_unit-first.result ≡ start ((volume_in a.v a.img.now).directory.entry a.e.id.0)) = let f = stream_start c.requires.fact c.requires.stream_at _ c.kind_for-from.result c.place.ensures c.start_unit-first.ensures in (f.0 ∙ c.kind_for-from.ensures, f.1) in first') in record { readied = c.requires.fact.ready; value = rw (f.0, f.1) (over_chain c.requires.fact c.requires.stream_at _ (many (goal.at.gather_across-g-requires c).After-units_for-old)); start_nonzero = rw (f.0, c.kind_for-to.ensures) (kinds_differ c.args.e.size c.args.new c.requires.value); }
+gather_across-g-requires c = let f = (let first' : let a = c.args in (kind_of c.start_unit-first.result ≡ kind_for a.e.size) × (number_in c.start_unit-first.result ≡ start ((volume_in a.v a.img.now).directory.entry a.e.id.0)) = let f = stream_start c.requires.fact c.requires.stream_at _ c.kind_for-from.result c.place.ensures c.start_unit-first.ensures in (f.0 ∙ c.kind_for-from.ensures, f.1) in first') in record { readied = c.requires.fact.ready; value = rw (f.0, f.1) (over_chain c.requires.fact c.requires.stream_at _ (many (goal.at.gather_across-g-requires c).After-units_for-old)); start_nonzero = rw (f.0, c.kind_for-to.ensures) (kinds_differ c.args.e.size c.args.new c.requires.value) }
 
 pub returns-then-not-g : goal.returns-then-not-g
 unfolding on_zero
@@ -109,7 +109,7 @@ slice_bounds-relocate-end c = front_length _ c.kept_bytes-n.ensures.few
 
 pub relocate-requires : goal.relocate-requires
 unfolding on_zero
-relocate-requires c = record { fact = record { ready = gathered_ready c.requires.fact.ready c.gather_across-g.ensures.wrote; groups = c.requires.fact.groups }; stream_at = c.requires.stream_at; value = c.requires.value; both_listed = listed (goal.at.relocate-requires c).Else-not-g; kept_len = sym (front_length _ c.kept_bytes-n.ensures.few) ∙ c.kept_bytes-n.ensures.count; }
+relocate-requires c = record { fact = record { ready = gathered_ready c.requires.fact.ready c.gather_across-g.ensures.wrote; groups = c.requires.fact.groups }; stream_at = c.requires.stream_at; value = c.requires.value; both_listed = listed (goal.at.relocate-requires c).Else-not-g; kept_len = sym (front_length _ c.kept_bytes-n.ensures.few) ∙ c.kept_bytes-n.ensures.count }
 
 pub returns : goal.returns
 unfolding on_zero

@@ -20,4 +20,4 @@ overflow_add-next c =
 
 pub returns : goal.returns
 unfolding cursor_call
-returns c = let p = c.args in record { read_value = c.read_at-r.ensures.result_value; cursor_value = move_is p.image.now p.c.entry.0 p.c.position p.out.now p.work.now c.read_at-r.ensures.result_value c.count.ensures; out_after = c.read_at-r.ensures.out_after; work_after = c.read_at-r.ensures.work_after; }
+returns c = let p = c.args in record { read_value = c.read_at-r.ensures.result_value; cursor_value = move_is p.image.now p.c.entry.0 p.c.position p.out.now p.work.now c.read_at-r.ensures.result_value c.count.ensures; out_after = c.read_at-r.ensures.out_after; work_after = c.read_at-r.ensures.work_after }

@@ -20,7 +20,7 @@ pub overflow_add-e : goal.overflow_add-e
 overflow_add-e c = let q = c.requires.pulses_at.listed in omega (arith, stream_few q.opened q.stream)
 
 pub returns-in-Refused : goal.returns-in-Refused
-returns-in-Refused c = let k = append_full c.requires.pulses_at (pulse_of c.args.p) c.requires.le_ticks c.in-Refused.a (ap (λ x. plain (number_of x)) (sym c.in-Refused.is) ∙ c.set_length_opened.ensures.result_value) c.set_length_opened.ensures.image_after in record { result_value = k.0; image_after = k.1; open_volume = c.set_length_opened.ensures.open_volume; wrote = c.set_length_opened.ensures.wrote; }
+returns-in-Refused c = let k = append_full c.requires.pulses_at (pulse_of c.args.p) c.requires.le_ticks c.in-Refused.a (ap (λ x. plain (number_of x)) (sym c.in-Refused.is) ∙ c.set_length_opened.ensures.result_value) c.set_length_opened.ensures.image_after in record { result_value = k.0; image_after = k.1; open_volume = c.set_length_opened.ensures.open_volume; wrote = c.set_length_opened.ensures.wrote }
 
 pub plus-requires : goal.plus-requires
 plus-requires c = ((let fits' : let s = c.args.s.trailer in (distance_for (s.count.0 + 1) < 0x1_0000_0000) × (s.count.0 + 1 < 0x1_0000_0000) × (s.total.0 + c.args.p.ticks.0 < 0x1_0000_0000_0000_0000) = let g = c.well_formed.1.1.1.1.1 in append_fits c.requires.pulses_at (pulse_of c.args.p) c.requires.le_ticks (λ i. (c.slice_known-1.given i).fits) (omega (arith, g)) (omega (arith, g)) in fits')).1
@@ -29,7 +29,7 @@ pub plus-requires-2 : goal.plus-requires-2
 plus-requires-2 c = ((let fits' : let s = c.args.s.trailer in (distance_for (s.count.0 + 1) < 0x1_0000_0000) × (s.count.0 + 1 < 0x1_0000_0000) × (s.total.0 + c.args.p.ticks.0 < 0x1_0000_0000_0000_0000) = let g = c.well_formed.1.1.1.1.1 in append_fits c.requires.pulses_at (pulse_of c.args.p) c.requires.le_ticks (λ i. (c.slice_known-1.given i).fits) (omega (arith, g)) (omega (arith, g)) in fits')).2
 
 pub put_tail-requires : goal.put_tail-requires
-put_tail-requires c = record { bytes_len = refl; count_bound = rw c.plus.ensures ((let fits' : let s = c.args.s.trailer in (distance_for (s.count.0 + 1) < 0x1_0000_0000) × (s.count.0 + 1 < 0x1_0000_0000) × (s.total.0 + c.args.p.ticks.0 < 0x1_0000_0000_0000_0000) = let g = c.well_formed.1.1.1.1.1 in append_fits c.requires.pulses_at (pulse_of c.args.p) c.requires.le_ticks (λ i. (c.slice_known-1.given i).fits) (omega (arith, g)) (omega (arith, g)) in fits')).0; }
+put_tail-requires c = record { bytes_len = refl; count_bound = rw c.plus.ensures ((let fits' : let s = c.args.s.trailer in (distance_for (s.count.0 + 1) < 0x1_0000_0000) × (s.count.0 + 1 < 0x1_0000_0000) × (s.total.0 + c.args.p.ticks.0 < 0x1_0000_0000_0000_0000) = let g = c.well_formed.1.1.1.1.1 in append_fits c.requires.pulses_at (pulse_of c.args.p) c.requires.le_ticks (λ i. (c.slice_known-1.given i).fits) (omega (arith, g)) (omega (arith, g)) in fits')).0 }
 
 pub overflow_sub-e : goal.overflow_sub-e
 overflow_sub-e c = let q = at_inside c.requires.pulses_at in omega (arith, q.0, q.1)
@@ -40,4 +40,4 @@ returns c =
     append_done c.requires.pulses_at (pulse_of c.args.p) c.requires.le_ticks (ap (λ x. plain (number_of x)) (sym c.in-Done.is) ∙ c.set_length_opened.ensures.result_value) c.set_length_opened.new.work
     c.set_length_opened.ensures.wrote.long c.set_length_opened.ensures.image_after c.plus.result.0 c.plus-2.result.0 c.plus.ensures c.plus-2.ensures
     c.put_tail.ensures c.overwrite_opened.ensures.image_after in
-    let t = subst (λ n. Wrote c.set_length_opened.new.work c.overwrite_opened.new.work 0 (work_need n)) c.set_length_opened.auto.image c.overwrite_opened.ensures.wrote in record { result_value = k.0; image_after = k.1; open_volume = c.overwrite_opened.ensures.open_volume; wrote = wrote_two c.set_length_opened.ensures.wrote t; }
+    let t = subst (λ n. Wrote c.set_length_opened.new.work c.overwrite_opened.new.work 0 (work_need n)) c.set_length_opened.auto.image c.overwrite_opened.ensures.wrote in record { result_value = k.0; image_after = k.1; open_volume = c.overwrite_opened.ensures.open_volume; wrote = wrote_two c.set_length_opened.ensures.wrote t }

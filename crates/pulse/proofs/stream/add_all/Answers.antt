@@ -41,7 +41,7 @@ pub overflow_add-first : goal.overflow_add-first
 overflow_add-first c = omega (arith, c.bytes.ensures, inside (goal.at.overflow_add-first c).In-loop-v, c.requires.count_bound.0, (let few' : c.args.e.size ≤ 0x400_0000 = stream_few c.requires.open_stream.opened c.requires.open_stream.stream in few'))
 
 pub add_piece-sum-requires : goal.add_piece-sum-requires
-add_piece-sum-requires c = let n = some (goal.at.add_piece-sum-requires c).After-from-n in record { open_stream = c.requires.open_stream; n_bound = (omega (arith, c.bytes.ensures, n.2, c.requires.count_bound.0), omega (arith, c.loop-v.invariant.1, n.1, c.requires.count_bound.1)); n_bound_2 = fits (goal.at.add_piece-sum-requires c).After-from-n; }
+add_piece-sum-requires c = let n = some (goal.at.add_piece-sum-requires c).After-from-n in record { open_stream = c.requires.open_stream; n_bound = (omega (arith, c.bytes.ensures, n.2, c.requires.count_bound.0), omega (arith, c.loop-v.invariant.1, n.1, c.requires.count_bound.1)); n_bound_2 = fits (goal.at.add_piece-sum-requires c).After-from-n }
 
 pub returns-in_default : goal.returns-in_default
 returns-in_default c = piece_wrong c.loop-v.invariant.0 c.from-n.result.0 (some (goal.at.returns-in_default c).After-from-n).2 (sym c.in_default.is ∙ (let summed' : c.add_piece-sum.result ≡ sum_from ((contents (own_volume c.args.image.now) c.args.image.now c.args.e.id.0)) (c.args.first + 8 * c.loop-v.k.0) c.from-n.result.0 c.loop-v.total.0 = c.add_piece-sum.ensures ∙ ap (λ i. sum_from ((contents (own_volume c.args.image.now) c.args.image.now c.args.e.id.0)) (c.args.first + i) c.from-n.result.0 c.loop-v.total.0) c.bytes.ensures in summed'))

@@ -36,7 +36,7 @@ overflow_sub-first c = ((let says' : let t = c.read_trailer-t.result in (t.dista
 
 pub add_all-sum-requires : goal.add_all-sum-requires
 unfolding distance_for
-add_all-sum-requires c = let t = (let says' : let t = c.read_trailer-t.result in (t.distance ≡ 16 + 8 * t.count.0) × (t.distance ≤ c.args.e.size) = let q = both _ _ (sym c.agrees.ensures ∙ c.if-not-agrees.false) in (eqb-true _ _ q.0, leb-true _ _ q.1) in says') in record { open_stream = c.requires; count_bound = (omega (arith, t.0, t.1), omega arith); }
+add_all-sum-requires c = let t = (let says' : let t = c.read_trailer-t.result in (t.distance ≡ 16 + 8 * t.count.0) × (t.distance ≤ c.args.e.size) = let q = both _ _ (sym c.agrees.ensures ∙ c.if-not-agrees.false) in (eqb-true _ _ q.0, leb-true _ _ q.1) in says') in record { open_stream = c.requires; count_bound = (omega (arith, t.0, t.1), omega arith) }
 
 pub returns-in_default : goal.returns-in_default
 unfolding trailer_for

@@ -21,4 +21,4 @@ size-requires c = omega (arith, c.place-p.ensures, place_inside c.requires.direc
 
 pub returns : goal.returns
 unfolding size_of directory directory_of
-returns c = let e = entry_is c.requires.directory_listed _ c.requires.x_bound in record { id_value = refl; entry_type_value = rw (c.entry_type.ensures, c.place-p.ensures, e); size_value = c.size.ensures ∙ ap (size _) (ap (entry_at _) c.place-p.ensures ∙ sym e); }
+returns c = let e = entry_is c.requires.directory_listed _ c.requires.x_bound in record { id_value = refl; entry_type_value = rw (c.entry_type.ensures, c.place-p.ensures, e); size_value = c.size.ensures ∙ ap (size _) (ap (entry_at _) c.place-p.ensures ∙ sym e) }

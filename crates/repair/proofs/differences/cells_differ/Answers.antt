@@ -25,7 +25,7 @@ pub overflow_mul-u : goal.overflow_mul-u
 overflow_mul-u c = omega (arith, (room (goal.at.overflow_mul-u c).In-loop-u).few)
 
 pub listed_place-p-requires : goal.listed_place-p-requires
-listed_place-p-requires c = record { le_bytes = (room (goal.at.listed_place-p-requires c).In-loop-u).wide; bytes_bound = (room (goal.at.listed_place-p-requires c).In-loop-u).narrow; bytes_in_bounds = (room (goal.at.listed_place-p-requires c).In-loop-u).here; }
+listed_place-p-requires c = record { le_bytes = (room (goal.at.listed_place-p-requires c).In-loop-u).wide; bytes_bound = (room (goal.at.listed_place-p-requires c).In-loop-u).narrow; bytes_in_bounds = (room (goal.at.listed_place-p-requires c).In-loop-u).here }
 
 pub u32_at-requires : goal.u32_at-requires
 u32_at-requires c = omega (arith, inside (goal.at.u32_at-requires c).After-listed_place-p, c.requires.img_len)
@@ -49,7 +49,7 @@ loop-u-preserved c =
     let x = c.u32_at.ensures in
     let y = c.u32_at-in-loop-u.ensures in
     elim c.if-u32_at.branch [
-      then-u32_at w ↦ rw w.count-is (count_yes c.loop-u.invariant h (cell_yes _ _ _ _ p x y w.if-u32_at.true))
+      | then-u32_at w ↦ rw w.count-is (count_yes c.loop-u.invariant h (cell_yes _ _ _ _ p x y w.if-u32_at.true))
       | else-u32_at w ↦ rw w.count-is (count_no c.loop-u.invariant h (cell_no _ _ _ _ p x y w.if-u32_at.false))
     ]
 

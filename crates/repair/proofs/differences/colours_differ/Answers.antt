@@ -30,7 +30,7 @@ few c = let l = c.requires.directory_listed in omega (arith, turn c, count_is l,
 
 -- it lies in the image
 inside : (c : After-place-p) → c.place-p.result + 128 ≤ length c.args.after.now
-inside c = omega (arith, c.place-p.ensures, place_inside c.requires.directory_listed c.loop-d.x.0 ((let turn' : let p = c.args in c.loop-d.x.0 < (entries_of p.d p.after.now).count = omega ( arith, ltb-true c.loop-d.x.0 c.count-n.result (sym c.below.ensures ∙ c.loop-d-test.true), c.count-n.ensures, count_is c.requires.directory_listed, ) in turn')))
+inside c = omega (arith, c.place-p.ensures, place_inside c.requires.directory_listed c.loop-d.x.0 ((let turn' : let p = c.args in c.loop-d.x.0 < (entries_of p.d p.after.now).count = omega (arith, ltb-true c.loop-d.x.0 c.count-n.result (sym c.below.ensures ∙ c.loop-d-test.true), c.count-n.ensures, count_is c.requires.directory_listed) in turn')))
 
 pub count-n-requires : goal.count-n-requires
 count-n-requires c = countable c.requires.directory_listed
@@ -64,7 +64,7 @@ loop-d-preserved c =
     let y = c.colour-in-loop-d.ensures in
     rw c.next-x.ensures
     (elim c.if-colour.branch [
-      then-colour w ↦ rw w.count-is (count_yes c.loop-d.invariant (turn (goal.at.loop-d-preserved c).In-loop-d) (colour_yes l _ _ (turn (goal.at.loop-d-preserved c).In-loop-d) p x y w.if-colour.true))
+      | then-colour w ↦ rw w.count-is (count_yes c.loop-d.invariant (turn (goal.at.loop-d-preserved c).In-loop-d) (colour_yes l _ _ (turn (goal.at.loop-d-preserved c).In-loop-d) p x y w.if-colour.true))
       | else-colour w ↦ rw w.count-is (count_no c.loop-d.invariant (turn (goal.at.loop-d-preserved c).In-loop-d) (colour_no l _ _ (turn (goal.at.loop-d-preserved c).In-loop-d) p x y w.if-colour.false))
     ])
 

@@ -22,13 +22,13 @@ pub overflow_mul-fat : goal.overflow_mul-fat
 overflow_mul-fat c = omega (arith, fats (goal.at.overflow_mul-fat c).After-fat_count, fat_short c.requires.readied)
 
 pub cells_differ-sectors-requires : goal.cells_differ-sectors-requires
-cells_differ-sectors-requires c = record { table_room = λ u h. fat_cells_lem c.requires.readied u (omega (arith, h, fats (goal.at.cells_differ-sectors-requires c).After-fat_count)); img_len = c.requires.img_len; }
+cells_differ-sectors-requires c = record { table_room = λ u h. fat_cells_lem c.requires.readied u (omega (arith, h, fats (goal.at.cells_differ-sectors-requires c).After-fat_count)); img_len = c.requires.img_len }
 
 pub overflow_mul-cells : goal.overflow_mul-cells
 overflow_mul-cells c = omega (arith, minis (goal.at.overflow_mul-cells c).After-struct_known-1, mini_short c.requires.readied)
 
 pub cells_differ-minis-requires : goal.cells_differ-minis-requires
-cells_differ-minis-requires c = record { table_room = λ u h. mini_cells_lem c.requires.readied u (omega (arith, h, minis (goal.at.cells_differ-minis-requires c).After-struct_known-1)); img_len = c.requires.img_len; }
+cells_differ-minis-requires c = record { table_room = λ u h. mini_cells_lem c.requires.readied u (omega (arith, h, minis (goal.at.cells_differ-minis-requires c).After-struct_known-1)); img_len = c.requires.img_len }
 
 pub overflow_add-result : goal.overflow_add-result
 overflow_add-result c = omega (arith, differ_few c.requires.readied c.args.img.now (fats (goal.at.overflow_add-result c).After-fat_count) (minis (goal.at.overflow_add-result c).After-struct_known-1) c.cells_differ-sectors.ensures c.cells_differ-minis.ensures refl)

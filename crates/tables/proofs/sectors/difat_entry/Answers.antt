@@ -60,7 +60,7 @@ pub word_in-requires : goal.word_in-requires
 unfolding header_difat
 word_in-requires c =
     let z = c.requires.difats.counted.sized in
-    let k = sector_in (goal.at.word_in-requires c).After-difat-per in record { image_sized = z; s_bound = rw (sector_is (goal.at.word_in-requires c).After-difat-per, c.requires.difats.holds.here _ k) (c.requires.difats.below _ k); i_bound = rw c.difat-per.ensures (entry_index z (c.args.i - 109)); }
+    let k = sector_in (goal.at.word_in-requires c).After-difat-per in record { image_sized = z; s_bound = rw (sector_is (goal.at.word_in-requires c).After-difat-per, c.requires.difats.holds.here _ k) (c.requires.difats.below _ k); i_bound = rw c.difat-per.ensures (entry_index z (c.args.i - 109)) }
 
 pub returns : goal.returns
 unfolding header_difat

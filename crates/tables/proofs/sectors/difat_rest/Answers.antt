@@ -46,7 +46,7 @@ pub overflow_add-f : goal.overflow_add-f
 overflow_add-f c = omega (arith, few (goal.at.overflow_add-f c).After-difat, c.loop-i-test.true)
 
 pub difat_entry-s-requires : goal.difat_entry-s-requires
-difat_entry-s-requires c = record { difats = c.requires.difats; i_bound = omega (arith, c.loop-i-test.true, end_is (goal.at.difat_entry-s-requires c).After-difat, c.requires.f_value.0); }
+difat_entry-s-requires c = record { difats = c.requires.difats; i_bound = omega (arith, c.loop-i-test.true, end_is (goal.at.difat_entry-s-requires c).After-difat, c.requires.f_value.0) }
 
 pub returns-then-not-is_free : goal.returns-then-not-is_free
 returns-then-not-is_free c = sym (rest_is _ _ ∙ below_not (spare_entry_free _ _) _ c.loop-i.i (omega (arith, c.loop-i-test.true, end_is (goal.at.returns-then-not-is_free c).After-difat)) (entry_free _ _ c.args.f c.loop-i.i _ _ c.requires.f_value.0 c.difat_entry-s.ensures (said_no (ap not c.if-not-is_free.true) c.is_free.ensures)))

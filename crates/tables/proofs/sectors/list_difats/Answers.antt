@@ -28,7 +28,7 @@ pub returns-then-not-below : goal.returns-then-not-below
 returns-then-not-below c = difat_out c.loop-j.invariant (omega (arith, c.loop-j-test.true, c.requires.many)) (outside (goal.at.returns-then-not-below c).Then-not-below)
 
 pub word_in-requires : goal.word_in-requires
-word_in-requires c = let z = c.requires.sized in record { image_sized = z; s_bound = inside (goal.at.word_in-requires c).Else-not-below; i_bound = omega (arith, c.difat-link.ensures, difat_is z); }
+word_in-requires c = let z = c.requires.sized in record { image_sized = z; s_bound = inside (goal.at.word_in-requires c).Else-not-below; i_bound = omega (arith, c.difat-link.ensures, difat_is z) }
 
 pub loop-j-preserved : goal.loop-j-preserved
 loop-j-preserved c = difat_step c.loop-j.invariant _ (omega (arith, c.loop-j-test.true, c.requires.many)) (inside (goal.at.loop-j-preserved c).Else-not-below) c.requires.room (rw (← c.difat-link.ensures) c.word_in.ensures)

@@ -11,7 +11,7 @@ pub loop-k-init : goal.loop-k-init
 loop-k-init c = fat_start c.requires.difats
 
 pub difat_entry-s-requires : goal.difat_entry-s-requires
-difat_entry-s-requires c = record { difats = rw c.requires.f_value c.loop-k.invariant.difats; i_bound = omega (arith, c.loop-k-test.true, c.requires.f_value, entries_enough c.requires.difats.counted); }
+difat_entry-s-requires c = record { difats = rw c.requires.f_value c.loop-k.invariant.difats; i_bound = omega (arith, c.loop-k-test.true, c.requires.f_value, entries_enough c.requires.difats.counted) }
 
 pub loop-k-preserved : goal.loop-k-preserved
 loop-k-preserved c = fat_step _ c.loop-k.invariant (omega (arith, c.loop-k-test.true, c.requires.f_value)) c.difat_entry-s.ensures
@@ -19,4 +19,4 @@ loop-k-preserved c = fat_step _ c.loop-k.invariant (omega (arith, c.loop-k-test.
 pub returns : goal.returns
 returns c =
     let a = c.loop-k.invariant in
-    let z : c.loop-k.k ≡ F c.args.img.now = omega (arith, a.some, c.loop-k-test.false, c.requires.f_value) in record { wrote = a.wrote; holds = rw z at a.holds; }
+    let z : c.loop-k.k ≡ F c.args.img.now = omega (arith, a.some, c.loop-k-test.false, c.requires.f_value) in record { wrote = a.wrote; holds = rw z at a.holds }

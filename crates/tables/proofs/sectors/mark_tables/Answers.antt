@@ -38,7 +38,7 @@ returns-then-not-mark_list-2 c =
 pub table_marks-requires : goal.table_marks-requires
 table_marks-requires c =
     let k = (let one' : let p = c.args in ListLeft c.zero_first.new.work c.mark_list.new.work (sector_count (geometry_of p.g) p.img.now) p.list (F p.img.now) 1 true = left_fats ((let args' : let p = c.args in StageArgs (geometry_of p.g) p.img.now c.zero_first.new.work p.n p.f p.d p.list = unmarked_args c.requires.stage_args c.zero_first.ensures in args')) c.mark_list.ensures (c.if-not-mark_list.false) in one') in
-    let l = two (goal.at.table_marks-requires c).Else-not-mark_list-2 in record { fat_listed = built_listed ((let args' : let p = c.args in StageArgs (geometry_of p.g) p.img.now c.zero_first.new.work p.n p.f p.d p.list = unmarked_args c.requires.stage_args c.zero_first.ensures in args')) ((let lists' : let p = c.args in Unmarked (geometry_of p.g) p.img.now c.zero_first.new.work p.list = unmarked c.requires.stage_args c.zero_first.ensures c.requires.built in lists')) k.wrote k.answer l.wrote l.answer _ ((let args' : let p = c.args in StageArgs (geometry_of p.g) p.img.now c.zero_first.new.work p.n p.f p.d p.list = unmarked_args c.requires.stage_args c.zero_first.ensures in args')).sectors; table_marked = sectors_marked ((let args' : let p = c.args in StageArgs (geometry_of p.g) p.img.now c.zero_first.new.work p.n p.f p.d p.list = unmarked_args c.requires.stage_args c.zero_first.ensures in args')) ((let lists' : let p = c.args in Unmarked (geometry_of p.g) p.img.now c.zero_first.new.work p.list = unmarked c.requires.stage_args c.zero_first.ensures c.requires.built in lists')) k.wrote k.answer l.answer; }
+    let l = two (goal.at.table_marks-requires c).Else-not-mark_list-2 in record { fat_listed = built_listed ((let args' : let p = c.args in StageArgs (geometry_of p.g) p.img.now c.zero_first.new.work p.n p.f p.d p.list = unmarked_args c.requires.stage_args c.zero_first.ensures in args')) ((let lists' : let p = c.args in Unmarked (geometry_of p.g) p.img.now c.zero_first.new.work p.list = unmarked c.requires.stage_args c.zero_first.ensures c.requires.built in lists')) k.wrote k.answer l.wrote l.answer _ ((let args' : let p = c.args in StageArgs (geometry_of p.g) p.img.now c.zero_first.new.work p.n p.f p.d p.list = unmarked_args c.requires.stage_args c.zero_first.ensures in args')).sectors; table_marked = sectors_marked ((let args' : let p = c.args in StageArgs (geometry_of p.g) p.img.now c.zero_first.new.work p.n p.f p.d p.list = unmarked_args c.requires.stage_args c.zero_first.ensures in args')) ((let lists' : let p = c.args in Unmarked (geometry_of p.g) p.img.now c.zero_first.new.work p.list = unmarked c.requires.stage_args c.zero_first.ensures c.requires.built in lists')) k.wrote k.answer l.answer }
 
 pub returns : goal.returns
 returns c =

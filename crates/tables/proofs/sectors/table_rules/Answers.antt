@@ -58,7 +58,7 @@ table_counts-requires c = search rules
 
 pub returns-then-not-table_counts : goal.returns-then-not-table_counts
 unfolding work_need
-returns-then-not-table_counts c = record { answer = sym (rules_counts _ _ (said_no (ap not c.if-not-table_counts.true) c.table_counts.ensures)); left = not_left _ _ _ _ (λ i h. refl); }
+returns-then-not-table_counts c = record { answer = sym (rules_counts _ _ (said_no (ap not c.if-not-table_counts.true) c.table_counts.ensures)); left = not_left _ _ _ _ (λ i h. refl) }
 
 pub overflow_add-f : goal.overflow_add-f
 unfolding work_need
@@ -66,7 +66,7 @@ overflow_add-f c = search rules
 
 pub returns-then-n-f : goal.returns-then-n-f
 unfolding work_need
-returns-then-n-f c = let n = c.sector_count-n.ensures in record { answer = sym (rules_many (geometry_of c.args.g) c.args.img.now (omega (arith, c.if-n-f.true, n, c.fat_count-f.ensures, c.difat_count-d.ensures))); left = not_left _ _ _ _ (λ i h. refl); }
+returns-then-n-f c = let n = c.sector_count-n.ensures in record { answer = sym (rules_many (geometry_of c.args.g) c.args.img.now (omega (arith, c.if-n-f.true, n, c.fat_count-f.ensures, c.difat_count-d.ensures))); left = not_left _ _ _ _ (λ i h. refl) }
 
 pub overflow_add-list : goal.overflow_add-list
 unfolding work_need
@@ -82,14 +82,14 @@ list_tables-requires c = stage (goal.at.list_tables-requires c).Else-n-f
 
 pub returns-then-not-list_tables : goal.returns-then-not-list_tables
 unfolding work_need
-returns-then-not-list_tables c = let e = c.list_tables.ensures in record { answer = sym (rules_lists _ _ (said_no (ap not c.if-not-list_tables.true) e.answer)); left = lists_refused (stage (goal.at.returns-then-not-list_tables c).Else-n-f) e.wrote; }
+returns-then-not-list_tables c = let e = c.list_tables.ensures in record { answer = sym (rules_lists _ _ (said_no (ap not c.if-not-list_tables.true) e.answer)); left = lists_refused (stage (goal.at.returns-then-not-list_tables c).Else-n-f) e.wrote }
 
 pub mark_tables-requires : goal.mark_tables-requires
 unfolding work_need
-mark_tables-requires c = let e = c.list_tables.ensures in record { stage_args = stage_kept (stage (goal.at.mark_tables-requires c).Else-n-f) e.wrote; built = e.built (c.if-not-list_tables.false); }
+mark_tables-requires c = let e = c.list_tables.ensures in record { stage_args = stage_kept (stage (goal.at.mark_tables-requires c).Else-n-f) e.wrote; built = e.built (c.if-not-list_tables.false) }
 
 pub returns : goal.returns
 unfolding work_need
 returns c =
     let e = c.list_tables.ensures in
-    let m = c.mark_tables.ensures in record { answer = m.answer ∙ sym (rules_marks _ _ (said_yes (ap not c.if-not-table_counts.false) c.table_counts.ensures) (said_yes (ap not c.if-not-list_tables.false) e.answer)); left = tables_left (stage (goal.at.returns c).Else-n-f) e.wrote m; }
+    let m = c.mark_tables.ensures in record { answer = m.answer ∙ sym (rules_marks _ _ (said_yes (ap not c.if-not-table_counts.false) c.table_counts.ensures) (said_yes (ap not c.if-not-list_tables.false) e.answer)); left = tables_left (stage (goal.at.returns c).Else-n-f) e.wrote m }

@@ -22,7 +22,7 @@ pub open_directory-d-requires : goal.open_directory-d-requires
 open_directory-d-requires c = c.requires
 
 pub read_entries-requires : goal.read_entries-requires
-read_entries-requires c = record { directory_listed = c.open_directory-d.ensures.directory; d_bound = omega (arith, nodes_apart ((let listed' : let p = c.args in TablesHold (geometry_of p.g) p.img.now c.open_directory-d.new.work p.n = let t = c.requires in record { listed = c.open_directory-d.ensures.fat; whole = omega (arith, t.whole, c.open_directory-d.ensures.wrote.long); tables = t.tables; cells = t.cells; chained = t.chained; count = t.count } in listed')) c.open_directory-d.ensures.answer); }
+read_entries-requires c = record { directory_listed = c.open_directory-d.ensures.directory; d_bound = omega (arith, nodes_apart ((let listed' : let p = c.args in TablesHold (geometry_of p.g) p.img.now c.open_directory-d.new.work p.n = let t = c.requires in record { listed = c.open_directory-d.ensures.fat; whole = omega (arith, t.whole, c.open_directory-d.ensures.wrote.long); tables = t.tables; cells = t.cells; chained = t.chained; count = t.count } in listed')) c.open_directory-d.ensures.answer) }
 
 pub returns-then-not-read_entries : goal.returns-then-not-read_entries
 returns-then-not-read_entries c = record { answer = sym (wrong_fields _ _ (said_no (ap not c.if-not-read_entries.true) ((let fields' : let p = c.args in c.read_entries.result ≡ entry_rules (directory (geometry_of p.g) p.img.now) = rw c.open_directory-d.ensures.answer at c.read_entries.ensures.answer in fields')))); hold = (let read' : let p = c.args in TablesHold (geometry_of p.g) p.img.now c.read_entries.new.work p.n = hold_kept ((let listed' : let p = c.args in TablesHold (geometry_of p.g) p.img.now c.open_directory-d.new.work p.n = let t = c.requires in record { listed = c.open_directory-d.ensures.fat; whole = omega (arith, t.whole, c.open_directory-d.ensures.wrote.long); tables = t.tables; cells = t.cells; chained = t.chained; count = t.count } in listed')) c.read_entries.ensures.wrote (omega (arith, nodes_before ((let listed' : let p = c.args in TablesHold (geometry_of p.g) p.img.now c.open_directory-d.new.work p.n = let t = c.requires in record { listed = c.open_directory-d.ensures.fat; whole = omega (arith, t.whole, c.open_directory-d.ensures.wrote.long); tables = t.tables; cells = t.cells; chained = t.chained; count = t.count } in listed')) c.open_directory-d.ensures.answer)) in read'); wrote = (let read_wrote' : let p = c.args in Wrote p.work.now c.read_entries.new.work 0 (work_need (length p.img.now)) = wrote_two c.open_directory-d.ensures.wrote (wrote_before ((let listed' : let p = c.args in TablesHold (geometry_of p.g) p.img.now c.open_directory-d.new.work p.n = let t = c.requires in record { listed = c.open_directory-d.ensures.fat; whole = omega (arith, t.whole, c.open_directory-d.ensures.wrote.long); tables = t.tables; cells = t.cells; chained = t.chained; count = t.count } in listed')) c.read_entries.ensures.wrote (omega (arith, nodes_before ((let listed' : let p = c.args in TablesHold (geometry_of p.g) p.img.now c.open_directory-d.new.work p.n = let t = c.requires in record { listed = c.open_directory-d.ensures.fat; whole = omega (arith, t.whole, c.open_directory-d.ensures.wrote.long); tables = t.tables; cells = t.cells; chained = t.chained; count = t.count } in listed')) c.open_directory-d.ensures.answer))) in read_wrote') }

@@ -10,13 +10,13 @@ use Rattle.volume.proofs.MiniStage.{chains_wrong, mini_room, table_wrong, table_
 use Rattle.volume.proofs.mini_stage.system_tables.Goals as goal
 
 pub tables_of-t-requires : goal.tables_of-t-requires
-tables_of-t-requires c = let t = c.requires.listed in record { image_sized = t.sized; img_bound = t.few; }
+tables_of-t-requires c = let t = c.requires.listed in record { image_sized = t.sized; img_bound = t.few }
 
 pub copy_tables-d-requires : goal.copy_tables-d-requires
-copy_tables-d-requires c = record { tables_hold = (let hold' : let p = c.args in TablesHold (geometry_of c.tables_of-t.result.geometry) p.img.now p.work.now p.n = rw c.tables_of-t.ensures c.requires in hold'); t_value = (let tables' : c.tables_of-t.result ≡ tables_of c.tables_of-t.result.geometry c.args.img.now = rw c.tables_of-t.ensures in tables'); }
+copy_tables-d-requires c = record { tables_hold = (let hold' : let p = c.args in TablesHold (geometry_of c.tables_of-t.result.geometry) p.img.now p.work.now p.n = rw c.tables_of-t.ensures c.requires in hold'); t_value = (let tables' : c.tables_of-t.result ≡ tables_of c.tables_of-t.result.geometry c.args.img.now = rw c.tables_of-t.ensures in tables') }
 
 pub mark_system-a-requires : goal.mark_system-a-requires
-mark_system-a-requires c = record { system_markable = c.copy_tables-d.ensures.copied.system; img_value = ((let hold' : let p = c.args in TablesHold (geometry_of c.tables_of-t.result.geometry) p.img.now p.work.now p.n = rw c.tables_of-t.ensures c.requires in hold')).chained; }
+mark_system-a-requires c = record { system_markable = c.copy_tables-d.ensures.copied.system; img_value = ((let hold' : let p = c.args in TablesHold (geometry_of c.tables_of-t.result.geometry) p.img.now p.work.now p.n = rw c.tables_of-t.ensures c.requires in hold')).chained }
 
 pub returns-then-is_broken : goal.returns-then-is_broken
 returns-then-is_broken c = system_for _ ((let sized' : c.tables_of-t.result.geometry ≡ c.args.g = ap (λ t. t.geometry) c.tables_of-t.ensures in sized')) (chains_wrong ((let hold' : let p = c.args in TablesHold (geometry_of c.tables_of-t.result.geometry) p.img.now p.work.now p.n = rw c.tables_of-t.ensures c.requires in hold')) ((let tables' : c.tables_of-t.result ≡ tables_of c.tables_of-t.result.geometry c.args.img.now = rw c.tables_of-t.ensures in tables')) c.copy_tables-d.ensures.answer c.copy_tables-d.ensures.copied c.mark_system-a.ensures (sym c.is_broken.ensures ∙ c.if-is_broken.true))

@@ -44,10 +44,10 @@ start_sector-requires c = let l = c.requires.mini.directory in omega (arith, c.p
 pub list_chain-requires : goal.list_chain-requires
 list_chain-requires c =
     let p = c.requires in
-    let n = many (goal.at.list_chain-requires c).After-sectors_for-n in record { fat_listed = p.mini.fat; start_value = stream_chain_lem p _ _ n (first (goal.at.list_chain-requires c).After-start_sector); n_bound = omega (arith, stream_fits p _ _ n (first (goal.at.list_chain-requires c).After-start_sector), p.before, p.mini.before); }
+    let n = many (goal.at.list_chain-requires c).After-sectors_for-n in record { fat_listed = p.mini.fat; start_value = stream_chain_lem p _ _ n (first (goal.at.list_chain-requires c).After-start_sector); n_bound = omega (arith, stream_fits p _ _ n (first (goal.at.list_chain-requires c).After-start_sector), p.before, p.mini.before) }
 
 pub returns : goal.returns
 returns c =
     let p = c.requires in
     let n = many (goal.at.returns c).After-sectors_for-n in
-    let s = first (goal.at.returns c).After-start_sector in record { answer = (refl, refl, refl); ready = stream_ready p _ _ n s c.list_chain.ensures.wrote c.list_chain.ensures.holds; wrote = wrote_wider 0 _ c.list_chain.ensures.wrote (omega arith) (omega (arith, stream_fits p _ _ n s)); }
+    let s = first (goal.at.returns c).After-start_sector in record { answer = (refl, refl, refl); ready = stream_ready p _ _ n s c.list_chain.ensures.wrote c.list_chain.ensures.holds; wrote = wrote_wider 0 _ c.list_chain.ensures.wrote (omega arith) (omega (arith, stream_fits p _ _ n s)) }

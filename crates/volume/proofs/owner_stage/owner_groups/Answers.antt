@@ -11,7 +11,7 @@ use Rattle.volume.proofs.Outcomes.{wrote_ours, streams_break, owners_break, owne
 use Rattle.volume.proofs.owner_stage.owner_groups.Goals as goal
 
 pub owner_rules-requires : goal.owner_rules-requires
-owner_rules-requires c = let p = c.requires in record { streams_markable = p.streams; cells_right = p.cells; only_system = p.only; }
+owner_rules-requires c = let p = c.requires in record { streams_markable = p.streams; cells_right = p.cells; only_system = p.only }
 
 pub list_stream-requires : goal.list_stream-requires
 list_stream-requires c = (let still' : let p = c.args in ListsStand p.t p.d p.m p.img.now c.owner_rules.new.work = let s = c.requires in let l = s.lists in lists_kept c.owner_rules.ensures.wrote l (omega (arith, l.room, l.minis.counts.few, s.streams.units, l.minis.counts.count)) in still')
