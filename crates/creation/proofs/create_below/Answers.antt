@@ -22,10 +22,19 @@ pub find_slot-requires : goal.find_slot-requires
 find_slot-requires c = let r = slot_asks c.requires.fact _ c.requires.parent_at.inside in record { directory_listed = r.0; ruled = r.1.0; parent_bound = r.1.1.0; searchable = r.1.1.1 }
 
 pub create_at-requires : goal.create_at-requires
-create_at-requires c = record { fact = c.requires.fact; name_len_bound = rw ((let last_is' : (let a = c.args in take (length a.path.now - a.i) (drop a.i a.path.now)) ≡ last_name c.args.path.now = part_to_end c.args.path.now c.args.i ∙ c.requires.parent_at.last.last in last_is')) (found_short _ _ _ c.requires.parent_at.found ((let some' : length c.args.path.now ≢ 0 = c.if-path-eq0.false in some'))); h_bound = ((seat_in c.requires.fact ((let a = c.args in take (length a.path.now - a.i) (drop a.i a.path.now))) c.args.s.0 c.find_slot.ensures c.in-Free.is)).1.1 }
+create_at-requires c =
+    let some : length c.args.path.now ≢ 0 = c.if-path-eq0.false in
+    let last_is : (let a = c.args in take (length a.path.now - a.i) (drop a.i a.path.now)) ≡ last_name c.args.path.now = part_to_end c.args.path.now c.args.i ∙ c.requires.parent_at.last.last in
+    record { fact = c.requires.fact; name_len_bound = rw last_is (found_short _ _ _ c.requires.parent_at.found some); h_bound = ((seat_in c.requires.fact ((let a = c.args in take (length a.path.now - a.i) (drop a.i a.path.now))) c.args.s.0 c.find_slot.ensures c.in-Free.is)).1.1 }
 
 pub returns-in-Taken : goal.returns-in-Taken
-returns-in-Taken c = let r = there_child _ _ _ _ _ _ c.requires.parent_at.found ((let some' : length c.args.path.now ≢ 0 = c.if-path-eq0.false in some')) ((let a = c.args in take (length a.path.now - a.i) (drop a.i a.path.now))) ((let last_is' : (let a = c.args in take (length a.path.now - a.i) (drop a.i a.path.now)) ≡ last_name c.args.path.now = part_to_end c.args.path.now c.args.i ∙ c.requires.parent_at.last.last in last_is')) _ _ ((seat_in c.requires.fact ((let a = c.args in take (length a.path.now - a.i) (drop a.i a.path.now))) c.args.s.0 c.find_slot.ensures c.in-Taken.is)).0 in record { result_value = r.0; img_after = r.1 }
+returns-in-Taken c =
+    let some : length c.args.path.now ≢ 0 = c.if-path-eq0.false in
+    let last_is : (let a = c.args in take (length a.path.now - a.i) (drop a.i a.path.now)) ≡ last_name c.args.path.now = part_to_end c.args.path.now c.args.i ∙ c.requires.parent_at.last.last in
+    let r = there_child _ _ _ _ _ _ c.requires.parent_at.found some ((let a = c.args in take (length a.path.now - a.i) (drop a.i a.path.now))) last_is _ _ ((seat_in c.requires.fact ((let a = c.args in take (length a.path.now - a.i) (drop a.i a.path.now))) c.args.s.0 c.find_slot.ensures c.in-Taken.is)).0 in record { result_value = r.0; img_after = r.1 }
 
 pub returns-in-Free : goal.returns-in-Free
-returns-in-Free c = let h = (seat_in c.requires.fact ((let a = c.args in take (length a.path.now - a.i) (drop a.i a.path.now))) c.args.s.0 c.find_slot.ensures c.in-Free.is) in let r = free_right _ _ _ _ _ _ c.requires.parent_at.found ((let some' : length c.args.path.now ≢ 0 = c.if-path-eq0.false in some')) ((let a = c.args in take (length a.path.now - a.i) (drop a.i a.path.now))) ((let last_is' : (let a = c.args in take (length a.path.now - a.i) (drop a.i a.path.now)) ≡ last_name c.args.path.now = part_to_end c.args.path.now c.args.i ∙ c.requires.parent_at.last.last in last_is')) h.0 _ h.1.0 _ _ c.create_at.ensures.result_value c.create_at.ensures.img_after in record { result_value = r.0; img_after = r.1 }
+returns-in-Free c =
+    let some : length c.args.path.now ≢ 0 = c.if-path-eq0.false in
+    let last_is : (let a = c.args in take (length a.path.now - a.i) (drop a.i a.path.now)) ≡ last_name c.args.path.now = part_to_end c.args.path.now c.args.i ∙ c.requires.parent_at.last.last in
+    let h = (seat_in c.requires.fact ((let a = c.args in take (length a.path.now - a.i) (drop a.i a.path.now))) c.args.s.0 c.find_slot.ensures c.in-Free.is) in let r = free_right _ _ _ _ _ _ c.requires.parent_at.found some ((let a = c.args in take (length a.path.now - a.i) (drop a.i a.path.now))) last_is h.0 _ h.1.0 _ _ c.create_at.ensures.result_value c.create_at.ensures.img_after in record { result_value = r.0; img_after = r.1 }

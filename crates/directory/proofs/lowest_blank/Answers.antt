@@ -31,7 +31,9 @@ type_of-requires c = record { directory_listed = c.requires; x_bound = inside (g
 
 pub returns-then-is_blank : goal.returns-then-is_blank
 unfolding blank_at
-returns-then-is_blank c = none_found c.loop-d.invariant (inside (goal.at.returns-then-is_blank c).In-loop-d) (sym ((let blank' : let a = c.args in c.is_blank.result ≡ blank_at (entries_of a.d a.img.now) c.loop-d.x.0 = rw (← c.type_of.ensures) c.is_blank.ensures in blank')) ∙ c.if-is_blank.true)
+returns-then-is_blank c =
+    let blank : let a = c.args in c.is_blank.result ≡ blank_at (entries_of a.d a.img.now) c.loop-d.x.0 = rw (← c.type_of.ensures) c.is_blank.ensures in
+    none_found c.loop-d.invariant (inside (goal.at.returns-then-is_blank c).In-loop-d) (sym blank ∙ c.if-is_blank.true)
 
 pub next-x-requires : goal.next-x-requires
 next-x-requires c = omega (arith, inside (goal.at.next-x-requires c).In-loop-d, count_few c.requires, count_is c.requires)
@@ -41,7 +43,9 @@ loop-d-smaller c = omega (arith, c.next-x.ensures, tested (goal.at.loop-d-smalle
 
 pub loop-d-preserved : goal.loop-d-preserved
 unfolding blank_at
-loop-d-preserved c = rw c.next-x.ensures (none_step c.loop-d.invariant (inside (goal.at.loop-d-preserved c).In-loop-d) (sym ((let blank' : let a = c.args in c.is_blank.result ≡ blank_at (entries_of a.d a.img.now) c.loop-d.x.0 = rw (← c.type_of.ensures) c.is_blank.ensures in blank')) ∙ c.if-is_blank.false))
+loop-d-preserved c =
+    let blank : let a = c.args in c.is_blank.result ≡ blank_at (entries_of a.d a.img.now) c.loop-d.x.0 = rw (← c.type_of.ensures) c.is_blank.ensures in
+    rw c.next-x.ensures (none_step c.loop-d.invariant (inside (goal.at.loop-d-preserved c).In-loop-d) (sym blank ∙ c.if-is_blank.false))
 
 pub returns : goal.returns
 returns c = none_left c.loop-d.invariant (omega (arith, count (goal.at.returns c).At-loop-d, ltb-false c.loop-d.x.0 c.count-n.result (sym c.below.ensures ∙ c.loop-d-test.false)))

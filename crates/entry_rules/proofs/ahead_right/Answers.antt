@@ -50,12 +50,15 @@ in_a_row-requires c =
     }
 
 pub returns-then-in_a_row : goal.returns-then-in_a_row
-returns-then-in_a_row c = let a = c.args in ahead_row a.d (entries_of a.d a.img.now) a.work.now a.x.0 (zeroth (goal.at.returns-then-in_a_row c).Else-i-ne0) ((let row' : let a = c.args in in_row a.d a.work.now a.x.0 (ahead_end (entries_of a.d a.img.now) a.x.0 - 1) ≡ c.in_a_row.result = rw (← ends (goal.at.returns-then-in_a_row c).After-least-end) (sym c.in_a_row.ensures) in row') ∙ c.if-in_a_row.true)
+returns-then-in_a_row c =
+    let row : let a = c.args in in_row a.d a.work.now a.x.0 (ahead_end (entries_of a.d a.img.now) a.x.0 - 1) ≡ c.in_a_row.result = rw (← ends (goal.at.returns-then-in_a_row c).After-least-end) (sym c.in_a_row.ensures) in
+    let a = c.args in ahead_row a.d (entries_of a.d a.img.now) a.work.now a.x.0 (zeroth (goal.at.returns-then-in_a_row c).Else-i-ne0) (row ∙ c.if-in_a_row.true)
 
 pub colours-requires : goal.colours-requires
 colours-requires c = record { directory_listed = c.requires.directory_listed; x_le_end = (omega (arith, some (goal.at.colours-requires c).After-least-end), omega (arith, ends (goal.at.colours-requires c).After-least-end, count_is c.requires.directory_listed)) }
 
 pub returns : goal.returns
 returns c =
+    let row : let a = c.args in in_row a.d a.work.now a.x.0 (ahead_end (entries_of a.d a.img.now) a.x.0 - 1) ≡ c.in_a_row.result = rw (← ends (goal.at.returns c).After-least-end) (sym c.in_a_row.ensures) in
     let a = c.args in
-    rw (c.colours.ensures, ends (goal.at.returns c).After-least-end) (ahead_scattered a.d (entries_of a.d a.img.now) a.work.now a.x.0 (zeroth (goal.at.returns c).Else-i-ne0) ((let row' : let a = c.args in in_row a.d a.work.now a.x.0 (ahead_end (entries_of a.d a.img.now) a.x.0 - 1) ≡ c.in_a_row.result = rw (← ends (goal.at.returns c).After-least-end) (sym c.in_a_row.ensures) in row') ∙ c.if-in_a_row.false))
+    rw (c.colours.ensures, ends (goal.at.returns c).After-least-end) (ahead_scattered a.d (entries_of a.d a.img.now) a.work.now a.x.0 (zeroth (goal.at.returns c).Else-i-ne0) (row ∙ c.if-in_a_row.false))

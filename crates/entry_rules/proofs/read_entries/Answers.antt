@@ -61,7 +61,9 @@ entry_fields-requires c = omega (arith, c.place-p.ensures, place_inside (listed 
 
 pub returns-then-not-entry_fields : goal.returns-then-not-entry_fields
 unfolding entry_right
-returns-then-not-entry_fields c = let p = c.loop-d.invariant in record { answer = sym (passed_wrong p (inside (goal.at.returns-then-not-entry_fields c).In-loop-d) (room (goal.at.returns-then-not-entry_fields c).In-loop-d) ((let tested' : let p = c.args in entry_right (entries_of p.d p.img.now) c.loop-d.x.0 ≡ c.entry_fields.result = ap (entry_fields c.loop-d.x.0) (standing (goal.at.returns-then-not-entry_fields c).After-place-p) ∙ sym c.entry_fields.ensures in tested') ∙ c.if-not-entry_fields.true)); nodes = λ h. absurd (clash h refl); wrote = rw (← count_is (listed (goal.at.returns-then-not-entry_fields c).In-loop-d)) p.wrote }
+returns-then-not-entry_fields c =
+    let tested : let p = c.args in entry_right (entries_of p.d p.img.now) c.loop-d.x.0 ≡ c.entry_fields.result = ap (entry_fields c.loop-d.x.0) (standing (goal.at.returns-then-not-entry_fields c).After-place-p) ∙ sym c.entry_fields.ensures in
+    let p = c.loop-d.invariant in record { answer = sym (passed_wrong p (inside (goal.at.returns-then-not-entry_fields c).In-loop-d) (room (goal.at.returns-then-not-entry_fields c).In-loop-d) (tested ∙ c.if-not-entry_fields.true)); nodes = λ h. absurd (clash h refl); wrote = rw (← count_is (listed (goal.at.returns-then-not-entry_fields c).In-loop-d)) p.wrote }
 
 pub at-requires : goal.at-requires
 at-requires c = omega (arith, inside (goal.at.at-requires c).In-loop-d, few (goal.at.at-requires c).In-loop-d)
@@ -81,8 +83,9 @@ loop-d-smaller c = omega (arith, c.next-x.ensures, inside (goal.at.loop-d-smalle
 pub loop-d-preserved : goal.loop-d-preserved
 unfolding entry_right
 loop-d-preserved c =
+    let tested : let p = c.args in entry_right (entries_of p.d p.img.now) c.loop-d.x.0 ≡ c.entry_fields.result = ap (entry_fields c.loop-d.x.0) (standing (goal.at.loop-d-preserved c).After-place-p) ∙ sym c.entry_fields.ensures in
     rw (c.next-x.ensures, c.put_node.ensures)
-    (passed_more c.loop-d.invariant (inside (goal.at.loop-d-preserved c).In-loop-d) (room (goal.at.loop-d-preserved c).In-loop-d) ((let tested' : let p = c.args in entry_right (entries_of p.d p.img.now) c.loop-d.x.0 ≡ c.entry_fields.result = ap (entry_fields c.loop-d.x.0) (standing (goal.at.loop-d-preserved c).After-place-p) ∙ sym c.entry_fields.ensures in tested') ∙ c.if-not-entry_fields.false) c.at.ensures (node (goal.at.loop-d-preserved c).After-node_of))
+    (passed_more c.loop-d.invariant (inside (goal.at.loop-d-preserved c).In-loop-d) (room (goal.at.loop-d-preserved c).In-loop-d) (tested ∙ c.if-not-entry_fields.false) c.at.ensures (node (goal.at.loop-d-preserved c).After-node_of))
 
 pub returns : goal.returns
 returns c =

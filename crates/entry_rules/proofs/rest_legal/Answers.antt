@@ -14,10 +14,14 @@ pub loop-i-init : goal.loop-i-init
 loop-i-init c = (search rules, refl)
 
 pub returns-then-not-legal_unit : goal.returns-then-not-legal_unit
-returns-then-not-legal_unit c = rest_stop _ _ _ _ c.loop-i-test.true ((let told' : let a = c.args in unit_legal (entry_at a.img.now a.p) c.loop-i.i ≡ c.legal_unit.result = ap legal_unit (sym c.name_unit.ensures) ∙ sym c.legal_unit.ensures in told') ∙ c.if-not-legal_unit.true)
+returns-then-not-legal_unit c =
+    let told : let a = c.args in unit_legal (entry_at a.img.now a.p) c.loop-i.i ≡ c.legal_unit.result = ap legal_unit (sym c.name_unit.ensures) ∙ sym c.legal_unit.ensures in
+    rest_stop _ _ _ _ c.loop-i-test.true (told ∙ c.if-not-legal_unit.true)
 
 pub loop-i-preserved : goal.loop-i-preserved
-loop-i-preserved c = (search rules, rest_next _ _ _ c.loop-i.invariant.1 ((let told' : let a = c.args in unit_legal (entry_at a.img.now a.p) c.loop-i.i ≡ c.legal_unit.result = ap legal_unit (sym c.name_unit.ensures) ∙ sym c.legal_unit.ensures in told') ∙ c.if-not-legal_unit.false))
+loop-i-preserved c =
+    let told : let a = c.args in unit_legal (entry_at a.img.now a.p) c.loop-i.i ≡ c.legal_unit.result = ap legal_unit (sym c.name_unit.ensures) ∙ sym c.legal_unit.ensures in
+    (search rules, rest_next _ _ _ c.loop-i.invariant.1 (told ∙ c.if-not-legal_unit.false))
 
 pub returns : goal.returns
 returns c =

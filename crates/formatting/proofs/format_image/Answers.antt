@@ -36,7 +36,11 @@ pub returns-then-sectors-l : goal.returns-then-sectors-l
 returns-then-sectors-l c = let r = too_long_32 (c.args.img.now) ((plan_for c.args.version c.args.sectors c.args.directory c.args.minifat c.args.minis)) (fits (goal.at.returns-then-sectors-l c).Else-not-buffer_fits) ((geometry_of c.geometry_for-g.result)) (own (goal.at.returns-then-sectors-l c).Else-not-buffer_fits) (omega (arith, spare_is _ _ c.parts_of-l.result c.parts_of-l.ensures)) in record { answer = r.0; image = r.1 }
 
 pub fill_image-requires : goal.fill_image-requires
-fill_image-requires c = record { stands = parts_stand _ _ c.parts_of-l.result c.parts_of-l.ensures (c.args.img.now) (own (goal.at.fill_image-requires c).Else-not-buffer_fits) (fits (goal.at.fill_image-requires c).Else-not-buffer_fits) ((let done' : 0 ≡ format_answer (length (c.args.img.now)) ((plan_for c.args.version c.args.sectors c.args.directory c.args.minifat c.args.minis)) = sound_0 (c.args.img.now) ((plan_for c.args.version c.args.sectors c.args.directory c.args.minifat c.args.minis)) (fits (goal.at.fill_image-requires c).Else-not-buffer_fits) ((geometry_of c.geometry_for-g.result)) (own (goal.at.fill_image-requires c).Else-not-buffer_fits) (sound (goal.at.fill_image-requires c).Else-not-plan_sound) (omega (arith, spare_is _ _ c.parts_of-l.result c.parts_of-l.ensures)) in done')); img_len = parts_long _ _ c.parts_of-l.result c.parts_of-l.ensures (c.args.img.now) (own (goal.at.fill_image-requires c).Else-not-buffer_fits) (fits (goal.at.fill_image-requires c).Else-not-buffer_fits) ((let done' : 0 ≡ format_answer (length (c.args.img.now)) ((plan_for c.args.version c.args.sectors c.args.directory c.args.minifat c.args.minis)) = sound_0 (c.args.img.now) ((plan_for c.args.version c.args.sectors c.args.directory c.args.minifat c.args.minis)) (fits (goal.at.fill_image-requires c).Else-not-buffer_fits) ((geometry_of c.geometry_for-g.result)) (own (goal.at.fill_image-requires c).Else-not-buffer_fits) (sound (goal.at.fill_image-requires c).Else-not-plan_sound) (omega (arith, spare_is _ _ c.parts_of-l.result c.parts_of-l.ensures)) in done')) }
+fill_image-requires c =
+    let done : 0 ≡ format_answer (length (c.args.img.now)) ((plan_for c.args.version c.args.sectors c.args.directory c.args.minifat c.args.minis)) = sound_0 (c.args.img.now) ((plan_for c.args.version c.args.sectors c.args.directory c.args.minifat c.args.minis)) (fits (goal.at.fill_image-requires c).Else-not-buffer_fits) ((geometry_of c.geometry_for-g.result)) (own (goal.at.fill_image-requires c).Else-not-buffer_fits) (sound (goal.at.fill_image-requires c).Else-not-plan_sound) (omega (arith, spare_is _ _ c.parts_of-l.result c.parts_of-l.ensures)) in
+    record { stands = parts_stand _ _ c.parts_of-l.result c.parts_of-l.ensures (c.args.img.now) (own (goal.at.fill_image-requires c).Else-not-buffer_fits) (fits (goal.at.fill_image-requires c).Else-not-buffer_fits) done; img_len = parts_long _ _ c.parts_of-l.result c.parts_of-l.ensures (c.args.img.now) (own (goal.at.fill_image-requires c).Else-not-buffer_fits) (fits (goal.at.fill_image-requires c).Else-not-buffer_fits) done }
 
 pub returns : goal.returns
-returns c = let r = parts_0 _ _ c.parts_of-l.result c.parts_of-l.ensures (c.args.img.now) (own (goal.at.returns c).Else-not-buffer_fits) (fits (goal.at.returns c).Else-not-buffer_fits) ((let done' : 0 ≡ format_answer (length (c.args.img.now)) ((plan_for c.args.version c.args.sectors c.args.directory c.args.minifat c.args.minis)) = sound_0 (c.args.img.now) ((plan_for c.args.version c.args.sectors c.args.directory c.args.minifat c.args.minis)) (fits (goal.at.returns c).Else-not-buffer_fits) ((geometry_of c.geometry_for-g.result)) (own (goal.at.returns c).Else-not-buffer_fits) (sound (goal.at.returns c).Else-not-plan_sound) (omega (arith, spare_is _ _ c.parts_of-l.result c.parts_of-l.ensures)) in done')) _ c.fill_image.ensures in record { answer = r.0; image = r.1 }
+returns c =
+    let done : 0 ≡ format_answer (length (c.args.img.now)) ((plan_for c.args.version c.args.sectors c.args.directory c.args.minifat c.args.minis)) = sound_0 (c.args.img.now) ((plan_for c.args.version c.args.sectors c.args.directory c.args.minifat c.args.minis)) (fits (goal.at.returns c).Else-not-buffer_fits) ((geometry_of c.geometry_for-g.result)) (own (goal.at.returns c).Else-not-buffer_fits) (sound (goal.at.returns c).Else-not-plan_sound) (omega (arith, spare_is _ _ c.parts_of-l.result c.parts_of-l.ensures)) in
+    let r = parts_0 _ _ c.parts_of-l.result c.parts_of-l.ensures (c.args.img.now) (own (goal.at.returns c).Else-not-buffer_fits) (fits (goal.at.returns c).Else-not-buffer_fits) done _ c.fill_image.ensures in record { answer = r.0; image = r.1 }

@@ -20,7 +20,11 @@ pub overflow_add-result : goal.overflow_add-result
 overflow_add-result c = omega (arith, c.decimal_length.ensures, decimal_most c.size.result)
 
 pub returns-then-is_stream : goal.returns-then-is_stream
-returns-then-is_stream c = omega (arith, c.decimal_length.ensures, ap (λ n. length (decimal n)) c.size.ensures, stream_length (width_of c.args.g) _ (sym ((let streams' : let p = c.args in c.is_stream.result ≡ is_stream (entry_at p.img.now p.p) = rw (← c.entry_type.ensures) c.is_stream.ensures in streams')) ∙ c.if-is_stream.true))
+returns-then-is_stream c =
+    let streams : let p = c.args in c.is_stream.result ≡ is_stream (entry_at p.img.now p.p) = rw (← c.entry_type.ensures) c.is_stream.ensures in
+    omega (arith, c.decimal_length.ensures, ap (λ n. length (decimal n)) c.size.ensures, stream_length (width_of c.args.g) _ (sym streams ∙ c.if-is_stream.true))
 
 pub returns : goal.returns
-returns c = sym (storage_length _ _ (sym ((let streams' : let p = c.args in c.is_stream.result ≡ is_stream (entry_at p.img.now p.p) = rw (← c.entry_type.ensures) c.is_stream.ensures in streams')) ∙ c.if-is_stream.false))
+returns c =
+    let streams : let p = c.args in c.is_stream.result ≡ is_stream (entry_at p.img.now p.p) = rw (← c.entry_type.ensures) c.is_stream.ensures in
+    sym (storage_length _ _ (sym streams ∙ c.if-is_stream.false))

@@ -20,16 +20,30 @@ pub returns-then-parent-eq0 : goal.returns-then-parent-eq0
 returns-then-parent-eq0 c = record { count = sym (none_length c.args.parent c.if-parent-eq0.true); written = put_none c.args.out.now c.args.at c.args.from c.args.parent c.requires.parent_in_bounds c.if-parent-eq0.true }
 
 pub copy_within-requires : goal.copy_within-requires
-copy_within-requires c = record { n_bound = c.requires.parent_bound; n_in_bounds = omega (arith, (let room' : let a = c.args in a.at + a.parent < length a.out.now = omega (arith, some_length c.args.parent ((let some' : 0 < c.args.parent = omega (arith, c.if-parent-eq0.false) in some')), c.requires.parent_in_bounds) in room')) }
+copy_within-requires c =
+    let some : 0 < c.args.parent = omega (arith, c.if-parent-eq0.false) in
+    let room : let a = c.args in a.at + a.parent < length a.out.now = omega (arith, some_length c.args.parent some, c.requires.parent_in_bounds) in
+    record { n_bound = c.requires.parent_bound; n_in_bounds = omega (arith, room) }
 
 pub overflow_add-out : goal.overflow_add-out
-overflow_add-out c = omega (arith, (let room' : let a = c.args in a.at + a.parent < length a.out.now = omega (arith, some_length c.args.parent ((let some' : 0 < c.args.parent = omega (arith, c.if-parent-eq0.false) in some')), c.requires.parent_in_bounds) in room'))
+overflow_add-out c =
+    let some : 0 < c.args.parent = omega (arith, c.if-parent-eq0.false) in
+    let room : let a = c.args in a.at + a.parent < length a.out.now = omega (arith, some_length c.args.parent some, c.requires.parent_in_bounds) in
+    omega (arith, room)
 
 pub bounds-out-at : goal.bounds-out-at
-bounds-out-at c = omega (arith, filled_length (path (goal.at.bounds-out-at c).After-slice_known-2-1), (let room' : let a = c.args in a.at + a.parent < length a.out.now = omega (arith, some_length c.args.parent ((let some' : 0 < c.args.parent = omega (arith, c.if-parent-eq0.false) in some')), c.requires.parent_in_bounds) in room'))
+bounds-out-at c =
+    let some : 0 < c.args.parent = omega (arith, c.if-parent-eq0.false) in
+    let room : let a = c.args in a.at + a.parent < length a.out.now = omega (arith, some_length c.args.parent some, c.requires.parent_in_bounds) in
+    omega (arith, filled_length (path (goal.at.bounds-out-at c).After-slice_known-2-1), room)
 
 pub overflow_add-result : goal.overflow_add-result
-overflow_add-result c = omega (arith, (let room' : let a = c.args in a.at + a.parent < length a.out.now = omega (arith, some_length c.args.parent ((let some' : 0 < c.args.parent = omega (arith, c.if-parent-eq0.false) in some')), c.requires.parent_in_bounds) in room'))
+overflow_add-result c =
+    let some : 0 < c.args.parent = omega (arith, c.if-parent-eq0.false) in
+    let room : let a = c.args in a.at + a.parent < length a.out.now = omega (arith, some_length c.args.parent some, c.requires.parent_in_bounds) in
+    omega (arith, room)
 
 pub returns : goal.returns
-returns c = record { count = sym (some_length c.args.parent ((let some' : 0 < c.args.parent = omega (arith, c.if-parent-eq0.false) in some'))); written = put_slash c.args.out.now c.args.at c.args.from c.args.parent c.requires.parent_in_bounds ((let some' : 0 < c.args.parent = omega (arith, c.if-parent-eq0.false) in some')) c.requires.parent_bound (path (goal.at.returns c).After-slice_known-2-1) }
+returns c =
+    let some : 0 < c.args.parent = omega (arith, c.if-parent-eq0.false) in
+    record { count = sym (some_length c.args.parent some); written = put_slash c.args.out.now c.args.at c.args.from c.args.parent c.requires.parent_in_bounds some c.requires.parent_bound (path (goal.at.returns c).After-slice_known-2-1) }

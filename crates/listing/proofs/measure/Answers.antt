@@ -32,11 +32,14 @@ child_of-top-requires c = record { directory_listed = c.requires.directory_liste
 
 pub push-n-requires : goal.push-n-requires
 push-n-requires c =
-    let l = (let lent' : ListingLent c.args.d c.args.img.now c.args.work.now = record { listed = c.requires.directory_listed; rules = c.requires.img_value; trees = c.requires.img_value_2; apart = c.requires.d_bound; few = c.requires.d_bound_2 } in lent') in
+    let lent : ListingLent c.args.d c.args.img.now c.args.work.now = record { listed = c.requires.directory_listed; rules = c.requires.img_value; trees = c.requires.img_value_2; apart = c.requires.d_bound; few = c.requires.d_bound_2 } in
+    let l = lent in
     let y = c.child_of-top.ensures in record { directory_listed = l.listed; d_bound = l.apart; x_value = start_sound l y; x_bound = start_room l y }
 
 pub loop-n-init : goal.loop-n-init
-loop-n-init c = measuring_start (walks_here (start_walks ((let lent' : ListingLent c.args.d c.args.img.now c.args.work.now = record { listed = c.requires.directory_listed; rules = c.requires.img_value; trees = c.requires.img_value_2; apart = c.requires.d_bound; few = c.requires.d_bound_2 } in lent')) c.child_of-top.ensures _ c.push-n.ensures.stack c.push-n.ensures.wrote))
+loop-n-init c =
+    let lent : ListingLent c.args.d c.args.img.now c.args.work.now = record { listed = c.requires.directory_listed; rules = c.requires.img_value; trees = c.requires.img_value_2; apart = c.requires.d_bound; few = c.requires.d_bound_2 } in
+    measuring_start (walks_here (start_walks lent c.child_of-top.ensures _ c.push-n.ensures.stack c.push-n.ensures.wrote))
 
 pub pair_at-q-requires : goal.pair_at-q-requires
 pair_at-q-requires c = inside (goal.at.pair_at-q-requires c).In-loop-n
@@ -45,16 +48,22 @@ pub place-requires : goal.place-requires
 place-requires c = rw c.pair_at-q.ensures.0 (placed c.loop-n.invariant.walks.lent.listed _ (turning (goal.at.place-requires c).In-loop-n).stands.inside)
 
 pub line_length-k-requires : goal.line_length-k-requires
-line_length-k-requires c = record { named_at = walks_named c.loop-n.invariant.walks c.loop-n-test.true _ ((let place_is' : c.place.result ≡ place_of c.args.d c.loop-n.work (entry_on c.loop-n.work (c.loop-n.n - 1)) = rw (← c.pair_at-q.ensures.0) c.place.ensures in place_is')); parent_bound = omega (arith, c.pair_at-q.ensures.1, (turning (goal.at.line_length-k-requires c).In-loop-n).fits) }
+line_length-k-requires c =
+    let place_is : c.place.result ≡ place_of c.args.d c.loop-n.work (entry_on c.loop-n.work (c.loop-n.n - 1)) = rw (← c.pair_at-q.ensures.0) c.place.ensures in
+    record { named_at = walks_named c.loop-n.invariant.walks c.loop-n-test.true _ place_is; parent_bound = omega (arith, c.pair_at-q.ensures.1, (turning (goal.at.line_length-k-requires c).In-loop-n).fits) }
 
 pub overflow_sub-most : goal.overflow_sub-most
 overflow_sub-most c = c.loop-n.invariant.within
 
 pub returns-then-most-bytes : goal.returns-then-most-bytes
-returns-then-most-bytes c = let m = c.loop-n.invariant in record { answer = measuring_long m c.loop-n-test.true _ ((let place_is' : c.place.result ≡ place_of c.args.d c.loop-n.work (entry_on c.loop-n.work (c.loop-n.n - 1)) = rw (← c.pair_at-q.ensures.0) c.place.ensures in place_is')) (line_is (goal.at.returns-then-most-bytes c).After-line_length-k) c.if-most-bytes.true; wrote = wrote_two c.push-n.ensures.wrote m.walks.wrote }
+returns-then-most-bytes c =
+    let place_is : c.place.result ≡ place_of c.args.d c.loop-n.work (entry_on c.loop-n.work (c.loop-n.n - 1)) = rw (← c.pair_at-q.ensures.0) c.place.ensures in
+    let m = c.loop-n.invariant in record { answer = measuring_long m c.loop-n-test.true _ place_is (line_is (goal.at.returns-then-most-bytes c).After-line_length-k) c.if-most-bytes.true; wrote = wrote_two c.push-n.ensures.wrote m.walks.wrote }
 
 pub overflow_add-bytes : goal.overflow_add-bytes
-overflow_add-bytes c = omega (arith, c.ranges.most.fits, measuring_fits c.loop-n.invariant c.loop-n-test.true _ ((let place_is' : c.place.result ≡ place_of c.args.d c.loop-n.work (entry_on c.loop-n.work (c.loop-n.n - 1)) = rw (← c.pair_at-q.ensures.0) c.place.ensures in place_is')) (line_is (goal.at.overflow_add-bytes c).After-line_length-k) c.if-most-bytes.false)
+overflow_add-bytes c =
+    let place_is : c.place.result ≡ place_of c.args.d c.loop-n.work (entry_on c.loop-n.work (c.loop-n.n - 1)) = rw (← c.pair_at-q.ensures.0) c.place.ensures in
+    omega (arith, c.ranges.most.fits, measuring_fits c.loop-n.invariant c.loop-n-test.true _ place_is (line_is (goal.at.overflow_add-bytes c).After-line_length-k) c.if-most-bytes.false)
 
 pub overflow_add-objects : goal.overflow_add-objects
 overflow_add-objects c =
@@ -68,7 +77,9 @@ pub loop-n-smaller : goal.loop-n-smaller
 loop-n-smaller c = walks_less c.loop-n.invariant.walks c.loop-n-test.true _ c.turn-n.ensures.stack c.turn-n.ensures.wrote
 
 pub loop-n-preserved : goal.loop-n-preserved
-loop-n-preserved c = measuring_more c.loop-n.invariant c.loop-n-test.true _ ((let place_is' : c.place.result ≡ place_of c.args.d c.loop-n.work (entry_on c.loop-n.work (c.loop-n.n - 1)) = rw (← c.pair_at-q.ensures.0) c.place.ensures in place_is')) (line_is (goal.at.loop-n-preserved c).After-line_length-k) c.if-most-bytes.false _ c.turn-n.ensures.stack c.turn-n.ensures.wrote
+loop-n-preserved c =
+    let place_is : c.place.result ≡ place_of c.args.d c.loop-n.work (entry_on c.loop-n.work (c.loop-n.n - 1)) = rw (← c.pair_at-q.ensures.0) c.place.ensures in
+    measuring_more c.loop-n.invariant c.loop-n-test.true _ place_is (line_is (goal.at.loop-n-preserved c).After-line_length-k) c.if-most-bytes.false _ c.turn-n.ensures.stack c.turn-n.ensures.wrote
 
 pub with_first-requires : goal.with_first-requires
 with_first-requires c = c.loop-n.invariant.within

@@ -46,12 +46,14 @@ child_of-top-requires c = record { directory_listed = c.requires.directory_liste
 
 pub push-n-requires : goal.push-n-requires
 push-n-requires c =
-    let l = (let lent' : ListingLent c.args.d c.args.img.now c.args.work.now = record { listed = c.requires.directory_listed; rules = c.requires.img_value; trees = c.requires.img_value_2; apart = c.requires.d_bound; few = c.requires.d_bound_2 } in lent') in
+    let lent : ListingLent c.args.d c.args.img.now c.args.work.now = record { listed = c.requires.directory_listed; rules = c.requires.img_value; trees = c.requires.img_value_2; apart = c.requires.d_bound; few = c.requires.d_bound_2 } in
+    let l = lent in
     let y = c.child_of-top.ensures in record { directory_listed = l.listed; d_bound = l.apart; x_value = start_sound l y; x_bound = start_room l y }
 
 pub loop-n-init : goal.loop-n-init
 loop-n-init c =
-    let v = walks_here (start_walks (let lent' : ListingLent c.args.d c.args.img.now c.args.work.now = record { listed = c.requires.directory_listed; rules = c.requires.img_value; trees = c.requires.img_value_2; apart = c.requires.d_bound; few = c.requires.d_bound_2 } in lent') c.child_of-top.ensures _ c.push-n.ensures.stack c.push-n.ensures.wrote) in
+    let lent : ListingLent c.args.d c.args.img.now c.args.work.now = record { listed = c.requires.directory_listed; rules = c.requires.img_value; trees = c.requires.img_value_2; apart = c.requires.d_bound; few = c.requires.d_bound_2 } in
+    let v = walks_here (start_walks lent c.child_of-top.ensures _ c.push-n.ensures.stack c.push-n.ensures.wrote) in
     let f = first_room (entries_of c.args.d c.args.img.now) c.args.out.now c.requires.objects_value c.requires.img_in_bounds in
     writing_start c.args.out.now v c.put_first-at.ensures.count c.put_first-at.ensures.written (omega (arith, f, ap length c.put_first-at.ensures.written, over_length _ c.args.out.now f))
 
@@ -63,18 +65,22 @@ place-p-requires c = rw c.pair_at-q.ensures.0 (placed c.loop-n.invariant.walks.l
 
 pub put_line-from-requires : goal.put_line-from-requires
 put_line-from-requires c =
+    let place_is : c.place-p.result ≡ place_of c.args.d c.loop-n.work (entry_on c.loop-n.work (c.loop-n.n - 1)) = rw (← c.pair_at-q.ensures.0) c.place-p.ensures in
     let m = c.loop-n.invariant in
     let h = c.loop-n-test.true in
     let o = c.requires.objects_value in
     let r = room (goal.at.put_line-from-requires c).In-loop-n in
-    let q = (let place_is' : c.place-p.result ≡ place_of c.args.d c.loop-n.work (entry_on c.loop-n.work (c.loop-n.n - 1)) = rw (← c.pair_at-q.ensures.0) c.place-p.ensures in place_is') in rw c.pair_at-q.ensures.1 (record { named_at = walks_named m.walks h _ q; parent_bound = line_behind m o r h _ q; parent_in_bounds = line_fits m o r h _ q })
+    let q = place_is in rw c.pair_at-q.ensures.1 (record { named_at = walks_named m.walks h _ q; parent_bound = line_behind m o r h _ q; parent_in_bounds = line_fits m o r h _ q })
 
 pub line_length-at-requires : goal.line_length-at-requires
-line_length-at-requires c = record { named_at = walks_named c.loop-n.invariant.walks c.loop-n-test.true _ ((let place_is' : c.place-p.result ≡ place_of c.args.d c.loop-n.work (entry_on c.loop-n.work (c.loop-n.n - 1)) = rw (← c.pair_at-q.ensures.0) c.place-p.ensures in place_is')); parent_bound = omega (arith, c.pair_at-q.ensures.1, (turning (goal.at.line_length-at-requires c).In-loop-n).fits) }
+line_length-at-requires c =
+    let place_is : c.place-p.result ≡ place_of c.args.d c.loop-n.work (entry_on c.loop-n.work (c.loop-n.n - 1)) = rw (← c.pair_at-q.ensures.0) c.place-p.ensures in
+    record { named_at = walks_named c.loop-n.invariant.walks c.loop-n-test.true _ place_is; parent_bound = omega (arith, c.pair_at-q.ensures.1, (turning (goal.at.line_length-at-requires c).In-loop-n).fits) }
 
 pub overflow_add-at : goal.overflow_add-at
 overflow_add-at c =
-    let f = line_fits c.loop-n.invariant c.requires.objects_value (room (goal.at.overflow_add-at c).In-loop-n) c.loop-n-test.true _ ((let place_is' : c.place-p.result ≡ place_of c.args.d c.loop-n.work (entry_on c.loop-n.work (c.loop-n.n - 1)) = rw (← c.pair_at-q.ensures.0) c.place-p.ensures in place_is')) in
+    let place_is : c.place-p.result ≡ place_of c.args.d c.loop-n.work (entry_on c.loop-n.work (c.loop-n.n - 1)) = rw (← c.pair_at-q.ensures.0) c.place-p.ensures in
+    let f = line_fits c.loop-n.invariant c.requires.objects_value (room (goal.at.overflow_add-at c).In-loop-n) c.loop-n-test.true _ place_is in
     -- the buffer's length fits, as it did at the start
     omega (arith, f, line_is (goal.at.overflow_add-at c).After-line_length-at, filled_length c.loop-n.invariant.placed, first_long (goal.at.overflow_add-at c).In-loop-n, c.well_formed.1.1.1.1.0)
 
@@ -85,7 +91,9 @@ pub loop-n-smaller : goal.loop-n-smaller
 loop-n-smaller c = walks_less c.loop-n.invariant.walks c.loop-n-test.true _ c.turn-n.ensures.stack c.turn-n.ensures.wrote
 
 pub loop-n-preserved : goal.loop-n-preserved
-loop-n-preserved c = writing_more c.loop-n.invariant c.requires.objects_value (room (goal.at.loop-n-preserved c).In-loop-n) c.loop-n-test.true _ ((let place_is' : c.place-p.result ≡ place_of c.args.d c.loop-n.work (entry_on c.loop-n.work (c.loop-n.n - 1)) = rw (← c.pair_at-q.ensures.0) c.place-p.ensures in place_is')) c.put_line-from.ensures.path (rw (← c.pair_at-q.ensures.1) c.put_line-from.ensures.written) (line_is (goal.at.loop-n-preserved c).After-line_length-at) _ c.turn-n.ensures.stack c.turn-n.ensures.wrote
+loop-n-preserved c =
+    let place_is : c.place-p.result ≡ place_of c.args.d c.loop-n.work (entry_on c.loop-n.work (c.loop-n.n - 1)) = rw (← c.pair_at-q.ensures.0) c.place-p.ensures in
+    writing_more c.loop-n.invariant c.requires.objects_value (room (goal.at.loop-n-preserved c).In-loop-n) c.loop-n-test.true _ place_is c.put_line-from.ensures.path (rw (← c.pair_at-q.ensures.1) c.put_line-from.ensures.written) (line_is (goal.at.loop-n-preserved c).After-line_length-at) _ c.turn-n.ensures.stack c.turn-n.ensures.wrote
 
 pub returns : goal.returns
 returns c = let m = c.loop-n.invariant in record { written = writing_end m c.requires.objects_value (room_kept (entries_of c.args.d c.args.img.now) c.args.out.now c.requires.objects_value c.requires.img_in_bounds c.put_first-at.ensures.written) c.loop-n-test.false c.args.out.now c.put_first-at.ensures.written; wrote = wrote_two c.push-n.ensures.wrote m.walks.wrote }

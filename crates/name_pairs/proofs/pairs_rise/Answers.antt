@@ -68,7 +68,9 @@ pair_rises-requires c =
     let n = c.look.ensures.counted _ c.loop-i-test.true in record { named_at = p.first; named_at_2 = p.second; n_value = (n ∙ sym p.units, n); alike = c.look.ensures.begun _ c.loop-i-test.true }
 
 pub returns-then-not-pair_rises : goal.returns-then-not-pair_rises
-returns-then-not-pair_rises c = sym (below_not _ _ _ c.loop-i-test.true ((let told' : let a = c.args in pair_rises a.img.now a.low.now a.high.now c.loop-i.i ≡ c.pair_rises.result = sym c.pair_rises.ensures in told') ∙ c.if-not-pair_rises.true))
+returns-then-not-pair_rises c =
+    let told : let a = c.args in pair_rises a.img.now a.low.now a.high.now c.loop-i.i ≡ c.pair_rises.result = sym c.pair_rises.ensures in
+    sym (below_not _ _ _ c.loop-i-test.true (told ∙ c.if-not-pair_rises.true))
 
 pub overflow_add-i : goal.overflow_add-i
 overflow_add-i c = omega (arith, inside (goal.at.overflow_add-i c).In-loop-i)
@@ -77,7 +79,9 @@ pub loop-i-smaller : goal.loop-i-smaller
 loop-i-smaller c = omega (arith, c.loop-i-test.true)
 
 pub loop-i-preserved : goal.loop-i-preserved
-loop-i-preserved c = (omega (arith, c.loop-i-test.true), below_more _ _ c.loop-i.invariant.1 ((let told' : let a = c.args in pair_rises a.img.now a.low.now a.high.now c.loop-i.i ≡ c.pair_rises.result = sym c.pair_rises.ensures in told') ∙ c.if-not-pair_rises.false))
+loop-i-preserved c =
+    let told : let a = c.args in pair_rises a.img.now a.low.now a.high.now c.loop-i.i ≡ c.pair_rises.result = sym c.pair_rises.ensures in
+    (omega (arith, c.loop-i-test.true), below_more _ _ c.loop-i.invariant.1 (told ∙ c.if-not-pair_rises.false))
 
 pub returns : goal.returns
 returns c =

@@ -32,7 +32,9 @@ pub slice_bounds-legal_name-end : goal.slice_bounds-legal_name-end
 slice_bounds-legal_name-end c = inside (goal.at.slice_bounds-legal_name-end c).After-first_name_length-n
 
 pub returns-then-not-legal_name : goal.returns-then-not-legal_name
-returns-then-not-legal_name c = formed_stop _ c.loop-i.i c.loop-i.invariant c.loop-i-test.true (said_no (ap not c.if-not-legal_name.true) ((let tested' : c.legal_name.result ≡ legal_name (first_name (drop (c.loop-i.i) (c.args.path.now))) = c.legal_name.ensures ∙ ap legal_name (name_is (c.args.path.now) (c.loop-i.i) c.first_name_length-n.result (counted (goal.at.returns-then-not-legal_name c).After-first_name_length-n)) in tested')))
+returns-then-not-legal_name c =
+    let tested : c.legal_name.result ≡ legal_name (first_name (drop (c.loop-i.i) (c.args.path.now))) = c.legal_name.ensures ∙ ap legal_name (name_is (c.args.path.now) (c.loop-i.i) c.first_name_length-n.result (counted (goal.at.returns-then-not-legal_name c).After-first_name_length-n)) in
+    formed_stop _ c.loop-i.i c.loop-i.invariant c.loop-i-test.true (said_no (ap not c.if-not-legal_name.true) tested)
 
 pub overflow_add-i-in-loop-i : goal.overflow_add-i-in-loop-i
 overflow_add-i-in-loop-i c = omega (arith, inside (goal.at.overflow_add-i-in-loop-i c).After-first_name_length-n)
@@ -44,7 +46,9 @@ pub loop-i-smaller : goal.loop-i-smaller
 loop-i-smaller c = omega (arith, c.loop-i-test.true)
 
 pub loop-i-preserved : goal.loop-i-preserved
-loop-i-preserved c = rw (counted (goal.at.loop-i-preserved c).After-first_name_length-n) (formed_on _ c.loop-i.i c.loop-i.invariant c.loop-i-test.true (said_yes (ap not c.if-not-legal_name.false) ((let tested' : c.legal_name.result ≡ legal_name (first_name (drop (c.loop-i.i) (c.args.path.now))) = c.legal_name.ensures ∙ ap legal_name (name_is (c.args.path.now) (c.loop-i.i) c.first_name_length-n.result (counted (goal.at.loop-i-preserved c).After-first_name_length-n)) in tested'))))
+loop-i-preserved c =
+    let tested : c.legal_name.result ≡ legal_name (first_name (drop (c.loop-i.i) (c.args.path.now))) = c.legal_name.ensures ∙ ap legal_name (name_is (c.args.path.now) (c.loop-i.i) c.first_name_length-n.result (counted (goal.at.loop-i-preserved c).After-first_name_length-n)) in
+    rw (counted (goal.at.loop-i-preserved c).After-first_name_length-n) (formed_on _ c.loop-i.i c.loop-i.invariant c.loop-i-test.true (said_yes (ap not c.if-not-legal_name.false) tested))
 
 pub returns : goal.returns
 returns c = formed_end _ _ c.loop-i.invariant c.loop-i-test.false

@@ -17,7 +17,9 @@ use Rattle.pulse.proofs.Opening.{summary_number, work_refused, opened_long, late
 use Rattle.pulse.proofs.add.Goals as goal
 
 pub add_in-r-requires : goal.add_in-r-requires
-add_in-r-requires c = ((let ready' : let p = c.args in OpeningRight p.image.now p.work.now c.open_image.new.work (Ready c.in-Ready.v) = let p = c.args in opening_ready p.image.now p.work.now _ _ c.open_image.ensures c.in-Ready.is in ready')).1.0
+add_in-r-requires c =
+    let ready : let p = c.args in OpeningRight p.image.now p.work.now c.open_image.new.work (Ready c.in-Ready.v) = let p = c.args in opening_ready p.image.now p.work.now _ _ c.open_image.ensures c.in-Ready.is in
+    ready.1.0
 
 pub returns-in-Refused : goal.returns-in-Refused
 returns-in-Refused c =
@@ -31,8 +33,9 @@ returns-in-Refused c =
 
 pub returns-in-Ready : goal.returns-in-Ready
 returns-in-Ready c =
+    let ready : let p = c.args in OpeningRight p.image.now p.work.now c.open_image.new.work (Ready c.in-Ready.v) = let p = c.args in opening_ready p.image.now p.work.now _ _ c.open_image.ensures c.in-Ready.is in
     let p = c.args in
-    let q = (let ready' : let p = c.args in OpeningRight p.image.now p.work.now c.open_image.new.work (Ready c.in-Ready.v) = let p = c.args in opening_ready p.image.now p.work.now _ _ c.open_image.ensures c.in-Ready.is in ready') in
+    let q = ready in
     let w = c.open_image.new.work in
     let x = pulse_for p.valve p.ticks in
     let l = subst Late (add_long w p.work.now (opened_long q) p.image.now p.path.now x) (late_add q.1.0 p.path.now x) in

@@ -14,7 +14,9 @@ use Rattle.pulse.proofs.Opening.{summary_number, work_refused, opened_long, late
 use Rattle.pulse.proofs.record.Goals as goal
 
 pub record_in-r-requires : goal.record_in-r-requires
-record_in-r-requires c = ((let ready' : let p = c.args in OpeningRight p.image.now p.work.now c.open_image.new.work (Ready c.in-Ready.v) = let p = c.args in opening_ready p.image.now p.work.now _ _ c.open_image.ensures c.in-Ready.is in ready')).1.0
+record_in-r-requires c =
+    let ready : let p = c.args in OpeningRight p.image.now p.work.now c.open_image.new.work (Ready c.in-Ready.v) = let p = c.args in opening_ready p.image.now p.work.now _ _ c.open_image.ensures c.in-Ready.is in
+    ready.1.0
 
 pub returns-in-Refused : goal.returns-in-Refused
 returns-in-Refused c =
@@ -26,7 +28,8 @@ returns-in-Refused c =
 
 pub returns-in-Ready : goal.returns-in-Ready
 returns-in-Ready c =
+    let ready : let p = c.args in OpeningRight p.image.now p.work.now c.open_image.new.work (Ready c.in-Ready.v) = let p = c.args in opening_ready p.image.now p.work.now _ _ c.open_image.ensures c.in-Ready.is in
     let p = c.args in
-    let q = (let ready' : let p = c.args in OpeningRight p.image.now p.work.now c.open_image.new.work (Ready c.in-Ready.v) = let p = c.args in opening_ready p.image.now p.work.now _ _ c.open_image.ensures c.in-Ready.is in ready') in
+    let q = ready in
     let w = c.open_image.new.work in
     let l = subst Late (record_long w p.work.now (opened_long q) p.image.now p.path.now p.number.0) (late_record q.1.0 p.path.now p.number.0) in record { result_value = c.record_in-r.ensures.result_value ∙ record_reply_long w p.work.now (opened_long q) p.image.now p.path.now p.number.0; work_after = work_closed q (record_answer p.image.now p.path.now p.number.0 p.work.now) l c.record_in-r.ensures.wrote c.close.ensures }

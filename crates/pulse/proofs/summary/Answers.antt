@@ -12,7 +12,9 @@ use Rattle.pulse.proofs.Opening.{summary_number, work_refused, opened_long, late
 use Rattle.pulse.proofs.summary.Goals as goal
 
 pub summary_in-r-requires : goal.summary_in-r-requires
-summary_in-r-requires c = ((let ready' : let p = c.args in OpeningRight p.image.now p.work.now c.open_image.new.work (Ready c.in-Ready.v) = let p = c.args in opening_ready p.image.now p.work.now _ _ c.open_image.ensures c.in-Ready.is in ready')).1.0
+summary_in-r-requires c =
+    let ready : let p = c.args in OpeningRight p.image.now p.work.now c.open_image.new.work (Ready c.in-Ready.v) = let p = c.args in opening_ready p.image.now p.work.now _ _ c.open_image.ensures c.in-Ready.is in
+    ready.1.0
 
 pub returns-in-Refused : goal.returns-in-Refused
 returns-in-Refused c =
@@ -23,7 +25,8 @@ returns-in-Refused c =
 
 pub returns-in-Ready : goal.returns-in-Ready
 returns-in-Ready c =
+    let ready : let p = c.args in OpeningRight p.image.now p.work.now c.open_image.new.work (Ready c.in-Ready.v) = let p = c.args in opening_ready p.image.now p.work.now _ _ c.open_image.ensures c.in-Ready.is in
     let p = c.args in
-    let q = (let ready' : let p = c.args in OpeningRight p.image.now p.work.now c.open_image.new.work (Ready c.in-Ready.v) = let p = c.args in opening_ready p.image.now p.work.now _ _ c.open_image.ensures c.in-Ready.is in ready') in
+    let q = ready in
     let w = c.open_image.new.work in
     let l = subst Late (summary_long w p.work.now (opened_long q) p.image.now p.path.now) (late_summary q.1.0 p.path.now) in record { result_value = c.summary_in-r.ensures.result_value ∙ summary_reply_long w p.work.now (opened_long q) p.image.now p.path.now; work_after = work_closed q (summary_answer p.image.now p.path.now p.work.now) l c.summary_in-r.ensures.wrote c.close.ensures }

@@ -52,27 +52,40 @@ returns-then-end-eq0 c = none_read _ _ _ c.if-end-eq0.true
 
 pub units_for-n-requires : goal.units_for-n-requires
 unfolding chain_for
-units_for-n-requires c = (let many' : 1 < c.unit_bytes-bytes.result = rw c.unit_bytes-bytes.ensures (unit_many c.requires.readied c.kind.result) in many')
+units_for-n-requires c =
+    let many : 1 < c.unit_bytes-bytes.result = rw c.unit_bytes-bytes.ensures (unit_many c.requires.readied c.kind.result) in
+    many
 
 pub nonzero_div-offset : goal.nonzero_div-offset
 unfolding chain_for
-nonzero_div-offset c = omega (arith, (let many' : 1 < c.unit_bytes-bytes.result = rw c.unit_bytes-bytes.ensures (unit_many c.requires.readied c.kind.result) in many'))
+nonzero_div-offset c =
+    let many : 1 < c.unit_bytes-bytes.result = rw c.unit_bytes-bytes.ensures (unit_many c.requires.readied c.kind.result) in
+    omega (arith, many)
 
 pub unit_after-u-requires : goal.unit_after-u-requires
 unfolding chain_for
-unit_after-u-requires c = let z = (let many' : 1 < c.unit_bytes-bytes.result = rw c.unit_bytes-bytes.ensures (unit_many c.requires.readied c.kind.result) in many') in record { readied = c.requires.readied; n_value = rw (c.units_for-n.ensures, (let bytes_are' : c.unit_bytes-bytes.result ≡ ((space_at c.args.v c.args.img.now (kind_of c.args.start))).unit = c.unit_bytes-bytes.ensures ∙ ap (unit_bytes c.args.v) c.kind.ensures ∙ unit_same c.requires.readied (kind_of c.args.start) in bytes_are')) c.requires.start_value; k_lt_n = rw c.units_for-n.ensures (round_lt c.args.offset c.args.size c.unit_bytes-bytes.result (omega arith) (omega (arith, c.requires.out_bound, c.if-end-eq0.false))) }
+unit_after-u-requires c =
+    let many : 1 < c.unit_bytes-bytes.result = rw c.unit_bytes-bytes.ensures (unit_many c.requires.readied c.kind.result) in
+    let bytes_are : c.unit_bytes-bytes.result ≡ ((space_at c.args.v c.args.img.now (kind_of c.args.start))).unit = c.unit_bytes-bytes.ensures ∙ ap (unit_bytes c.args.v) c.kind.ensures ∙ unit_same c.requires.readied (kind_of c.args.start) in
+    let z = many in record { readied = c.requires.readied; n_value = rw (c.units_for-n.ensures, bytes_are) c.requires.start_value; k_lt_n = rw c.units_for-n.ensures (round_lt c.args.offset c.args.size c.unit_bytes-bytes.result (omega arith) (omega (arith, c.requires.out_bound, c.if-end-eq0.false))) }
 
 pub nonzero_rem-o : goal.nonzero_rem-o
 unfolding chain_for
-nonzero_rem-o c = omega (arith, (let many' : 1 < c.unit_bytes-bytes.result = rw c.unit_bytes-bytes.ensures (unit_many c.requires.readied c.kind.result) in many'))
+nonzero_rem-o c =
+    let many : 1 < c.unit_bytes-bytes.result = rw c.unit_bytes-bytes.ensures (unit_many c.requires.readied c.kind.result) in
+    omega (arith, many)
 
 pub loop-i-init : goal.loop-i-init
 unfolding chain_for
-loop-i-init c = (refl, rw (first_kind (goal.at.loop-i-init c).After-unit_after-u, (let bytes_are' : c.unit_bytes-bytes.result ≡ ((space_at c.args.v c.args.img.now (kind_of c.args.start))).unit = c.unit_bytes-bytes.ensures ∙ ap (unit_bytes c.args.v) c.kind.ensures ∙ unit_same c.requires.readied (kind_of c.args.start) in bytes_are')) (λ s h e. reading_start c.args.img.now (units_stand c.requires.readied (kind_of c.args.start)) h c.requires.out_bound _ e))
+loop-i-init c =
+    let bytes_are : c.unit_bytes-bytes.result ≡ ((space_at c.args.v c.args.img.now (kind_of c.args.start))).unit = c.unit_bytes-bytes.ensures ∙ ap (unit_bytes c.args.v) c.kind.ensures ∙ unit_same c.requires.readied (kind_of c.args.start) in
+    (refl, rw (first_kind (goal.at.loop-i-init c).After-unit_after-u, bytes_are) (λ s h e. reading_start c.args.img.now (units_stand c.requires.readied (kind_of c.args.start)) h c.requires.out_bound _ e))
 
 pub unit_place-requires : goal.unit_place-requires
 unfolding chain_for
-unit_place-requires c = rw ((let same_kind' : kind_of c.loop-i.u ≡ kind_of c.args.start = c.loop-i.invariant.0 ∙ first_kind (goal.at.unit_place-requires c).After-unit_after-u in same_kind')) (unit_listed c.requires.readied (kind_of c.args.start) (number_in c.loop-i.u) (below (goal.at.unit_place-requires c).In-loop-i))
+unit_place-requires c =
+    let same_kind : kind_of c.loop-i.u ≡ kind_of c.args.start = c.loop-i.invariant.0 ∙ first_kind (goal.at.unit_place-requires c).After-unit_after-u in
+    rw same_kind (unit_listed c.requires.readied (kind_of c.args.start) (number_in c.loop-i.u) (below (goal.at.unit_place-requires c).In-loop-i))
 
 pub overflow_add-p : goal.overflow_add-p
 unfolding chain_for
@@ -92,31 +105,55 @@ least-run-requires c = search rules
 
 pub copy_part-requires : goal.copy_part-requires
 unfolding chain_for units_for
-copy_part-requires c = record { n_in_bounds = omega (arith, ((let more' : (0 < c.least-run.result) × (c.loop-i.i + c.least-run.result ≤ length c.args.out.now) = reading_more c.args.img.now (units_stand c.requires.readied (kind_of c.args.start)) c.requires.start_value c.requires.out_bound ((let walk' : let a = c.args in Reading ((space_at c.args.v c.args.img.now (kind_of c.args.start))) a.img.now a.size (number_in a.start) a.offset a.out.now c.loop-i.out (number_in c.loop-i.u) c.loop-i.o c.loop-i.i = let e = (unit_as (kind_of c.args.start) _ c.unit_after-u.ensures).1 in (rw (first_kind (goal.at.copy_part-requires c).After-unit_after-u) at c.loop-i.invariant.1) (number_in c.args.start) c.requires.start_value (rw (c.units_for-n.ensures, (let bytes_are' : c.unit_bytes-bytes.result ≡ ((space_at c.args.v c.args.img.now (kind_of c.args.start))).unit = c.unit_bytes-bytes.ensures ∙ ap (unit_bytes c.args.v) c.kind.ensures ∙ unit_same c.requires.readied (kind_of c.args.start) in bytes_are')) at e) in walk')) c.loop-i-test.true c.least-run.result ((let run_is' : c.least-run.result ≡ min (((space_at c.args.v c.args.img.now (kind_of c.args.start))).unit - c.loop-i.o) (length c.loop-i.out - c.loop-i.i) = c.least-run.ensures ∙ ap₂ (λ n k. min (n - c.loop-i.o) (k - c.loop-i.i)) ((let bytes_are' : c.unit_bytes-bytes.result ≡ ((space_at c.args.v c.args.img.now (kind_of c.args.start))).unit = c.unit_bytes-bytes.ensures ∙ ap (unit_bytes c.args.v) c.kind.ensures ∙ unit_same c.requires.readied (kind_of c.args.start) in bytes_are')) (sym ((let walk' : let a = c.args in Reading ((space_at c.args.v c.args.img.now (kind_of c.args.start))) a.img.now a.size (number_in a.start) a.offset a.out.now c.loop-i.out (number_in c.loop-i.u) c.loop-i.o c.loop-i.i = let e = (unit_as (kind_of c.args.start) _ c.unit_after-u.ensures).1 in (rw (first_kind (goal.at.copy_part-requires c).After-unit_after-u) at c.loop-i.invariant.1) (number_in c.args.start) c.requires.start_value (rw (c.units_for-n.ensures, (let bytes_are' : c.unit_bytes-bytes.result ≡ ((space_at c.args.v c.args.img.now (kind_of c.args.start))).unit = c.unit_bytes-bytes.ensures ∙ ap (unit_bytes c.args.v) c.kind.ensures ∙ unit_same c.requires.readied (kind_of c.args.start) in bytes_are')) at e) in walk')).long) in run_is')) in more')).1, ((let walk' : let a = c.args in Reading ((space_at c.args.v c.args.img.now (kind_of c.args.start))) a.img.now a.size (number_in a.start) a.offset a.out.now c.loop-i.out (number_in c.loop-i.u) c.loop-i.o c.loop-i.i = let e = (unit_as (kind_of c.args.start) _ c.unit_after-u.ensures).1 in (rw (first_kind (goal.at.copy_part-requires c).After-unit_after-u) at c.loop-i.invariant.1) (number_in c.args.start) c.requires.start_value (rw (c.units_for-n.ensures, (let bytes_are' : c.unit_bytes-bytes.result ≡ ((space_at c.args.v c.args.img.now (kind_of c.args.start))).unit = c.unit_bytes-bytes.ensures ∙ ap (unit_bytes c.args.v) c.kind.ensures ∙ unit_same c.requires.readied (kind_of c.args.start) in bytes_are')) at e) in walk')).long); n_in_bounds_2 = omega (arith, c.least-run.ensures, room (goal.at.copy_part-requires c).After-unit_place) }
+copy_part-requires c =
+    let bytes_are : c.unit_bytes-bytes.result ≡ ((space_at c.args.v c.args.img.now (kind_of c.args.start))).unit = c.unit_bytes-bytes.ensures ∙ ap (unit_bytes c.args.v) c.kind.ensures ∙ unit_same c.requires.readied (kind_of c.args.start) in
+    let walk : let a = c.args in Reading ((space_at c.args.v c.args.img.now (kind_of c.args.start))) a.img.now a.size (number_in a.start) a.offset a.out.now c.loop-i.out (number_in c.loop-i.u) c.loop-i.o c.loop-i.i = let e = (unit_as (kind_of c.args.start) _ c.unit_after-u.ensures).1 in (rw (first_kind (goal.at.copy_part-requires c).After-unit_after-u) at c.loop-i.invariant.1) (number_in c.args.start) c.requires.start_value (rw (c.units_for-n.ensures, bytes_are) at e) in
+    let run_is : c.least-run.result ≡ min (((space_at c.args.v c.args.img.now (kind_of c.args.start))).unit - c.loop-i.o) (length c.loop-i.out - c.loop-i.i) = c.least-run.ensures ∙ ap₂ (λ n k. min (n - c.loop-i.o) (k - c.loop-i.i)) bytes_are (sym walk.long) in
+    let more : (0 < c.least-run.result) × (c.loop-i.i + c.least-run.result ≤ length c.args.out.now) = reading_more c.args.img.now (units_stand c.requires.readied (kind_of c.args.start)) c.requires.start_value c.requires.out_bound walk c.loop-i-test.true c.least-run.result run_is in
+    record { n_in_bounds = omega (arith, more.1, walk.long); n_in_bounds_2 = omega (arith, c.least-run.ensures, room (goal.at.copy_part-requires c).After-unit_place) }
 
 pub overflow_add-i : goal.overflow_add-i
 unfolding chain_for units_for
-overflow_add-i c = omega (arith, ((let more' : (0 < c.least-run.result) × (c.loop-i.i + c.least-run.result ≤ length c.args.out.now) = reading_more c.args.img.now (units_stand c.requires.readied (kind_of c.args.start)) c.requires.start_value c.requires.out_bound ((let walk' : let a = c.args in Reading ((space_at c.args.v c.args.img.now (kind_of c.args.start))) a.img.now a.size (number_in a.start) a.offset a.out.now c.loop-i.out (number_in c.loop-i.u) c.loop-i.o c.loop-i.i = let e = (unit_as (kind_of c.args.start) _ c.unit_after-u.ensures).1 in (rw (first_kind (goal.at.overflow_add-i c).After-unit_after-u) at c.loop-i.invariant.1) (number_in c.args.start) c.requires.start_value (rw (c.units_for-n.ensures, (let bytes_are' : c.unit_bytes-bytes.result ≡ ((space_at c.args.v c.args.img.now (kind_of c.args.start))).unit = c.unit_bytes-bytes.ensures ∙ ap (unit_bytes c.args.v) c.kind.ensures ∙ unit_same c.requires.readied (kind_of c.args.start) in bytes_are')) at e) in walk')) c.loop-i-test.true c.least-run.result ((let run_is' : c.least-run.result ≡ min (((space_at c.args.v c.args.img.now (kind_of c.args.start))).unit - c.loop-i.o) (length c.loop-i.out - c.loop-i.i) = c.least-run.ensures ∙ ap₂ (λ n k. min (n - c.loop-i.o) (k - c.loop-i.i)) ((let bytes_are' : c.unit_bytes-bytes.result ≡ ((space_at c.args.v c.args.img.now (kind_of c.args.start))).unit = c.unit_bytes-bytes.ensures ∙ ap (unit_bytes c.args.v) c.kind.ensures ∙ unit_same c.requires.readied (kind_of c.args.start) in bytes_are')) (sym ((let walk' : let a = c.args in Reading ((space_at c.args.v c.args.img.now (kind_of c.args.start))) a.img.now a.size (number_in a.start) a.offset a.out.now c.loop-i.out (number_in c.loop-i.u) c.loop-i.o c.loop-i.i = let e = (unit_as (kind_of c.args.start) _ c.unit_after-u.ensures).1 in (rw (first_kind (goal.at.overflow_add-i c).After-unit_after-u) at c.loop-i.invariant.1) (number_in c.args.start) c.requires.start_value (rw (c.units_for-n.ensures, (let bytes_are' : c.unit_bytes-bytes.result ≡ ((space_at c.args.v c.args.img.now (kind_of c.args.start))).unit = c.unit_bytes-bytes.ensures ∙ ap (unit_bytes c.args.v) c.kind.ensures ∙ unit_same c.requires.readied (kind_of c.args.start) in bytes_are')) at e) in walk')).long) in run_is')) in more')).1)
+overflow_add-i c =
+    let bytes_are : c.unit_bytes-bytes.result ≡ ((space_at c.args.v c.args.img.now (kind_of c.args.start))).unit = c.unit_bytes-bytes.ensures ∙ ap (unit_bytes c.args.v) c.kind.ensures ∙ unit_same c.requires.readied (kind_of c.args.start) in
+    let walk : let a = c.args in Reading ((space_at c.args.v c.args.img.now (kind_of c.args.start))) a.img.now a.size (number_in a.start) a.offset a.out.now c.loop-i.out (number_in c.loop-i.u) c.loop-i.o c.loop-i.i = let e = (unit_as (kind_of c.args.start) _ c.unit_after-u.ensures).1 in (rw (first_kind (goal.at.overflow_add-i c).After-unit_after-u) at c.loop-i.invariant.1) (number_in c.args.start) c.requires.start_value (rw (c.units_for-n.ensures, bytes_are) at e) in
+    let run_is : c.least-run.result ≡ min (((space_at c.args.v c.args.img.now (kind_of c.args.start))).unit - c.loop-i.o) (length c.loop-i.out - c.loop-i.i) = c.least-run.ensures ∙ ap₂ (λ n k. min (n - c.loop-i.o) (k - c.loop-i.i)) bytes_are (sym walk.long) in
+    let more : (0 < c.least-run.result) × (c.loop-i.i + c.least-run.result ≤ length c.args.out.now) = reading_more c.args.img.now (units_stand c.requires.readied (kind_of c.args.start)) c.requires.start_value c.requires.out_bound walk c.loop-i-test.true c.least-run.result run_is in
+    omega (arith, more.1)
 
 pub cell_of-u-requires : goal.cell_of-u-requires
 unfolding chain_for
-cell_of-u-requires c = record { readied = c.requires.readied; u_bound = rw ((let same_kind' : kind_of c.loop-i.u ≡ kind_of c.args.start = c.loop-i.invariant.0 ∙ first_kind (goal.at.cell_of-u-requires c).After-unit_after-u in same_kind')) (below (goal.at.cell_of-u-requires c).In-loop-i) }
+cell_of-u-requires c =
+    let same_kind : kind_of c.loop-i.u ≡ kind_of c.args.start = c.loop-i.invariant.0 ∙ first_kind (goal.at.cell_of-u-requires c).After-unit_after-u in
+    record { readied = c.requires.readied; u_bound = rw same_kind (below (goal.at.cell_of-u-requires c).In-loop-i) }
 
 pub loop-i-smaller : goal.loop-i-smaller
 unfolding chain_for units_for
-loop-i-smaller c = let m = (let more' : (0 < c.least-run.result) × (c.loop-i.i + c.least-run.result ≤ length c.args.out.now) = reading_more c.args.img.now (units_stand c.requires.readied (kind_of c.args.start)) c.requires.start_value c.requires.out_bound ((let walk' : let a = c.args in Reading ((space_at c.args.v c.args.img.now (kind_of c.args.start))) a.img.now a.size (number_in a.start) a.offset a.out.now c.loop-i.out (number_in c.loop-i.u) c.loop-i.o c.loop-i.i = let e = (unit_as (kind_of c.args.start) _ c.unit_after-u.ensures).1 in (rw (first_kind (goal.at.loop-i-smaller c).After-unit_after-u) at c.loop-i.invariant.1) (number_in c.args.start) c.requires.start_value (rw (c.units_for-n.ensures, (let bytes_are' : c.unit_bytes-bytes.result ≡ ((space_at c.args.v c.args.img.now (kind_of c.args.start))).unit = c.unit_bytes-bytes.ensures ∙ ap (unit_bytes c.args.v) c.kind.ensures ∙ unit_same c.requires.readied (kind_of c.args.start) in bytes_are')) at e) in walk')) c.loop-i-test.true c.least-run.result ((let run_is' : c.least-run.result ≡ min (((space_at c.args.v c.args.img.now (kind_of c.args.start))).unit - c.loop-i.o) (length c.loop-i.out - c.loop-i.i) = c.least-run.ensures ∙ ap₂ (λ n k. min (n - c.loop-i.o) (k - c.loop-i.i)) ((let bytes_are' : c.unit_bytes-bytes.result ≡ ((space_at c.args.v c.args.img.now (kind_of c.args.start))).unit = c.unit_bytes-bytes.ensures ∙ ap (unit_bytes c.args.v) c.kind.ensures ∙ unit_same c.requires.readied (kind_of c.args.start) in bytes_are')) (sym ((let walk' : let a = c.args in Reading ((space_at c.args.v c.args.img.now (kind_of c.args.start))) a.img.now a.size (number_in a.start) a.offset a.out.now c.loop-i.out (number_in c.loop-i.u) c.loop-i.o c.loop-i.i = let e = (unit_as (kind_of c.args.start) _ c.unit_after-u.ensures).1 in (rw (first_kind (goal.at.loop-i-smaller c).After-unit_after-u) at c.loop-i.invariant.1) (number_in c.args.start) c.requires.start_value (rw (c.units_for-n.ensures, (let bytes_are' : c.unit_bytes-bytes.result ≡ ((space_at c.args.v c.args.img.now (kind_of c.args.start))).unit = c.unit_bytes-bytes.ensures ∙ ap (unit_bytes c.args.v) c.kind.ensures ∙ unit_same c.requires.readied (kind_of c.args.start) in bytes_are')) at e) in walk')).long) in run_is')) in more') in omega (arith, m.0, m.1)
+loop-i-smaller c =
+    let bytes_are : c.unit_bytes-bytes.result ≡ ((space_at c.args.v c.args.img.now (kind_of c.args.start))).unit = c.unit_bytes-bytes.ensures ∙ ap (unit_bytes c.args.v) c.kind.ensures ∙ unit_same c.requires.readied (kind_of c.args.start) in
+    let walk : let a = c.args in Reading ((space_at c.args.v c.args.img.now (kind_of c.args.start))) a.img.now a.size (number_in a.start) a.offset a.out.now c.loop-i.out (number_in c.loop-i.u) c.loop-i.o c.loop-i.i = let e = (unit_as (kind_of c.args.start) _ c.unit_after-u.ensures).1 in (rw (first_kind (goal.at.loop-i-smaller c).After-unit_after-u) at c.loop-i.invariant.1) (number_in c.args.start) c.requires.start_value (rw (c.units_for-n.ensures, bytes_are) at e) in
+    let run_is : c.least-run.result ≡ min (((space_at c.args.v c.args.img.now (kind_of c.args.start))).unit - c.loop-i.o) (length c.loop-i.out - c.loop-i.i) = c.least-run.ensures ∙ ap₂ (λ n k. min (n - c.loop-i.o) (k - c.loop-i.i)) bytes_are (sym walk.long) in
+    let more : (0 < c.least-run.result) × (c.loop-i.i + c.least-run.result ≤ length c.args.out.now) = reading_more c.args.img.now (units_stand c.requires.readied (kind_of c.args.start)) c.requires.start_value c.requires.out_bound walk c.loop-i-test.true c.least-run.result run_is in
+    let m = more in omega (arith, m.0, m.1)
 
 pub loop-i-preserved : goal.loop-i-preserved
 unfolding chain_for units_for
 loop-i-preserved c =
+    let same_kind : kind_of c.loop-i.u ≡ kind_of c.args.start = c.loop-i.invariant.0 ∙ first_kind (goal.at.loop-i-preserved c).After-unit_after-u in
+    let bytes_are : c.unit_bytes-bytes.result ≡ ((space_at c.args.v c.args.img.now (kind_of c.args.start))).unit = c.unit_bytes-bytes.ensures ∙ ap (unit_bytes c.args.v) c.kind.ensures ∙ unit_same c.requires.readied (kind_of c.args.start) in
+    let walk : let a = c.args in Reading ((space_at c.args.v c.args.img.now (kind_of c.args.start))) a.img.now a.size (number_in a.start) a.offset a.out.now c.loop-i.out (number_in c.loop-i.u) c.loop-i.o c.loop-i.i = let e = (unit_as (kind_of c.args.start) _ c.unit_after-u.ensures).1 in (rw (first_kind (goal.at.loop-i-preserved c).After-unit_after-u) at c.loop-i.invariant.1) (number_in c.args.start) c.requires.start_value (rw (c.units_for-n.ensures, bytes_are) at e) in
+    let run_is : c.least-run.result ≡ min (((space_at c.args.v c.args.img.now (kind_of c.args.start))).unit - c.loop-i.o) (length c.loop-i.out - c.loop-i.i) = c.least-run.ensures ∙ ap₂ (λ n k. min (n - c.loop-i.o) (k - c.loop-i.i)) bytes_are (sym walk.long) in
     let w : ReadingFrom _ _ _ _ _ _ _ _ _ _ = rw (first_kind (goal.at.loop-i-preserved c).After-unit_after-u) at c.loop-i.invariant.1 in
-    let e = cell_as c.args.v c.args.img.now c.loop-i.u _ _ ((let same_kind' : kind_of c.loop-i.u ≡ kind_of c.args.start = c.loop-i.invariant.0 ∙ first_kind (goal.at.loop-i-preserved c).After-unit_after-u in same_kind')) refl c.cell_of-u.ensures in (
+    let e = cell_as c.args.v c.args.img.now c.loop-i.u _ _ same_kind refl c.cell_of-u.ensures in (
       e.0 ∙ sym (first_kind (goal.at.loop-i-preserved c).After-unit_after-u),
       rw (e.1, first_kind (goal.at.loop-i-preserved c).After-unit_after-u) (λ s h e.
           rw (c.copy_part.ensures, starts (goal.at.loop-i-preserved c).After-unit_place)
-          (reading_step c.args.img.now (units_stand c.requires.readied (kind_of c.args.start)) h c.requires.out_bound (w s h e) c.loop-i-test.true c.least-run.result ((let run_is' : c.least-run.result ≡ min (((space_at c.args.v c.args.img.now (kind_of c.args.start))).unit - c.loop-i.o) (length c.loop-i.out - c.loop-i.i) = c.least-run.ensures ∙ ap₂ (λ n k. min (n - c.loop-i.o) (k - c.loop-i.i)) ((let bytes_are' : c.unit_bytes-bytes.result ≡ ((space_at c.args.v c.args.img.now (kind_of c.args.start))).unit = c.unit_bytes-bytes.ensures ∙ ap (unit_bytes c.args.v) c.kind.ensures ∙ unit_same c.requires.readied (kind_of c.args.start) in bytes_are')) (sym ((let walk' : let a = c.args in Reading ((space_at c.args.v c.args.img.now (kind_of c.args.start))) a.img.now a.size (number_in a.start) a.offset a.out.now c.loop-i.out (number_in c.loop-i.u) c.loop-i.o c.loop-i.i = let e = (unit_as (kind_of c.args.start) _ c.unit_after-u.ensures).1 in (rw (first_kind (goal.at.loop-i-preserved c).After-unit_after-u) at c.loop-i.invariant.1) (number_in c.args.start) c.requires.start_value (rw (c.units_for-n.ensures, (let bytes_are' : c.unit_bytes-bytes.result ≡ ((space_at c.args.v c.args.img.now (kind_of c.args.start))).unit = c.unit_bytes-bytes.ensures ∙ ap (unit_bytes c.args.v) c.kind.ensures ∙ unit_same c.requires.readied (kind_of c.args.start) in bytes_are')) at e) in walk')).long) in run_is')))),
+          (reading_step c.args.img.now (units_stand c.requires.readied (kind_of c.args.start)) h c.requires.out_bound (w s h e) c.loop-i-test.true c.least-run.result run_is)),
     )
 
 pub returns : goal.returns
 unfolding chain_for units_for
-returns c = reading_done c.args.img.now (units_stand c.requires.readied (kind_of c.args.start)) c.requires.start_value c.requires.out_bound ((let walk' : let a = c.args in Reading ((space_at c.args.v c.args.img.now (kind_of c.args.start))) a.img.now a.size (number_in a.start) a.offset a.out.now c.loop-i.out (number_in c.loop-i.u) c.loop-i.o c.loop-i.i = let e = (unit_as (kind_of c.args.start) _ c.unit_after-u.ensures).1 in (rw (first_kind (goal.at.returns c).After-unit_after-u) at c.loop-i.invariant.1) (number_in c.args.start) c.requires.start_value (rw (c.units_for-n.ensures, (let bytes_are' : c.unit_bytes-bytes.result ≡ ((space_at c.args.v c.args.img.now (kind_of c.args.start))).unit = c.unit_bytes-bytes.ensures ∙ ap (unit_bytes c.args.v) c.kind.ensures ∙ unit_same c.requires.readied (kind_of c.args.start) in bytes_are')) at e) in walk')) (omega arith)
+returns c =
+    let bytes_are : c.unit_bytes-bytes.result ≡ ((space_at c.args.v c.args.img.now (kind_of c.args.start))).unit = c.unit_bytes-bytes.ensures ∙ ap (unit_bytes c.args.v) c.kind.ensures ∙ unit_same c.requires.readied (kind_of c.args.start) in
+    let walk : let a = c.args in Reading ((space_at c.args.v c.args.img.now (kind_of c.args.start))) a.img.now a.size (number_in a.start) a.offset a.out.now c.loop-i.out (number_in c.loop-i.u) c.loop-i.o c.loop-i.i = let e = (unit_as (kind_of c.args.start) _ c.unit_after-u.ensures).1 in (rw (first_kind (goal.at.returns c).After-unit_after-u) at c.loop-i.invariant.1) (number_in c.args.start) c.requires.start_value (rw (c.units_for-n.ensures, bytes_are) at e) in
+    reading_done c.args.img.now (units_stand c.requires.readied (kind_of c.args.start)) c.requires.start_value c.requires.out_bound walk (omega arith)

@@ -17,10 +17,20 @@ pub outcome-requires : goal.outcome-requires
 outcome-requires c = let k = c.requires in let e = c.copy.ensures in record { image_sized = copy_sized k e; img_in_bounds = copy_room k e }
 
 pub validate_outcome-r-requires : goal.validate_outcome-r-requires
-validate_outcome-r-requires c = (let done' : Tried c.args.image.now c.outcome.new.img c.outcome.new.work = tried c.requires c.copy.ensures c.outcome.ensures.image c.outcome.ensures.wrote in done')
+validate_outcome-r-requires c =
+    let done : Tried c.args.image.now c.outcome.new.img c.outcome.new.work = tried c.requires c.copy.ensures c.outcome.ensures.image c.outcome.ensures.wrote in
+    done
 
 pub returns-in-Done : goal.returns-in-Done
-returns-in-Done c = let p = c.args in record { reply = (let reply' : let p = c.args in repair_reply_of c.validate_outcome-r.result ≡ repair_reply p.image.now p.after.now p.work.now = same_reply c.args.image.now c.outcome.new.img c.args.after.now c.outcome.new.work c.args.work.now (omega (arith, after_long ((let done' : Tried c.args.image.now c.outcome.new.img c.outcome.new.work = tried c.requires c.copy.ensures c.outcome.ensures.image c.outcome.ensures.wrote in done')))) (buffer_long c.requires) (sym ((let wrote' : let p = c.args in Wrote p.work.now c.outcome.new.work 0 (work_need (length p.image.now)) = tried_wrote c.requires c.copy.ensures c.outcome.ensures.image c.outcome.ensures.wrote in wrote')).long) c.validate_outcome-r.ensures.reply in reply'); image = image_done p.image.now p.after.now p.work.now c.in-Done.field-0 (sym (ap repair_reply_of c.in-Done.is) ∙ (let reply' : let p = c.args in repair_reply_of c.validate_outcome-r.result ≡ repair_reply p.image.now p.after.now p.work.now = same_reply c.args.image.now c.outcome.new.img c.args.after.now c.outcome.new.work c.args.work.now (omega (arith, after_long ((let done' : Tried c.args.image.now c.outcome.new.img c.outcome.new.work = tried c.requires c.copy.ensures c.outcome.ensures.image c.outcome.ensures.wrote in done')))) (buffer_long c.requires) (sym ((let wrote' : let p = c.args in Wrote p.work.now c.outcome.new.work 0 (work_need (length p.image.now)) = tried_wrote c.requires c.copy.ensures c.outcome.ensures.image c.outcome.ensures.wrote in wrote')).long) c.validate_outcome-r.ensures.reply in reply')) (c.copy-in-Done.ensures ∙ ((let done' : Tried c.args.image.now c.outcome.new.img c.outcome.new.work = tried c.requires c.copy.ensures c.outcome.ensures.image c.outcome.ensures.wrote in done')).outcome); wrote = wrote_two ((let wrote' : let p = c.args in Wrote p.work.now c.outcome.new.work 0 (work_need (length p.image.now)) = tried_wrote c.requires c.copy.ensures c.outcome.ensures.image c.outcome.ensures.wrote in wrote')) c.validate_outcome-r.ensures.wrote }
+returns-in-Done c =
+    let done : Tried c.args.image.now c.outcome.new.img c.outcome.new.work = tried c.requires c.copy.ensures c.outcome.ensures.image c.outcome.ensures.wrote in
+    let wrote' : let p = c.args in Wrote p.work.now c.outcome.new.work 0 (work_need (length p.image.now)) = tried_wrote c.requires c.copy.ensures c.outcome.ensures.image c.outcome.ensures.wrote in
+    let reply' : let p = c.args in repair_reply_of c.validate_outcome-r.result ≡ repair_reply p.image.now p.after.now p.work.now = same_reply c.args.image.now c.outcome.new.img c.args.after.now c.outcome.new.work c.args.work.now (omega (arith, after_long done)) (buffer_long c.requires) (sym wrote'.long) c.validate_outcome-r.ensures.reply in
+    let p = c.args in record { reply = reply'; image = image_done p.image.now p.after.now p.work.now c.in-Done.field-0 (sym (ap repair_reply_of c.in-Done.is) ∙ reply') (c.copy-in-Done.ensures ∙ done.outcome); wrote = wrote_two wrote' c.validate_outcome-r.ensures.wrote }
 
 pub returns-in_default : goal.returns-in_default
-returns-in_default c = let p = c.args in record { reply = (let reply' : let p = c.args in repair_reply_of c.validate_outcome-r.result ≡ repair_reply p.image.now p.after.now p.work.now = same_reply c.args.image.now c.outcome.new.img c.args.after.now c.outcome.new.work c.args.work.now (omega (arith, after_long ((let done' : Tried c.args.image.now c.outcome.new.img c.outcome.new.work = tried c.requires c.copy.ensures c.outcome.ensures.image c.outcome.ensures.wrote in done')))) (buffer_long c.requires) (sym ((let wrote' : let p = c.args in Wrote p.work.now c.outcome.new.work 0 (work_need (length p.image.now)) = tried_wrote c.requires c.copy.ensures c.outcome.ensures.image c.outcome.ensures.wrote in wrote')).long) c.validate_outcome-r.ensures.reply in reply'); image = image_kept p.image.now p.after.now p.work.now c.in_default.field-0 (sym (ap repair_reply_of c.in_default.is) ∙ (let reply' : let p = c.args in repair_reply_of c.validate_outcome-r.result ≡ repair_reply p.image.now p.after.now p.work.now = same_reply c.args.image.now c.outcome.new.img c.args.after.now c.outcome.new.work c.args.work.now (omega (arith, after_long ((let done' : Tried c.args.image.now c.outcome.new.img c.outcome.new.work = tried c.requires c.copy.ensures c.outcome.ensures.image c.outcome.ensures.wrote in done')))) (buffer_long c.requires) (sym ((let wrote' : let p = c.args in Wrote p.work.now c.outcome.new.work 0 (work_need (length p.image.now)) = tried_wrote c.requires c.copy.ensures c.outcome.ensures.image c.outcome.ensures.wrote in wrote')).long) c.validate_outcome-r.ensures.reply in reply')); wrote = wrote_two ((let wrote' : let p = c.args in Wrote p.work.now c.outcome.new.work 0 (work_need (length p.image.now)) = tried_wrote c.requires c.copy.ensures c.outcome.ensures.image c.outcome.ensures.wrote in wrote')) c.validate_outcome-r.ensures.wrote }
+returns-in_default c =
+    let done : Tried c.args.image.now c.outcome.new.img c.outcome.new.work = tried c.requires c.copy.ensures c.outcome.ensures.image c.outcome.ensures.wrote in
+    let wrote' : let p = c.args in Wrote p.work.now c.outcome.new.work 0 (work_need (length p.image.now)) = tried_wrote c.requires c.copy.ensures c.outcome.ensures.image c.outcome.ensures.wrote in
+    let reply' : let p = c.args in repair_reply_of c.validate_outcome-r.result ≡ repair_reply p.image.now p.after.now p.work.now = same_reply c.args.image.now c.outcome.new.img c.args.after.now c.outcome.new.work c.args.work.now (omega (arith, after_long done)) (buffer_long c.requires) (sym wrote'.long) c.validate_outcome-r.ensures.reply in
+    let p = c.args in record { reply = reply'; image = image_kept p.image.now p.after.now p.work.now c.in_default.field-0 (sym (ap repair_reply_of c.in_default.is) ∙ reply'); wrote = wrote_two wrote' c.validate_outcome-r.ensures.wrote }

@@ -40,38 +40,60 @@ work_need-need-requires c = omega (arith, allowed_short _ c.args.image.now (allo
 
 pub returns-then-not-enough : goal.returns-then-not-enough
 returns-then-not-enough c =
+    let tested : let p = c.args in (leb c.work_need-need.result (length p.work.now) && leb (length p.image.now) (length p.spare.now)) ≡ enough p.image.now p.spare.now p.work.now = rw c.work_need-need.ensures in
     let p = c.args in let r = early p.image.now p.spare.now p.work.now ShortWork
-    (short_refused p.image.now p.spare.now p.work.now (allowed (goal.at.returns-then-not-enough c).Else-not-length_allowed) (said_no (ap not c.if-not-enough.true) ((let tested' : let p = c.args in (leb c.work_need-need.result (length p.work.now) && leb (length p.image.now) (length p.spare.now)) ≡ enough p.image.now p.spare.now p.work.now = rw c.work_need-need.ensures in tested'))))
+    (short_refused p.image.now p.spare.now p.work.now (allowed (goal.at.returns-then-not-enough c).Else-not-length_allowed) (said_no (ap not c.if-not-enough.true) tested))
     (inr refl) in record { result_value = r.0; image_after = r.1.0; work_after = r.1.1.0; spare_after = r.1.1.1 }
 
 pub slice_bounds-repair_by-end : goal.slice_bounds-repair_by-end
-slice_bounds-repair_by-end c = ((let fits' : let p = c.args in (work_need (length p.image.now) ≤ length p.work.now) × (length p.image.now ≤ length p.spare.now) = let p = c.args in enough_is p.image.now p.spare.now p.work.now ((let room' : let p = c.args in enough p.image.now p.spare.now p.work.now ≡ true = said_yes (ap not c.if-not-enough.false) ((let tested' : let p = c.args in (leb c.work_need-need.result (length p.work.now) && leb (length p.image.now) (length p.spare.now)) ≡ enough p.image.now p.spare.now p.work.now = rw c.work_need-need.ensures in tested')) in room')) in fits')).1
+slice_bounds-repair_by-end c =
+    let tested : let p = c.args in (leb c.work_need-need.result (length p.work.now) && leb (length p.image.now) (length p.spare.now)) ≡ enough p.image.now p.spare.now p.work.now = rw c.work_need-need.ensures in
+    let room : let p = c.args in enough p.image.now p.spare.now p.work.now ≡ true = said_yes (ap not c.if-not-enough.false) tested in
+    let fits : let p = c.args in (work_need (length p.image.now) ≤ length p.work.now) × (length p.image.now ≤ length p.spare.now) = let p = c.args in enough_is p.image.now p.spare.now p.work.now room in
+    fits.1
 
 pub slice_bounds-repair_by-end-2 : goal.slice_bounds-repair_by-end-2
-slice_bounds-repair_by-end-2 c = sym (length-take-le _ _ ((let fits' : let p = c.args in (work_need (length p.image.now) ≤ length p.work.now) × (length p.image.now ≤ length p.spare.now) = let p = c.args in enough_is p.image.now p.spare.now p.work.now ((let room' : let p = c.args in enough p.image.now p.spare.now p.work.now ≡ true = said_yes (ap not c.if-not-enough.false) ((let tested' : let p = c.args in (leb c.work_need-need.result (length p.work.now) && leb (length p.image.now) (length p.spare.now)) ≡ enough p.image.now p.spare.now p.work.now = rw c.work_need-need.ensures in tested')) in room')) in fits')).1)
+slice_bounds-repair_by-end-2 c =
+    let tested : let p = c.args in (leb c.work_need-need.result (length p.work.now) && leb (length p.image.now) (length p.spare.now)) ≡ enough p.image.now p.spare.now p.work.now = rw c.work_need-need.ensures in
+    let room : let p = c.args in enough p.image.now p.spare.now p.work.now ≡ true = said_yes (ap not c.if-not-enough.false) tested in
+    let fits : let p = c.args in (work_need (length p.image.now) ≤ length p.work.now) × (length p.image.now ≤ length p.spare.now) = let p = c.args in enough_is p.image.now p.spare.now p.work.now room in
+    sym (length-take-le _ _ fits.1)
 
 pub repair_by-r-requires : goal.repair_by-r-requires
 repair_by-r-requires c =
+    let tested : let p = c.args in (leb c.work_need-need.result (length p.work.now) && leb (length p.image.now) (length p.spare.now)) ≡ enough p.image.now p.spare.now p.work.now = rw c.work_need-need.ensures in
+    let room' : let p = c.args in enough p.image.now p.spare.now p.work.now ≡ true = said_yes (ap not c.if-not-enough.false) tested in
+    let fits : let p = c.args in (work_need (length p.image.now) ≤ length p.work.now) × (length p.image.now ≤ length p.spare.now) = let p = c.args in enough_is p.image.now p.spare.now p.work.now room' in
     record {
       own = c.version_of-g.ensures;
       allowed = said_yes (ap not c.if-not-length_allowed.false) c.length_allowed.ensures;
-      room = ((let fits' : let p = c.args in (work_need (length p.image.now) ≤ length p.work.now) × (length p.image.now ≤ length p.spare.now) = let p = c.args in enough_is p.image.now p.spare.now p.work.now ((let room' : let p = c.args in enough p.image.now p.spare.now p.work.now ≡ true = said_yes (ap not c.if-not-enough.false) ((let tested' : let p = c.args in (leb c.work_need-need.result (length p.work.now) && leb (length p.image.now) (length p.spare.now)) ≡ enough p.image.now p.spare.now p.work.now = rw c.work_need-need.ensures in tested')) in room')) in fits')).0;
-      long = length-take-le _ _ ((let fits' : let p = c.args in (work_need (length p.image.now) ≤ length p.work.now) × (length p.image.now ≤ length p.spare.now) = let p = c.args in enough_is p.image.now p.spare.now p.work.now ((let room' : let p = c.args in enough p.image.now p.spare.now p.work.now ≡ true = said_yes (ap not c.if-not-enough.false) ((let tested' : let p = c.args in (leb c.work_need-need.result (length p.work.now) && leb (length p.image.now) (length p.spare.now)) ≡ enough p.image.now p.spare.now p.work.now = rw c.work_need-need.ensures in tested')) in room')) in fits')).1;
+      room = fits.0;
+      long = length-take-le _ _ fits.1;
     }
 
 pub clear-requires : goal.clear-requires
 clear-requires c =
+    let tested : let p = c.args in (leb c.work_need-need.result (length p.work.now) && leb (length p.image.now) (length p.spare.now)) ≡ enough p.image.now p.spare.now p.work.now = rw c.work_need-need.ensures in
+    let room : let p = c.args in enough p.image.now p.spare.now p.work.now ≡ true = said_yes (ap not c.if-not-enough.false) tested in
+    let fits : let p = c.args in (work_need (length p.image.now) ≤ length p.work.now) × (length p.image.now ≤ length p.spare.now) = let p = c.args in enough_is p.image.now p.spare.now p.work.now room in
     let p = c.args in
-    let e = (let fits' : let p = c.args in (work_need (length p.image.now) ≤ length p.work.now) × (length p.image.now ≤ length p.spare.now) = let p = c.args in enough_is p.image.now p.spare.now p.work.now ((let room' : let p = c.args in enough p.image.now p.spare.now p.work.now ≡ true = said_yes (ap not c.if-not-enough.false) ((let tested' : let p = c.args in (leb c.work_need-need.result (length p.work.now) && leb (length p.image.now) (length p.spare.now)) ≡ enough p.image.now p.spare.now p.work.now = rw c.work_need-need.ensures in tested')) in room')) in fits') in
+    let e = fits in
     omega (arith, lent_long (length p.image.now) p.spare.now c.repair_by-r.new.after e.1 c.repair_by-r.auto.after, e.1)
 
 pub zero_first-requires : goal.zero_first-requires
-zero_first-requires c = omega (arith, c.work_need-need.ensures, ((let fits' : let p = c.args in (work_need (length p.image.now) ≤ length p.work.now) × (length p.image.now ≤ length p.spare.now) = let p = c.args in enough_is p.image.now p.spare.now p.work.now ((let room' : let p = c.args in enough p.image.now p.spare.now p.work.now ≡ true = said_yes (ap not c.if-not-enough.false) ((let tested' : let p = c.args in (leb c.work_need-need.result (length p.work.now) && leb (length p.image.now) (length p.spare.now)) ≡ enough p.image.now p.spare.now p.work.now = rw c.work_need-need.ensures in tested')) in room')) in fits')).0, c.repair_by-r.auto.work)
+zero_first-requires c =
+    let tested : let p = c.args in (leb c.work_need-need.result (length p.work.now) && leb (length p.image.now) (length p.spare.now)) ≡ enough p.image.now p.spare.now p.work.now = rw c.work_need-need.ensures in
+    let room : let p = c.args in enough p.image.now p.spare.now p.work.now ≡ true = said_yes (ap not c.if-not-enough.false) tested in
+    let fits : let p = c.args in (work_need (length p.image.now) ≤ length p.work.now) × (length p.image.now ≤ length p.spare.now) = let p = c.args in enough_is p.image.now p.spare.now p.work.now room in
+    omega (arith, c.work_need-need.ensures, fits.0, c.repair_by-r.auto.work)
 
 pub returns : goal.returns
 returns c =
+    let tested : let p = c.args in (leb c.work_need-need.result (length p.work.now) && leb (length p.image.now) (length p.spare.now)) ≡ enough p.image.now p.spare.now p.work.now = rw c.work_need-need.ensures in
+    let room : let p = c.args in enough p.image.now p.spare.now p.work.now ≡ true = said_yes (ap not c.if-not-enough.false) tested in
+    let fits : let p = c.args in (work_need (length p.image.now) ≤ length p.work.now) × (length p.image.now ≤ length p.spare.now) = let p = c.args in enough_is p.image.now p.spare.now p.work.now room in
     let p = c.args in
     let ok = allowed (goal.at.returns c).Else-not-length_allowed in
     let n = length p.image.now in
     let s = take n p.spare.now in
-    let l : n ≤ length s = omega (arith, length-take-le n p.spare.now ((let fits' : let p = c.args in (work_need (length p.image.now) ≤ length p.work.now) × (length p.image.now ≤ length p.spare.now) = let p = c.args in enough_is p.image.now p.spare.now p.work.now ((let room' : let p = c.args in enough p.image.now p.spare.now p.work.now ≡ true = said_yes (ap not c.if-not-enough.false) ((let tested' : let p = c.args in (leb c.work_need-need.result (length p.work.now) && leb (length p.image.now) (length p.spare.now)) ≡ enough p.image.now p.spare.now p.work.now = rw c.work_need-need.ensures in tested')) in room')) in fits')).1) in record { result_value = same_reply p.image.now s p.spare.now p.work.now p.work.now l ((let fits' : let p = c.args in (work_need (length p.image.now) ≤ length p.work.now) × (length p.image.now ≤ length p.spare.now) = let p = c.args in enough_is p.image.now p.spare.now p.work.now ((let room' : let p = c.args in enough p.image.now p.spare.now p.work.now ≡ true = said_yes (ap not c.if-not-enough.false) ((let tested' : let p = c.args in (leb c.work_need-need.result (length p.work.now) && leb (length p.image.now) (length p.spare.now)) ≡ enough p.image.now p.spare.now p.work.now = rw c.work_need-need.ensures in tested')) in room')) in fits')).1 refl c.repair_by-r.ensures.reply; image_after = same_image p.image.now s p.spare.now p.work.now p.work.now l ((let fits' : let p = c.args in (work_need (length p.image.now) ≤ length p.work.now) × (length p.image.now ≤ length p.spare.now) = let p = c.args in enough_is p.image.now p.spare.now p.work.now ((let room' : let p = c.args in enough p.image.now p.spare.now p.work.now ≡ true = said_yes (ap not c.if-not-enough.false) ((let tested' : let p = c.args in (leb c.work_need-need.result (length p.work.now) && leb (length p.image.now) (length p.spare.now)) ≡ enough p.image.now p.spare.now p.work.now = rw c.work_need-need.ensures in tested')) in room')) in fits')).1 refl c.repair_by-r.ensures.image; work_after = work_clear p.image.now p.spare.now p.work.now ok ((let room' : let p = c.args in enough p.image.now p.spare.now p.work.now ≡ true = said_yes (ap not c.if-not-enough.false) ((let tested' : let p = c.args in (leb c.work_need-need.result (length p.work.now) && leb (length p.image.now) (length p.spare.now)) ≡ enough p.image.now p.spare.now p.work.now = rw c.work_need-need.ensures in tested')) in room')) _ (c.zero_first.ensures ∙ ap (λ k. work_cleared k c.repair_by-r.new.work) c.work_need-need.ensures ∙ cleared_same (work_need n) c.repair_by-r.ensures.wrote); spare_after = spare_clear p.image.now p.spare.now p.work.now ok ((let room' : let p = c.args in enough p.image.now p.spare.now p.work.now ≡ true = said_yes (ap not c.if-not-enough.false) ((let tested' : let p = c.args in (leb c.work_need-need.result (length p.work.now) && leb (length p.image.now) (length p.spare.now)) ≡ enough p.image.now p.spare.now p.work.now = rw c.work_need-need.ensures in tested')) in room')) _ (lent_clear n p.spare.now c.repair_by-r.new.after ((let fits' : let p = c.args in (work_need (length p.image.now) ≤ length p.work.now) × (length p.image.now ≤ length p.spare.now) = let p = c.args in enough_is p.image.now p.spare.now p.work.now ((let room' : let p = c.args in enough p.image.now p.spare.now p.work.now ≡ true = said_yes (ap not c.if-not-enough.false) ((let tested' : let p = c.args in (leb c.work_need-need.result (length p.work.now) && leb (length p.image.now) (length p.spare.now)) ≡ enough p.image.now p.spare.now p.work.now = rw c.work_need-need.ensures in tested')) in room')) in fits')).1 c.repair_by-r.auto.after _ c.clear.ensures) }
+    let l : n ≤ length s = omega (arith, length-take-le n p.spare.now fits.1) in record { result_value = same_reply p.image.now s p.spare.now p.work.now p.work.now l fits.1 refl c.repair_by-r.ensures.reply; image_after = same_image p.image.now s p.spare.now p.work.now p.work.now l fits.1 refl c.repair_by-r.ensures.image; work_after = work_clear p.image.now p.spare.now p.work.now ok room _ (c.zero_first.ensures ∙ ap (λ k. work_cleared k c.repair_by-r.new.work) c.work_need-need.ensures ∙ cleared_same (work_need n) c.repair_by-r.ensures.wrote); spare_after = spare_clear p.image.now p.spare.now p.work.now ok room _ (lent_clear n p.spare.now c.repair_by-r.new.after fits.1 c.repair_by-r.auto.after _ c.clear.ensures) }

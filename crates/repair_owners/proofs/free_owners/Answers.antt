@@ -21,8 +21,11 @@ free_marked-requires c =
 
 pub returns-then-cells_rest : goal.returns-then-cells_rest
 returns-then-cells_rest c =
+    let rest : let p = c.args in c.cells_rest.result ≡ rest_free (volume (geometry_of p.g) p.img.now).minis = c.cells_rest.ensures ∙ ap rest_free (system_minis c.system_holds.ensures c.in-Right.is) in
     let l = c.system_holds.ensures in
-    let e = c.in-Right.is in record { image = c.free_marked.ensures.image ∙ freed_own l e ∙ streams_decide _ _ (system_right_lem l e) (sym ((let rest' : let p = c.args in c.cells_rest.result ≡ rest_free (volume (geometry_of p.g) p.img.now).minis = c.cells_rest.ensures ∙ ap rest_free (system_minis c.system_holds.ensures c.in-Right.is) in rest')) ∙ c.if-cells_rest.true); wrote = wrote_two l.wrote c.free_marked.ensures.wrote }
+    let e = c.in-Right.is in record { image = c.free_marked.ensures.image ∙ freed_own l e ∙ streams_decide _ _ (system_right_lem l e) (sym rest ∙ c.if-cells_rest.true); wrote = wrote_two l.wrote c.free_marked.ensures.wrote }
 
 pub returns-else-cells_rest : goal.returns-else-cells_rest
-returns-else-cells_rest c = let l = c.system_holds.ensures in record { image = rest_breaks _ _ (system_right_lem l c.in-Right.is) (sym ((let rest' : let p = c.args in c.cells_rest.result ≡ rest_free (volume (geometry_of p.g) p.img.now).minis = c.cells_rest.ensures ∙ ap rest_free (system_minis c.system_holds.ensures c.in-Right.is) in rest')) ∙ c.if-cells_rest.false); wrote = l.wrote }
+returns-else-cells_rest c =
+    let rest : let p = c.args in c.cells_rest.result ≡ rest_free (volume (geometry_of p.g) p.img.now).minis = c.cells_rest.ensures ∙ ap rest_free (system_minis c.system_holds.ensures c.in-Right.is) in
+    let l = c.system_holds.ensures in record { image = rest_breaks _ _ (system_right_lem l c.in-Right.is) (sym rest ∙ c.if-cells_rest.false); wrote = l.wrote }

@@ -35,7 +35,9 @@ pub tables_hold-requires : goal.tables_hold-requires
 tables_hold-requires c = record { image_sized = c.requires.image_sized; img_in_bounds = c.requires.img_in_bounds }
 
 pub returns-then-not-tables_hold : goal.returns-then-not-tables_hold
-returns-then-not-tables_hold c = tables_wrong _ _ ((let wrote' : let p = c.args in Wrote p.work.now c.tables_hold.new.work 0 (work_need (length p.img.now)) = tables_wrote _ _ c.tables_hold.ensures.left c.tables_hold.auto.work in wrote')) (said_no (ap not c.if-not-tables_hold.true) c.tables_hold.ensures.answer)
+returns-then-not-tables_hold c =
+    let wrote : let p = c.args in Wrote p.work.now c.tables_hold.new.work 0 (work_need (length p.img.now)) = tables_wrote _ _ c.tables_hold.ensures.left c.tables_hold.auto.work in
+    tables_wrong _ _ wrote (said_no (ap not c.if-not-tables_hold.true) c.tables_hold.ensures.answer)
 
 pub tables_of-t-requires : goal.tables_of-t-requires
 tables_of-t-requires c = record { image_sized = c.requires.image_sized; img_bound = (listed (goal.at.tables_of-t-requires c).Else-not-tables_hold).few }
@@ -44,10 +46,25 @@ pub directory_holds-requires : goal.directory_holds-requires
 directory_holds-requires c = rw c.tables_of-t.ensures (listed (goal.at.directory_holds-requires c).Else-not-tables_hold)
 
 pub returns-in_default : goal.returns-in_default
-returns-in_default c = directory_wrong _ _ ((let wrote_both' : let p = c.args in let g = geometry_of p.g in let i = p.img.now in Wrote p.work.now c.directory_holds.new.work 0 (work_need (length i)) = wrote_two ((let wrote' : let p = c.args in Wrote p.work.now c.tables_hold.new.work 0 (work_need (length p.img.now)) = tables_wrote _ _ c.tables_hold.ensures.left c.tables_hold.auto.work in wrote')) (cells_wrote _ _ ((let found' : let p = c.args in let g = geometry_of p.g in let i = p.img.now in (c.directory_holds.result ≡ length_answer (directory_holds (volume g i)) (length (directory_sectors_of g i))) × Wrote c.tables_hold.new.work c.directory_holds.new.work 0 (sector_count g i) = (rw c.tables_of-t.ensures at c.directory_holds.ensures.answer, rw c.tables_of-t.ensures at c.directory_holds.ensures.wrote) in found')).1 (listed (goal.at.returns-in_default c).Else-not-tables_hold).sized) in wrote_both')) (tables (goal.at.returns-in_default c).Else-not-tables_hold) (has_none _ _ ((let found' : let p = c.args in let g = geometry_of p.g in let i = p.img.now in (c.directory_holds.result ≡ length_answer (directory_holds (volume g i)) (length (directory_sectors_of g i))) × Wrote c.tables_hold.new.work c.directory_holds.new.work 0 (sector_count g i) = (rw c.tables_of-t.ensures at c.directory_holds.ensures.answer, rw c.tables_of-t.ensures at c.directory_holds.ensures.wrote) in found')).0 c.in_default.is)
+returns-in_default c =
+    let wrote' : let p = c.args in Wrote p.work.now c.tables_hold.new.work 0 (work_need (length p.img.now)) = tables_wrote _ _ c.tables_hold.ensures.left c.tables_hold.auto.work in
+    let found : let p = c.args in let g = geometry_of p.g in let i = p.img.now in (c.directory_holds.result ≡ length_answer (directory_holds (volume g i)) (length (directory_sectors_of g i))) × Wrote c.tables_hold.new.work c.directory_holds.new.work 0 (sector_count g i) = (rw c.tables_of-t.ensures at c.directory_holds.ensures.answer, rw c.tables_of-t.ensures at c.directory_holds.ensures.wrote) in
+    let wrote_both : let p = c.args in let g = geometry_of p.g in let i = p.img.now in Wrote p.work.now c.directory_holds.new.work 0 (work_need (length i)) = wrote_two wrote' (cells_wrote _ _ found.1 (listed (goal.at.returns-in_default c).Else-not-tables_hold).sized) in
+    directory_wrong _ _ wrote_both (tables (goal.at.returns-in_default c).Else-not-tables_hold) (has_none _ _ found.0 c.in_default.is)
 
 pub entries_hold-requires : goal.entries_hold-requires
-entries_hold-requires c = (let hold' : let p = c.args in let g = geometry_of p.g in let i = p.img.now in TablesHold g i c.directory_holds.new.work c.in-Is.n = record { listed = cells_listed _ _ ((let found' : let p = c.args in let g = geometry_of p.g in let i = p.img.now in (c.directory_holds.result ≡ length_answer (directory_holds (volume g i)) (length (directory_sectors_of g i))) × Wrote c.tables_hold.new.work c.directory_holds.new.work 0 (sector_count g i) = (rw c.tables_of-t.ensures at c.directory_holds.ensures.answer, rw c.tables_of-t.ensures at c.directory_holds.ensures.wrote) in found')).1 (listed (goal.at.entries_hold-requires c).Else-not-tables_hold); whole = omega (arith, c.requires.img_in_bounds, ((let wrote_both' : let p = c.args in let g = geometry_of p.g in let i = p.img.now in Wrote p.work.now c.directory_holds.new.work 0 (work_need (length i)) = wrote_two ((let wrote' : let p = c.args in Wrote p.work.now c.tables_hold.new.work 0 (work_need (length p.img.now)) = tables_wrote _ _ c.tables_hold.ensures.left c.tables_hold.auto.work in wrote')) (cells_wrote _ _ ((let found' : let p = c.args in let g = geometry_of p.g in let i = p.img.now in (c.directory_holds.result ≡ length_answer (directory_holds (volume g i)) (length (directory_sectors_of g i))) × Wrote c.tables_hold.new.work c.directory_holds.new.work 0 (sector_count g i) = (rw c.tables_of-t.ensures at c.directory_holds.ensures.answer, rw c.tables_of-t.ensures at c.directory_holds.ensures.wrote) in found')).1 (listed (goal.at.entries_hold-requires c).Else-not-tables_hold).sized) in wrote_both')).long); tables = tables_say _ _ (tables (goal.at.entries_hold-requires c).Else-not-tables_hold); cells = cells_say _ _ ((let right' : let p = c.args in let g = geometry_of p.g in let i = p.img.now in directory_holds (volume g i) ≡ true = has_length _ _ ((let found' : let p = c.args in let g = geometry_of p.g in let i = p.img.now in (c.directory_holds.result ≡ length_answer (directory_holds (volume g i)) (length (directory_sectors_of g i))) × Wrote c.tables_hold.new.work c.directory_holds.new.work 0 (sector_count g i) = (rw c.tables_of-t.ensures at c.directory_holds.ensures.answer, rw c.tables_of-t.ensures at c.directory_holds.ensures.wrote) in found')).0 c.in-Is.is in right')); chained = directory_says _ _ ((let right' : let p = c.args in let g = geometry_of p.g in let i = p.img.now in directory_holds (volume g i) ≡ true = has_length _ _ ((let found' : let p = c.args in let g = geometry_of p.g in let i = p.img.now in (c.directory_holds.result ≡ length_answer (directory_holds (volume g i)) (length (directory_sectors_of g i))) × Wrote c.tables_hold.new.work c.directory_holds.new.work 0 (sector_count g i) = (rw c.tables_of-t.ensures at c.directory_holds.ensures.answer, rw c.tables_of-t.ensures at c.directory_holds.ensures.wrote) in found')).0 c.in-Is.is in right')); count = length_is _ _ ((let found' : let p = c.args in let g = geometry_of p.g in let i = p.img.now in (c.directory_holds.result ≡ length_answer (directory_holds (volume g i)) (length (directory_sectors_of g i))) × Wrote c.tables_hold.new.work c.directory_holds.new.work 0 (sector_count g i) = (rw c.tables_of-t.ensures at c.directory_holds.ensures.answer, rw c.tables_of-t.ensures at c.directory_holds.ensures.wrote) in found')).0 c.in-Is.is } in hold')
+entries_hold-requires c =
+    let wrote' : let p = c.args in Wrote p.work.now c.tables_hold.new.work 0 (work_need (length p.img.now)) = tables_wrote _ _ c.tables_hold.ensures.left c.tables_hold.auto.work in
+    let found : let p = c.args in let g = geometry_of p.g in let i = p.img.now in (c.directory_holds.result ≡ length_answer (directory_holds (volume g i)) (length (directory_sectors_of g i))) × Wrote c.tables_hold.new.work c.directory_holds.new.work 0 (sector_count g i) = (rw c.tables_of-t.ensures at c.directory_holds.ensures.answer, rw c.tables_of-t.ensures at c.directory_holds.ensures.wrote) in
+    let right : let p = c.args in let g = geometry_of p.g in let i = p.img.now in directory_holds (volume g i) ≡ true = has_length _ _ found.0 c.in-Is.is in
+    let wrote_both : let p = c.args in let g = geometry_of p.g in let i = p.img.now in Wrote p.work.now c.directory_holds.new.work 0 (work_need (length i)) = wrote_two wrote' (cells_wrote _ _ found.1 (listed (goal.at.entries_hold-requires c).Else-not-tables_hold).sized) in
+    let hold : let p = c.args in let g = geometry_of p.g in let i = p.img.now in TablesHold g i c.directory_holds.new.work c.in-Is.n = record { listed = cells_listed _ _ found.1 (listed (goal.at.entries_hold-requires c).Else-not-tables_hold); whole = omega (arith, c.requires.img_in_bounds, wrote_both.long); tables = tables_say _ _ (tables (goal.at.entries_hold-requires c).Else-not-tables_hold); cells = cells_say _ _ right; chained = directory_says _ _ right; count = length_is _ _ found.0 c.in-Is.is } in
+    hold
 
 pub returns : goal.returns
-returns c = entries_decide _ _ ((let wrote_both' : let p = c.args in let g = geometry_of p.g in let i = p.img.now in Wrote p.work.now c.directory_holds.new.work 0 (work_need (length i)) = wrote_two ((let wrote' : let p = c.args in Wrote p.work.now c.tables_hold.new.work 0 (work_need (length p.img.now)) = tables_wrote _ _ c.tables_hold.ensures.left c.tables_hold.auto.work in wrote')) (cells_wrote _ _ ((let found' : let p = c.args in let g = geometry_of p.g in let i = p.img.now in (c.directory_holds.result ≡ length_answer (directory_holds (volume g i)) (length (directory_sectors_of g i))) × Wrote c.tables_hold.new.work c.directory_holds.new.work 0 (sector_count g i) = (rw c.tables_of-t.ensures at c.directory_holds.ensures.answer, rw c.tables_of-t.ensures at c.directory_holds.ensures.wrote) in found')).1 (listed (goal.at.returns c).Else-not-tables_hold).sized) in wrote_both')) (tables (goal.at.returns c).Else-not-tables_hold) ((let right' : let p = c.args in let g = geometry_of p.g in let i = p.img.now in directory_holds (volume g i) ≡ true = has_length _ _ ((let found' : let p = c.args in let g = geometry_of p.g in let i = p.img.now in (c.directory_holds.result ≡ length_answer (directory_holds (volume g i)) (length (directory_sectors_of g i))) × Wrote c.tables_hold.new.work c.directory_holds.new.work 0 (sector_count g i) = (rw c.tables_of-t.ensures at c.directory_holds.ensures.answer, rw c.tables_of-t.ensures at c.directory_holds.ensures.wrote) in found')).0 c.in-Is.is in right')) c.entries_hold.ensures
+returns c =
+    let wrote' : let p = c.args in Wrote p.work.now c.tables_hold.new.work 0 (work_need (length p.img.now)) = tables_wrote _ _ c.tables_hold.ensures.left c.tables_hold.auto.work in
+    let found : let p = c.args in let g = geometry_of p.g in let i = p.img.now in (c.directory_holds.result ≡ length_answer (directory_holds (volume g i)) (length (directory_sectors_of g i))) × Wrote c.tables_hold.new.work c.directory_holds.new.work 0 (sector_count g i) = (rw c.tables_of-t.ensures at c.directory_holds.ensures.answer, rw c.tables_of-t.ensures at c.directory_holds.ensures.wrote) in
+    let right : let p = c.args in let g = geometry_of p.g in let i = p.img.now in directory_holds (volume g i) ≡ true = has_length _ _ found.0 c.in-Is.is in
+    let wrote_both : let p = c.args in let g = geometry_of p.g in let i = p.img.now in Wrote p.work.now c.directory_holds.new.work 0 (work_need (length i)) = wrote_two wrote' (cells_wrote _ _ found.1 (listed (goal.at.returns c).Else-not-tables_hold).sized) in
+    entries_decide _ _ wrote_both (tables (goal.at.returns c).Else-not-tables_hold) right c.entries_hold.ensures

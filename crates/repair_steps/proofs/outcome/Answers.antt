@@ -50,7 +50,11 @@ free_rest-requires c =
     let l = (passed (goal.at.free_rest-requires c).Else-not-tables_hold).listed in rw (c.tables_of-t.ensures, cells (goal.at.free_rest-requires c).After-fat_count) (record { table_room = fat_room {t = tables_of p.g p.img.now} l; from_le_to = l.covers })
 
 pub repair_directory-requires : goal.repair_directory-requires
-repair_directory-requires c = first_passed _ (passed (goal.at.repair_directory-requires c).Else-not-tables_hold) ((let freed' : let p = c.args in c.free_rest.new.img ≡ rest_freed (volume (geometry_of p.g) p.img.now).sectors p.img.now = let p = c.args in (rw (c.tables_of-t.ensures, cells (goal.at.repair_directory-requires c).After-fat_count) at c.free_rest.ensures) ∙ first_is p.g (passed (goal.at.repair_directory-requires c).Else-not-tables_hold) in freed'))
+repair_directory-requires c =
+    let freed : let p = c.args in c.free_rest.new.img ≡ rest_freed (volume (geometry_of p.g) p.img.now).sectors p.img.now = let p = c.args in (rw (c.tables_of-t.ensures, cells (goal.at.repair_directory-requires c).After-fat_count) at c.free_rest.ensures) ∙ first_is p.g (passed (goal.at.repair_directory-requires c).Else-not-tables_hold) in
+    first_passed _ (passed (goal.at.repair_directory-requires c).Else-not-tables_hold) freed
 
 pub returns : goal.returns
-returns c = let p = c.args in record { image = c.repair_directory.ensures.image ∙ ap (second_step (geometry_of p.g)) ((let freed' : let p = c.args in c.free_rest.new.img ≡ rest_freed (volume (geometry_of p.g) p.img.now).sectors p.img.now = let p = c.args in (rw (c.tables_of-t.ensures, cells (goal.at.returns c).After-fat_count) at c.free_rest.ensures) ∙ first_is p.g (passed (goal.at.returns c).Else-not-tables_hold) in freed')) ∙ sym (first_taken _ _ (said_yes (ap not c.if-not-tables_hold.false) c.tables_hold.ensures.answer)); wrote = wrote_two (tables_wrote _ _ c.tables_hold.ensures.left c.tables_hold.auto.work) (rw c.free_rest.auto.img at c.repair_directory.ensures.wrote) }
+returns c =
+    let freed : let p = c.args in c.free_rest.new.img ≡ rest_freed (volume (geometry_of p.g) p.img.now).sectors p.img.now = let p = c.args in (rw (c.tables_of-t.ensures, cells (goal.at.returns c).After-fat_count) at c.free_rest.ensures) ∙ first_is p.g (passed (goal.at.returns c).Else-not-tables_hold) in
+    let p = c.args in record { image = c.repair_directory.ensures.image ∙ ap (second_step (geometry_of p.g)) freed ∙ sym (first_taken _ _ (said_yes (ap not c.if-not-tables_hold.false) c.tables_hold.ensures.answer)); wrote = wrote_two (tables_wrote _ _ c.tables_hold.ensures.left c.tables_hold.auto.work) (rw c.free_rest.auto.img at c.repair_directory.ensures.wrote) }

@@ -20,16 +20,39 @@ pub directory_holds-requires : goal.directory_holds-requires
 directory_holds-requires c = rw c.tables_of-t.ensures c.requires.listed
 
 pub returns-in_default : goal.returns-in_default
-returns-in_default c = record { image = sym (second_left _ _ (has_none _ _ ((let found' : let p = c.args in let g = geometry_of p.g in let i = p.img.now in (c.directory_holds.result ≡ length_answer (directory_holds (volume g i)) (length (directory_sectors_of g i))) × Wrote p.work.now c.directory_holds.new.work 0 (sector_count g i) = (rw c.tables_of-t.ensures at c.directory_holds.ensures.answer, rw c.tables_of-t.ensures at c.directory_holds.ensures.wrote) in found')).0 c.in_default.is)); wrote = (let wrote' : let p = c.args in let g = geometry_of p.g in let i = p.img.now in Wrote p.work.now c.directory_holds.new.work 0 (work_need (length i)) = cells_wrote _ _ ((let found' : let p = c.args in let g = geometry_of p.g in let i = p.img.now in (c.directory_holds.result ≡ length_answer (directory_holds (volume g i)) (length (directory_sectors_of g i))) × Wrote p.work.now c.directory_holds.new.work 0 (sector_count g i) = (rw c.tables_of-t.ensures at c.directory_holds.ensures.answer, rw c.tables_of-t.ensures at c.directory_holds.ensures.wrote) in found')).1 c.requires.listed.sized in wrote') }
+returns-in_default c =
+    let found : let p = c.args in let g = geometry_of p.g in let i = p.img.now in (c.directory_holds.result ≡ length_answer (directory_holds (volume g i)) (length (directory_sectors_of g i))) × Wrote p.work.now c.directory_holds.new.work 0 (sector_count g i) = (rw c.tables_of-t.ensures at c.directory_holds.ensures.answer, rw c.tables_of-t.ensures at c.directory_holds.ensures.wrote) in
+    let wrote' : let p = c.args in let g = geometry_of p.g in let i = p.img.now in Wrote p.work.now c.directory_holds.new.work 0 (work_need (length i)) = cells_wrote _ _ found.1 c.requires.listed.sized in
+    record { image = sym (second_left _ _ (has_none _ _ found.0 c.in_default.is)); wrote = wrote' }
 
 pub open_directory-d-requires : goal.open_directory-d-requires
-open_directory-d-requires c = (let hold' : let p = c.args in let g = geometry_of p.g in let i = p.img.now in TablesHold g i c.directory_holds.new.work c.in-Is.n = second_asked _ c.requires ((let right' : let p = c.args in let g = geometry_of p.g in let i = p.img.now in directory_holds (volume g i) ≡ true = has_length _ _ ((let found' : let p = c.args in let g = geometry_of p.g in let i = p.img.now in (c.directory_holds.result ≡ length_answer (directory_holds (volume g i)) (length (directory_sectors_of g i))) × Wrote p.work.now c.directory_holds.new.work 0 (sector_count g i) = (rw c.tables_of-t.ensures at c.directory_holds.ensures.answer, rw c.tables_of-t.ensures at c.directory_holds.ensures.wrote) in found')).0 c.in-Is.is in right')) ((let many' : let p = c.args in let g = geometry_of p.g in let i = p.img.now in c.in-Is.n ≡ length (directory_sectors_of g i) = length_is _ _ ((let found' : let p = c.args in let g = geometry_of p.g in let i = p.img.now in (c.directory_holds.result ≡ length_answer (directory_holds (volume g i)) (length (directory_sectors_of g i))) × Wrote p.work.now c.directory_holds.new.work 0 (sector_count g i) = (rw c.tables_of-t.ensures at c.directory_holds.ensures.answer, rw c.tables_of-t.ensures at c.directory_holds.ensures.wrote) in found')).0 c.in-Is.is in many')) ((let found' : let p = c.args in let g = geometry_of p.g in let i = p.img.now in (c.directory_holds.result ≡ length_answer (directory_holds (volume g i)) (length (directory_sectors_of g i))) × Wrote p.work.now c.directory_holds.new.work 0 (sector_count g i) = (rw c.tables_of-t.ensures at c.directory_holds.ensures.answer, rw c.tables_of-t.ensures at c.directory_holds.ensures.wrote) in found')).1 in hold')
+open_directory-d-requires c =
+    let found : let p = c.args in let g = geometry_of p.g in let i = p.img.now in (c.directory_holds.result ≡ length_answer (directory_holds (volume g i)) (length (directory_sectors_of g i))) × Wrote p.work.now c.directory_holds.new.work 0 (sector_count g i) = (rw c.tables_of-t.ensures at c.directory_holds.ensures.answer, rw c.tables_of-t.ensures at c.directory_holds.ensures.wrote) in
+    let right : let p = c.args in let g = geometry_of p.g in let i = p.img.now in directory_holds (volume g i) ≡ true = has_length _ _ found.0 c.in-Is.is in
+    let many : let p = c.args in let g = geometry_of p.g in let i = p.img.now in c.in-Is.n ≡ length (directory_sectors_of g i) = length_is _ _ found.0 c.in-Is.is in
+    let hold : let p = c.args in let g = geometry_of p.g in let i = p.img.now in TablesHold g i c.directory_holds.new.work c.in-Is.n = second_asked _ c.requires right many found.1 in
+    hold
 
 pub blacken_entries-requires : goal.blacken_entries-requires
-blacken_entries-requires c = record { directory_listed = c.open_directory-d.ensures.directory; img_value = rw c.open_directory-d.ensures.answer ((let hold' : let p = c.args in let g = geometry_of p.g in let i = p.img.now in TablesHold g i c.directory_holds.new.work c.in-Is.n = second_asked _ c.requires ((let right' : let p = c.args in let g = geometry_of p.g in let i = p.img.now in directory_holds (volume g i) ≡ true = has_length _ _ ((let found' : let p = c.args in let g = geometry_of p.g in let i = p.img.now in (c.directory_holds.result ≡ length_answer (directory_holds (volume g i)) (length (directory_sectors_of g i))) × Wrote p.work.now c.directory_holds.new.work 0 (sector_count g i) = (rw c.tables_of-t.ensures at c.directory_holds.ensures.answer, rw c.tables_of-t.ensures at c.directory_holds.ensures.wrote) in found')).0 c.in-Is.is in right')) ((let many' : let p = c.args in let g = geometry_of p.g in let i = p.img.now in c.in-Is.n ≡ length (directory_sectors_of g i) = length_is _ _ ((let found' : let p = c.args in let g = geometry_of p.g in let i = p.img.now in (c.directory_holds.result ≡ length_answer (directory_holds (volume g i)) (length (directory_sectors_of g i))) × Wrote p.work.now c.directory_holds.new.work 0 (sector_count g i) = (rw c.tables_of-t.ensures at c.directory_holds.ensures.answer, rw c.tables_of-t.ensures at c.directory_holds.ensures.wrote) in found')).0 c.in-Is.is in many')) ((let found' : let p = c.args in let g = geometry_of p.g in let i = p.img.now in (c.directory_holds.result ≡ length_answer (directory_holds (volume g i)) (length (directory_sectors_of g i))) × Wrote p.work.now c.directory_holds.new.work 0 (sector_count g i) = (rw c.tables_of-t.ensures at c.directory_holds.ensures.answer, rw c.tables_of-t.ensures at c.directory_holds.ensures.wrote) in found')).1 in hold')).chained }
+blacken_entries-requires c =
+    let found : let p = c.args in let g = geometry_of p.g in let i = p.img.now in (c.directory_holds.result ≡ length_answer (directory_holds (volume g i)) (length (directory_sectors_of g i))) × Wrote p.work.now c.directory_holds.new.work 0 (sector_count g i) = (rw c.tables_of-t.ensures at c.directory_holds.ensures.answer, rw c.tables_of-t.ensures at c.directory_holds.ensures.wrote) in
+    let right : let p = c.args in let g = geometry_of p.g in let i = p.img.now in directory_holds (volume g i) ≡ true = has_length _ _ found.0 c.in-Is.is in
+    let many : let p = c.args in let g = geometry_of p.g in let i = p.img.now in c.in-Is.n ≡ length (directory_sectors_of g i) = length_is _ _ found.0 c.in-Is.is in
+    let hold : let p = c.args in let g = geometry_of p.g in let i = p.img.now in TablesHold g i c.directory_holds.new.work c.in-Is.n = second_asked _ c.requires right many found.1 in
+    record { directory_listed = c.open_directory-d.ensures.directory; img_value = rw c.open_directory-d.ensures.answer hold.chained }
 
 pub repair_entries-requires : goal.repair_entries-requires
-repair_entries-requires c = second_passed _ c.requires ((let right' : let p = c.args in let g = geometry_of p.g in let i = p.img.now in directory_holds (volume g i) ≡ true = has_length _ _ ((let found' : let p = c.args in let g = geometry_of p.g in let i = p.img.now in (c.directory_holds.result ≡ length_answer (directory_holds (volume g i)) (length (directory_sectors_of g i))) × Wrote p.work.now c.directory_holds.new.work 0 (sector_count g i) = (rw c.tables_of-t.ensures at c.directory_holds.ensures.answer, rw c.tables_of-t.ensures at c.directory_holds.ensures.wrote) in found')).0 c.in-Is.is in right')) ((let many' : let p = c.args in let g = geometry_of p.g in let i = p.img.now in c.in-Is.n ≡ length (directory_sectors_of g i) = length_is _ _ ((let found' : let p = c.args in let g = geometry_of p.g in let i = p.img.now in (c.directory_holds.result ≡ length_answer (directory_holds (volume g i)) (length (directory_sectors_of g i))) × Wrote p.work.now c.directory_holds.new.work 0 (sector_count g i) = (rw c.tables_of-t.ensures at c.directory_holds.ensures.answer, rw c.tables_of-t.ensures at c.directory_holds.ensures.wrote) in found')).0 c.in-Is.is in many')) ((let black' : let p = c.args in c.blacken_entries.new.img ≡ blackened (volume (geometry_of p.g) p.img.now) p.img.now = rw c.open_directory-d.ensures.answer at c.blacken_entries.ensures in black')) c.open_directory-d.ensures.fat (c.open_directory-d.ensures.wrote.long ∙ ((let found' : let p = c.args in let g = geometry_of p.g in let i = p.img.now in (c.directory_holds.result ≡ length_answer (directory_holds (volume g i)) (length (directory_sectors_of g i))) × Wrote p.work.now c.directory_holds.new.work 0 (sector_count g i) = (rw c.tables_of-t.ensures at c.directory_holds.ensures.answer, rw c.tables_of-t.ensures at c.directory_holds.ensures.wrote) in found')).1.long)
+repair_entries-requires c =
+    let black : let p = c.args in c.blacken_entries.new.img ≡ blackened (volume (geometry_of p.g) p.img.now) p.img.now = rw c.open_directory-d.ensures.answer at c.blacken_entries.ensures in
+    let found : let p = c.args in let g = geometry_of p.g in let i = p.img.now in (c.directory_holds.result ≡ length_answer (directory_holds (volume g i)) (length (directory_sectors_of g i))) × Wrote p.work.now c.directory_holds.new.work 0 (sector_count g i) = (rw c.tables_of-t.ensures at c.directory_holds.ensures.answer, rw c.tables_of-t.ensures at c.directory_holds.ensures.wrote) in
+    let right : let p = c.args in let g = geometry_of p.g in let i = p.img.now in directory_holds (volume g i) ≡ true = has_length _ _ found.0 c.in-Is.is in
+    let many : let p = c.args in let g = geometry_of p.g in let i = p.img.now in c.in-Is.n ≡ length (directory_sectors_of g i) = length_is _ _ found.0 c.in-Is.is in
+    second_passed _ c.requires right many black c.open_directory-d.ensures.fat (c.open_directory-d.ensures.wrote.long ∙ found.1.long)
 
 pub returns : goal.returns
-returns c = let p = c.args in record { image = c.repair_entries.ensures.image ∙ ap (third_step (geometry_of p.g)) ((let black' : let p = c.args in c.blacken_entries.new.img ≡ blackened (volume (geometry_of p.g) p.img.now) p.img.now = rw c.open_directory-d.ensures.answer at c.blacken_entries.ensures in black')) ∙ sym (second_taken _ _ ((let right' : let p = c.args in let g = geometry_of p.g in let i = p.img.now in directory_holds (volume g i) ≡ true = has_length _ _ ((let found' : let p = c.args in let g = geometry_of p.g in let i = p.img.now in (c.directory_holds.result ≡ length_answer (directory_holds (volume g i)) (length (directory_sectors_of g i))) × Wrote p.work.now c.directory_holds.new.work 0 (sector_count g i) = (rw c.tables_of-t.ensures at c.directory_holds.ensures.answer, rw c.tables_of-t.ensures at c.directory_holds.ensures.wrote) in found')).0 c.in-Is.is in right'))); wrote = wrote_two ((let wrote' : let p = c.args in let g = geometry_of p.g in let i = p.img.now in Wrote p.work.now c.directory_holds.new.work 0 (work_need (length i)) = cells_wrote _ _ ((let found' : let p = c.args in let g = geometry_of p.g in let i = p.img.now in (c.directory_holds.result ≡ length_answer (directory_holds (volume g i)) (length (directory_sectors_of g i))) × Wrote p.work.now c.directory_holds.new.work 0 (sector_count g i) = (rw c.tables_of-t.ensures at c.directory_holds.ensures.answer, rw c.tables_of-t.ensures at c.directory_holds.ensures.wrote) in found')).1 c.requires.listed.sized in wrote')) (wrote_two c.open_directory-d.ensures.wrote (rw c.blacken_entries.auto.img at c.repair_entries.ensures.wrote)) }
+returns c =
+    let black : let p = c.args in c.blacken_entries.new.img ≡ blackened (volume (geometry_of p.g) p.img.now) p.img.now = rw c.open_directory-d.ensures.answer at c.blacken_entries.ensures in
+    let found : let p = c.args in let g = geometry_of p.g in let i = p.img.now in (c.directory_holds.result ≡ length_answer (directory_holds (volume g i)) (length (directory_sectors_of g i))) × Wrote p.work.now c.directory_holds.new.work 0 (sector_count g i) = (rw c.tables_of-t.ensures at c.directory_holds.ensures.answer, rw c.tables_of-t.ensures at c.directory_holds.ensures.wrote) in
+    let right : let p = c.args in let g = geometry_of p.g in let i = p.img.now in directory_holds (volume g i) ≡ true = has_length _ _ found.0 c.in-Is.is in
+    let wrote' : let p = c.args in let g = geometry_of p.g in let i = p.img.now in Wrote p.work.now c.directory_holds.new.work 0 (work_need (length i)) = cells_wrote _ _ found.1 c.requires.listed.sized in
+    let p = c.args in record { image = c.repair_entries.ensures.image ∙ ap (third_step (geometry_of p.g)) black ∙ sym (second_taken _ _ right); wrote = wrote_two wrote' (wrote_two c.open_directory-d.ensures.wrote (rw c.blacken_entries.auto.img at c.repair_entries.ensures.wrote)) }

@@ -29,8 +29,9 @@ free_marked-requires c =
 
 pub returns-then-idle : goal.returns-then-idle
 returns-then-idle c =
+    let rest : let p = c.args in c.cells_rest-idle.result ≡ rest_free (volume (geometry_of p.g) p.img.now).minis = c.cells_rest-idle.ensures ∙ ap rest_free (system_minis c.entries_hold.ensures c.in-Right.is) in
     let l = c.entries_hold.ensures in
-    let e = c.in-Right.is in record { image = c.free_marked.ensures.image ∙ freed_own l e ∙ third_idle _ _ (λ i. omega (arith, c.slice_known-1.given i)) c.requires.tables c.requires.directory (system_right_lem l e) (sym ((let rest' : let p = c.args in c.cells_rest-idle.result ≡ rest_free (volume (geometry_of p.g) p.img.now).minis = c.cells_rest-idle.ensures ∙ ap rest_free (system_minis c.entries_hold.ensures c.in-Right.is) in rest')) ∙ c.if-idle.true); wrote = wrote_two l.wrote c.free_marked.ensures.wrote }
+    let e = c.in-Right.is in record { image = c.free_marked.ensures.image ∙ freed_own l e ∙ third_idle _ _ (λ i. omega (arith, c.slice_known-1.given i)) c.requires.tables c.requires.directory (system_right_lem l e) (sym rest ∙ c.if-idle.true); wrote = wrote_two l.wrote c.free_marked.ensures.wrote }
 
 pub overflow_mul-cells : goal.overflow_mul-cells
 overflow_mul-cells c = rw c.cells.ensures (omega (arith, rest_short c.args.g c.entries_hold.ensures c.in-Right.is, c.requires.hold.listed.sized.short))
@@ -47,5 +48,6 @@ free_owners-requires c =
 
 pub returns : goal.returns
 returns c =
+    let freed : let p = c.args in c.free_rest.new.img ≡ rest_freed (volume (geometry_of p.g) p.img.now).minis p.img.now = let p = c.args in (rw c.cells.ensures at c.free_rest.ensures) ∙ third_is p.g c.entries_hold.ensures c.in-Right.is in
     let p = c.args in
-    let l = c.entries_hold.ensures in record { image = c.free_owners.ensures.image ∙ ap (fourth_step (geometry_of p.g)) ((let freed' : let p = c.args in c.free_rest.new.img ≡ rest_freed (volume (geometry_of p.g) p.img.now).minis p.img.now = let p = c.args in (rw c.cells.ensures at c.free_rest.ensures) ∙ third_is p.g c.entries_hold.ensures c.in-Right.is in freed')) ∙ sym (third_taken _ _ (system_right_lem l c.in-Right.is)); wrote = wrote_two l.wrote (rw c.free_rest.auto.img at c.free_owners.ensures.wrote) }
+    let l = c.entries_hold.ensures in record { image = c.free_owners.ensures.image ∙ ap (fourth_step (geometry_of p.g)) freed ∙ sym (third_taken _ _ (system_right_lem l c.in-Right.is)); wrote = wrote_two l.wrote (rw c.free_rest.auto.img at c.free_owners.ensures.wrote) }

@@ -26,19 +26,25 @@ pub place-p-requires : goal.place-p-requires
 place-p-requires c = placed c.requires.directory_listed _ (inside (goal.at.place-p-requires c).In-loop-d)
 
 pub start_sector-requires : goal.start_sector-requires
-start_sector-requires c = (let whole' : c.place-p.result + 128 ≤ length c.args.img.now = omega (arith, c.place-p.ensures, place_inside c.requires.directory_listed _ (inside (goal.at.start_sector-requires c).In-loop-d)) in whole')
+start_sector-requires c =
+    let whole : c.place-p.result + 128 ≤ length c.args.img.now = omega (arith, c.place-p.ensures, place_inside c.requires.directory_listed _ (inside (goal.at.start_sector-requires c).In-loop-d)) in
+    whole
 
 pub put-requires : goal.put-requires
 put-requires c = omega (arith, few (goal.at.put-requires c).In-loop-d)
 
 pub size-requires : goal.size-requires
-size-requires c = (let whole' : c.place-p.result + 128 ≤ length c.args.img.now = omega (arith, c.place-p.ensures, place_inside c.requires.directory_listed _ (inside (goal.at.size-requires c).In-loop-d)) in whole')
+size-requires c =
+    let whole : c.place-p.result + 128 ≤ length c.args.img.now = omega (arith, c.place-p.ensures, place_inside c.requires.directory_listed _ (inside (goal.at.size-requires c).In-loop-d)) in
+    whole
 
 pub put_wide-requires : goal.put_wide-requires
 put_wide-requires c = omega (arith, few (goal.at.put_wide-requires c).In-loop-d)
 
 pub entry_type-requires : goal.entry_type-requires
-entry_type-requires c = (let whole' : c.place-p.result + 128 ≤ length c.args.img.now = omega (arith, c.place-p.ensures, place_inside c.requires.directory_listed _ (inside (goal.at.entry_type-requires c).In-loop-d)) in whole')
+entry_type-requires c =
+    let whole : c.place-p.result + 128 ≤ length c.args.img.now = omega (arith, c.place-p.ensures, place_inside c.requires.directory_listed _ (inside (goal.at.entry_type-requires c).In-loop-d)) in
+    whole
 
 pub counted-k-requires : goal.counted-k-requires
 counted-k-requires c = few (goal.at.counted-k-requires c).In-loop-d

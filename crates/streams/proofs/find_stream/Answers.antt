@@ -29,9 +29,12 @@ pub returns-in_default : goal.returns-in_default
 returns-in_default c = stream_refused c.requires c.args.path.now c.refusal.result (find_stopped _ c.args.path.now _ c.find_in-f.ensures c.refusal.ensures)
 
 pub returns-then-not-is_stream : goal.returns-then-not-is_stream
-returns-then-not-is_stream c = stream_refused c.requires c.args.path.now NotAStream (find_other _ c.args.path.now _ ((let found' : let a = c.args in FindRight (volume_in a.v a.image.now) a.path.now (Entry c.in-Entry.e) = let a = c.args in subst (λ u. FindRight (volume_in a.v a.image.now) a.path.now u) c.in-Entry.is c.find_in-f.ensures in found')) (other (goal.at.returns-then-not-is_stream c).Then-not-is_stream))
+returns-then-not-is_stream c =
+    let found : let a = c.args in FindRight (volume_in a.v a.image.now) a.path.now (Entry c.in-Entry.e) = let a = c.args in subst (λ u. FindRight (volume_in a.v a.image.now) a.path.now u) c.in-Entry.is c.find_in-f.ensures in
+    stream_refused c.requires c.args.path.now NotAStream (find_other _ c.args.path.now _ found (other (goal.at.returns-then-not-is_stream c).Then-not-is_stream))
 
 pub returns : goal.returns
 returns c =
-    let f = (let found' : let a = c.args in FindRight (volume_in a.v a.image.now) a.path.now (Entry c.in-Entry.e) = let a = c.args in subst (λ u. FindRight (volume_in a.v a.image.now) a.path.now u) c.in-Entry.is c.find_in-f.ensures in found') in
+    let found : let a = c.args in FindRight (volume_in a.v a.image.now) a.path.now (Entry c.in-Entry.e) = let a = c.args in subst (λ u. FindRight (volume_in a.v a.image.now) a.path.now u) c.in-Entry.is c.find_in-f.ensures in
+    let f = found in
     stream_found_lem c.requires c.args.path.now _ (find_stream _ c.args.path.now _ f (streamed (goal.at.returns c).Else-not-is_stream)) (find_target _ c.args.path.now _ f (streamed (goal.at.returns c).Else-not-is_stream))

@@ -19,7 +19,13 @@ pub start_unit-first-requires : goal.start_unit-first-requires
 start_unit-first-requires c = stream_room c.requires.open_volume.opened (own_stream c.requires.open_volume c.requires.stream_at) _ c.place.ensures
 
 pub list_units-requires : goal.list_units-requires
-list_units-requires c = let f = (let first' : let a = c.args in (kind_of c.start_unit-first.result ≡ kind_for a.e.size) × (number_in c.start_unit-first.result ≡ start_in a.v a.image.now a.e) = let f = stream_start c.requires.open_volume.opened (own_stream c.requires.open_volume c.requires.stream_at) _ c.kind_for-kind.result c.place.ensures c.start_unit-first.ensures in (f.0 ∙ c.kind_for-kind.ensures, f.1) in first') in record { readied = c.requires.open_volume.opened.ready; n_value = rw (f.0, f.1) (over_chain c.requires.open_volume.opened (own_stream c.requires.open_volume c.requires.stream_at) _ ((let many' : let a = c.args in c.units_for-n.result ≡ round_up a.e.size (space_at a.v a.image.now (kind_for a.e.size)).unit = c.units_for-n.ensures ∙ ap (round_up c.args.e.size) (c.unit_bytes.ensures ∙ ap (unit_bytes c.args.v) c.kind_for-kind.ensures ∙ unit_same c.requires.open_volume.opened.ready (kind_for c.args.e.size)) in many'))) }
+list_units-requires c =
+    let many : let a = c.args in c.units_for-n.result ≡ round_up a.e.size (space_at a.v a.image.now (kind_for a.e.size)).unit = c.units_for-n.ensures ∙ ap (round_up c.args.e.size) (c.unit_bytes.ensures ∙ ap (unit_bytes c.args.v) c.kind_for-kind.ensures ∙ unit_same c.requires.open_volume.opened.ready (kind_for c.args.e.size)) in
+    let first : let a = c.args in (kind_of c.start_unit-first.result ≡ kind_for a.e.size) × (number_in c.start_unit-first.result ≡ start_in a.v a.image.now a.e) = let f = stream_start c.requires.open_volume.opened (own_stream c.requires.open_volume c.requires.stream_at) _ c.kind_for-kind.result c.place.ensures c.start_unit-first.ensures in (f.0 ∙ c.kind_for-kind.ensures, f.1) in
+    let f = first in record { readied = c.requires.open_volume.opened.ready; n_value = rw (f.0, f.1) (over_chain c.requires.open_volume.opened (own_stream c.requires.open_volume c.requires.stream_at) _ many) }
 
 pub returns : goal.returns
-returns c = let f = (let first' : let a = c.args in (kind_of c.start_unit-first.result ≡ kind_for a.e.size) × (number_in c.start_unit-first.result ≡ start_in a.v a.image.now a.e) = let f = stream_start c.requires.open_volume.opened (own_stream c.requires.open_volume c.requires.stream_at) _ c.kind_for-kind.result c.place.ensures c.start_unit-first.ensures in (f.0 ∙ c.kind_for-kind.ensures, f.1) in first') in let r = stream_listed c.requires.open_volume c.requires.stream_at _ ((let many' : let a = c.args in c.units_for-n.result ≡ round_up a.e.size (space_at a.v a.image.now (kind_for a.e.size)).unit = c.units_for-n.ensures ∙ ap (round_up c.args.e.size) (c.unit_bytes.ensures ∙ ap (unit_bytes c.args.v) c.kind_for-kind.ensures ∙ unit_same c.requires.open_volume.opened.ready (kind_for c.args.e.size)) in many')) (rw (f.0, f.1) at c.list_units.ensures.work_after) c.list_units.ensures.wrote in record { open_stream = r.0; wrote = r.1 }
+returns c =
+    let many : let a = c.args in c.units_for-n.result ≡ round_up a.e.size (space_at a.v a.image.now (kind_for a.e.size)).unit = c.units_for-n.ensures ∙ ap (round_up c.args.e.size) (c.unit_bytes.ensures ∙ ap (unit_bytes c.args.v) c.kind_for-kind.ensures ∙ unit_same c.requires.open_volume.opened.ready (kind_for c.args.e.size)) in
+    let first : let a = c.args in (kind_of c.start_unit-first.result ≡ kind_for a.e.size) × (number_in c.start_unit-first.result ≡ start_in a.v a.image.now a.e) = let f = stream_start c.requires.open_volume.opened (own_stream c.requires.open_volume c.requires.stream_at) _ c.kind_for-kind.result c.place.ensures c.start_unit-first.ensures in (f.0 ∙ c.kind_for-kind.ensures, f.1) in
+    let f = first in let r = stream_listed c.requires.open_volume c.requires.stream_at _ many (rw (f.0, f.1) at c.list_units.ensures.work_after) c.list_units.ensures.wrote in record { open_stream = r.0; wrote = r.1 }

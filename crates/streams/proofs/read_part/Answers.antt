@@ -52,22 +52,34 @@ unit_place-requires c =
     rw (u.0, u.1) (byte_listed q.listed q.kind-is c.unit_bytes-bytes.ensures _ (omega (arith, q.within, c.loop-i-test.true)))
 
 pub overflow_add-p : goal.overflow_add-p
-overflow_add-p c = omega (arith, room (goal.at.overflow_add-p c).After-unit_place, (let inner' : (c.args.offset + c.loop-i.i) % c.unit_bytes-bytes.result < c.unit_bytes-bytes.result = mod-lt _ (some (goal.at.overflow_add-p c).After-unit_bytes-bytes) in inner'))
+overflow_add-p c =
+    let inner : (c.args.offset + c.loop-i.i) % c.unit_bytes-bytes.result < c.unit_bytes-bytes.result = mod-lt _ (some (goal.at.overflow_add-p c).After-unit_bytes-bytes) in
+    omega (arith, room (goal.at.overflow_add-p c).After-unit_place, inner)
 
 pub overflow_sub-bytes : goal.overflow_sub-bytes
-overflow_sub-bytes c = omega (arith, (let inner' : (c.args.offset + c.loop-i.i) % c.unit_bytes-bytes.result < c.unit_bytes-bytes.result = mod-lt _ (some (goal.at.overflow_sub-bytes c).After-unit_bytes-bytes) in inner'))
+overflow_sub-bytes c =
+    let inner : (c.args.offset + c.loop-i.i) % c.unit_bytes-bytes.result < c.unit_bytes-bytes.result = mod-lt _ (some (goal.at.overflow_sub-bytes c).After-unit_bytes-bytes) in
+    omega (arith, inner)
 
 pub overflow_sub-end : goal.overflow_sub-end
 overflow_sub-end c = omega (arith, c.loop-i-test.true)
 
 pub copy_part-requires : goal.copy_part-requires
-copy_part-requires c = record { n_in_bounds = omega (arith, ((let more' : (0 < c.least-run.result) × (c.loop-i.i + c.least-run.result ≤ length c.args.out.now) = piece_more (asked (goal.at.copy_part-requires c).After-kind_for-kind) c.loop-i.invariant c.unit_bytes-bytes.ensures c.loop-i-test.true c.least-run.ensures in more')).1, (let long' : length c.loop-i.out ≡ length c.args.out.now = piece_long (asked (goal.at.copy_part-requires c).After-kind_for-kind) c.loop-i.invariant in long')); n_in_bounds_2 = omega (arith, c.least-run.ensures, room (goal.at.copy_part-requires c).After-unit_place, (let inner' : (c.args.offset + c.loop-i.i) % c.unit_bytes-bytes.result < c.unit_bytes-bytes.result = mod-lt _ (some (goal.at.copy_part-requires c).After-unit_bytes-bytes) in inner')) }
+copy_part-requires c =
+    let long : length c.loop-i.out ≡ length c.args.out.now = piece_long (asked (goal.at.copy_part-requires c).After-kind_for-kind) c.loop-i.invariant in
+    let inner : (c.args.offset + c.loop-i.i) % c.unit_bytes-bytes.result < c.unit_bytes-bytes.result = mod-lt _ (some (goal.at.copy_part-requires c).After-unit_bytes-bytes) in
+    let more : (0 < c.least-run.result) × (c.loop-i.i + c.least-run.result ≤ length c.args.out.now) = piece_more (asked (goal.at.copy_part-requires c).After-kind_for-kind) c.loop-i.invariant c.unit_bytes-bytes.ensures c.loop-i-test.true c.least-run.ensures in
+    record { n_in_bounds = omega (arith, more.1, long); n_in_bounds_2 = omega (arith, c.least-run.ensures, room (goal.at.copy_part-requires c).After-unit_place, inner) }
 
 pub overflow_add-i : goal.overflow_add-i
-overflow_add-i c = omega (arith, ((let more' : (0 < c.least-run.result) × (c.loop-i.i + c.least-run.result ≤ length c.args.out.now) = piece_more (asked (goal.at.overflow_add-i c).After-kind_for-kind) c.loop-i.invariant c.unit_bytes-bytes.ensures c.loop-i-test.true c.least-run.ensures in more')).1)
+overflow_add-i c =
+    let more : (0 < c.least-run.result) × (c.loop-i.i + c.least-run.result ≤ length c.args.out.now) = piece_more (asked (goal.at.overflow_add-i c).After-kind_for-kind) c.loop-i.invariant c.unit_bytes-bytes.ensures c.loop-i-test.true c.least-run.ensures in
+    omega (arith, more.1)
 
 pub loop-i-smaller : goal.loop-i-smaller
-loop-i-smaller c = let m = (let more' : (0 < c.least-run.result) × (c.loop-i.i + c.least-run.result ≤ length c.args.out.now) = piece_more (asked (goal.at.loop-i-smaller c).After-kind_for-kind) c.loop-i.invariant c.unit_bytes-bytes.ensures c.loop-i-test.true c.least-run.ensures in more') in omega (arith, m.0, m.1)
+loop-i-smaller c =
+    let more : (0 < c.least-run.result) × (c.loop-i.i + c.least-run.result ≤ length c.args.out.now) = piece_more (asked (goal.at.loop-i-smaller c).After-kind_for-kind) c.loop-i.invariant c.unit_bytes-bytes.ensures c.loop-i-test.true c.least-run.ensures in
+    let m = more in omega (arith, m.0, m.1)
 
 pub loop-i-preserved : goal.loop-i-preserved
 loop-i-preserved c = pieces_step c.loop-i.invariant c.unit_bytes-bytes.ensures c.loop-i-test.true c.least-run.ensures c.of.ensures c.unit_place.ensures c.copy_part.ensures

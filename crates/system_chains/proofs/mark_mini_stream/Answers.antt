@@ -37,5 +37,6 @@ mark_chain-requires c = in_work c.requires.sectors
 
 pub returns : goal.returns
 returns c =
+    let root : let p = c.args in entry_at p.img.now c.place-p.result ≡ (directory (geometry_of p.t.geometry) p.img.now).entry 0 = let l = c.requires in root_read _ _ l.directory l.same c.place-p.ensures in
     mini_stream_marked c.requires.sectors _ _ c.mark_chain.ensures _ (bytes (goal.at.returns c).After-size-n)
-    (omega (arith, c.if-n-gt0.false)) c.sectors_for.ensures (c.start_sector.ensures ∙ ap start ((let root' : let p = c.args in entry_at p.img.now c.place-p.result ≡ (directory (geometry_of p.t.geometry) p.img.now).entry 0 = let l = c.requires in root_read _ _ l.directory l.same c.place-p.ensures in root')))
+    (omega (arith, c.if-n-gt0.false)) c.sectors_for.ensures (c.start_sector.ensures ∙ ap start root)

@@ -19,7 +19,9 @@ mark_directory-a-requires c = let l = c.requires.system_markable in record { sec
 
 pub mark_mini_fat-b-requires : goal.mark_mini_fat-b-requires
 unfolding sector_space
-mark_mini_fat-b-requires c = ((let first' : let p = c.args in SystemMarkable p.t p.d p.img.now c.mark_directory-a.new.work = let m = c.mark_directory-a.ensures in markable_after c.requires.system_markable (m.stands refl) m.wrote in first')).sectors
+mark_mini_fat-b-requires c =
+    let first : let p = c.args in SystemMarkable p.t p.d p.img.now c.mark_directory-a.new.work = let m = c.mark_directory-a.ensures in markable_after c.requires.system_markable (m.stands refl) m.wrote in
+    first.sectors
 
 pub is_broken-requires : goal.is_broken-requires
 unfolding sector_space
@@ -35,8 +37,10 @@ returns-then-is_broken c =
 pub mark_mini_stream-c-requires : goal.mark_mini_stream-c-requires
 unfolding sector_space
 mark_mini_stream-c-requires c =
+    let right : let p = c.args in mini_fat_chain (volume_of p.t.geometry p.img.now) ≡ true = is_right c.mark_mini_fat-b.ensures (sym c.is_broken.ensures ∙ c.if-is_broken.false) in
+    let first : let p = c.args in SystemMarkable p.t p.d p.img.now c.mark_directory-a.new.work = let m = c.mark_directory-a.ensures in markable_after c.requires.system_markable (m.stands refl) m.wrote in
     let f = c.mark_mini_fat-b.ensures in
-    markable_after ((let first' : let p = c.args in SystemMarkable p.t p.d p.img.now c.mark_directory-a.new.work = let m = c.mark_directory-a.ensures in markable_after c.requires.system_markable (m.stands refl) m.wrote in first')) (f.stands ((let right' : let p = c.args in mini_fat_chain (volume_of p.t.geometry p.img.now) ≡ true = is_right c.mark_mini_fat-b.ensures (sym c.is_broken.ensures ∙ c.if-is_broken.false) in right'))) f.wrote
+    markable_after first (f.stands right) f.wrote
 
 pub and_then-requires : goal.and_then-requires
 unfolding sector_space
@@ -49,6 +53,7 @@ and_then-requires-2 c = search rules
 pub returns : goal.returns
 unfolding sector_space
 returns c =
-    let f = (rw ((let right' : let p = c.args in mini_fat_chain (volume_of p.t.geometry p.img.now) ≡ true = is_right c.mark_mini_fat-b.ensures (sym c.is_broken.ensures ∙ c.if-is_broken.false) in right')) at c.mark_mini_fat-b.ensures) in
-    rw (c.and_then-2.ensures, c.and_then.ensures, (let right' : let p = c.args in mini_fat_chain (volume_of p.t.geometry p.img.now) ≡ true = is_right c.mark_mini_fat-b.ensures (sym c.is_broken.ensures ∙ c.if-is_broken.false) in right'))
+    let right : let p = c.args in mini_fat_chain (volume_of p.t.geometry p.img.now) ≡ true = is_right c.mark_mini_fat-b.ensures (sym c.is_broken.ensures ∙ c.if-is_broken.false) in
+    let f = (rw right at c.mark_mini_fat-b.ensures) in
+    rw (c.and_then-2.ensures, c.and_then.ensures, right)
     (marked_both (marked_both c.mark_directory-a.ensures f) c.mark_mini_stream-c.ensures)

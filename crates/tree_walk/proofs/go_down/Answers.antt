@@ -16,13 +16,18 @@ pub returns-then-is_reached-s : goal.returns-then-is_reached-s
 returns-then-is_reached-s c = λ q g. record { turned = down_wrong g c.requires.at_nonzero c.node_at-node.ensures.0 (wrong (goal.at.returns-then-is_reached-s c).Then-is_reached-s); wrote = wrote_none _ 0 _ }
 
 pub enter-requires : goal.enter-requires
-enter-requires c = let a = c.node_at-node.ensures.0 in record { a_value = down_unreached c.requires.underway.1 c.requires.at_nonzero a ((let right' : let a = c.node_at-node.result.a in (node_reached a || (c.args.s.red && node_red a)) ≡ false = rw (← c.is_reached.ensures, ← c.is_red.ensures) c.if-is_reached-s.false in right')); at_in_bounds = (omega (arith, down_in c.requires.underway.1 c.requires.at_nonzero), up_in c.requires.underway.1 c.requires.at_nonzero a ((let right' : let a = c.node_at-node.result.a in (node_reached a || (c.args.s.red && node_red a)) ≡ false = rw (← c.is_reached.ensures, ← c.is_red.ensures) c.if-is_reached-s.false in right')) c.count.ensures) }
+enter-requires c =
+    let right : let a = c.node_at-node.result.a in (node_reached a || (c.args.s.red && node_red a)) ≡ false = rw (← c.is_reached.ensures, ← c.is_red.ensures) c.if-is_reached-s.false in
+    let a = c.node_at-node.ensures.0 in record { a_value = down_unreached c.requires.underway.1 c.requires.at_nonzero a right; at_in_bounds = (omega (arith, down_in c.requires.underway.1 c.requires.at_nonzero), up_in c.requires.underway.1 c.requires.at_nonzero a right c.count.ensures) }
 
 pub overflow_add-result : goal.overflow_add-result
-overflow_add-result c = omega (arith, up_room c.requires.underway.1 c.requires.at_nonzero c.node_at-node.ensures.0 ((let right' : let a = c.node_at-node.result.a in (node_reached a || (c.args.s.red && node_red a)) ≡ false = rw (← c.is_reached.ensures, ← c.is_red.ensures) c.if-is_reached-s.false in right')), c.requires.underway.1.lent.nodes.few)
+overflow_add-result c =
+    let right : let a = c.node_at-node.result.a in (node_reached a || (c.args.s.red && node_red a)) ≡ false = rw (← c.is_reached.ensures, ← c.is_red.ensures) c.if-is_reached-s.false in
+    omega (arith, up_room c.requires.underway.1 c.requires.at_nonzero c.node_at-node.ensures.0 right, c.requires.underway.1.lent.nodes.few)
 
 pub returns : goal.returns
 returns c =
+    let right : let a = c.node_at-node.result.a in (node_reached a || (c.args.s.red && node_red a)) ≡ false = rw (← c.is_reached.ensures, ← c.is_red.ensures) c.if-is_reached-s.false in
     λ q g.
-    down_go g c.requires.at_nonzero c.node_at-node.ensures.0 ((let right' : let a = c.node_at-node.result.a in (node_reached a || (c.args.s.red && node_red a)) ≡ false = rw (← c.is_reached.ensures, ← c.is_red.ensures) c.if-is_reached-s.false in right')) c.count.ensures c.enter.ensures
+    down_go g c.requires.at_nonzero c.node_at-node.ensures.0 right c.count.ensures c.enter.ensures
     c.left.ensures c.is_red-2.ensures refl refl refl refl

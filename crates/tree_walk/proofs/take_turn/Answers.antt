@@ -9,10 +9,16 @@ pub go_down-requires : goal.go_down-requires
 go_down-requires c = record { underway = c.requires; at_nonzero = omega (arith, eqb-false c.args.s.at.0 0 (sym c.is_none.ensures ∙ c.if-not-is_none.true)) }
 
 pub visit-requires : goal.visit-requires
-visit-requires c = record { underway = c.requires; at_value = ((let none' : c.args.s.at.0 ≡ 0 = eqb-true c.args.s.at.0 0 (sym c.is_none.ensures ∙ c.if-not-is_none.false) in none'), c.if-s-gt0.true) }
+visit-requires c =
+    let none : c.args.s.at.0 ≡ 0 = eqb-true c.args.s.at.0 0 (sym c.is_none.ensures ∙ c.if-not-is_none.false) in
+    record { underway = c.requires; at_value = (none, c.if-s-gt0.true) }
 
 pub next_tree-requires : goal.next_tree-requires
-next_tree-requires c = record { underway = c.requires; at_value = ((let none' : c.args.s.at.0 ≡ 0 = eqb-true c.args.s.at.0 0 (sym c.is_none.ensures ∙ c.if-not-is_none.false) in none'), omega (arith, c.if-s-gt0.false), c.if-s-gt0-2.true) }
+next_tree-requires c =
+    let none : c.args.s.at.0 ≡ 0 = eqb-true c.args.s.at.0 0 (sym c.is_none.ensures ∙ c.if-not-is_none.false) in
+    record { underway = c.requires; at_value = (none, omega (arith, c.if-s-gt0.false), c.if-s-gt0-2.true) }
 
 pub returns : goal.returns
-returns c = λ q g. walk_done g ((let none' : c.args.s.at.0 ≡ 0 = eqb-true c.args.s.at.0 0 (sym c.is_none.ensures ∙ c.if-not-is_none.false) in none')) (omega (arith, c.if-s-gt0.false)) (omega (arith, c.if-s-gt0-2.false))
+returns c =
+    let none : c.args.s.at.0 ≡ 0 = eqb-true c.args.s.at.0 0 (sym c.is_none.ensures ∙ c.if-not-is_none.false) in
+    λ q g. walk_done g none (omega (arith, c.if-s-gt0.false)) (omega (arith, c.if-s-gt0-2.false))

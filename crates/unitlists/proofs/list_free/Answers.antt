@@ -17,7 +17,9 @@ pub loop-n-init : goal.loop-n-init
 loop-n-init c = picking_start c.requires.k_le_need
 
 pub next_free-s-requires : goal.next_free-s-requires
-next_free-s-requires c = let l = c.loop-n.invariant in record { readied = ready_kept l.wrote ((let room' : let a = c.args in (a.need ≤ a.v.stream) × (a.need ≤ length a.work.now) = (c.requires.need_le_stream, omega (arith, c.requires.need_le_stream, c.requires.readied.stream.room)) in room')).0 c.requires.readied; from_bound = omega (arith, l.within) }
+next_free-s-requires c =
+    let room' : let a = c.args in (a.need ≤ a.v.stream) × (a.need ≤ length a.work.now) = (c.requires.need_le_stream, omega (arith, c.requires.need_le_stream, c.requires.readied.stream.room)) in
+    let l = c.loop-n.invariant in record { readied = ready_kept l.wrote room'.0 c.requires.readied; from_bound = omega (arith, l.within) }
 
 pub overflow_add-looked : goal.overflow_add-looked
 overflow_add-looked c = omega (arith, picking_cells c.loop-n.invariant c.args.kind c.next_free-s.ensures c.loop-n-test.true, limit_end c.requires.readied c.args.kind)

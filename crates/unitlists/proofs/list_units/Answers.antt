@@ -28,8 +28,9 @@ bounds-work-i c = in_work (goal.at.bounds-work-i c).In-loop-i
 
 pub cell_of-u-requires : goal.cell_of-u-requires
 cell_of-u-requires c =
+    let room : let a = c.args in (a.n ≤ a.v.stream) × (a.n ≤ length a.work.now) = let p = c.requires.readied in let k = kind_of c.args.start in let s = chain_short _ _ (limit_end p k) c.args.n (number_in c.args.start) c.requires.n_value in (omega (arith, limit_room p k), omega (arith, limit_work p k)) in
     let l = c.loop-i.invariant in
-    let h = c.loop-i-test.true in record { readied = rw c.number.ensures (ready_kept (listing_wrote l.1 h) ((let room' : let a = c.args in (a.n ≤ a.v.stream) × (a.n ≤ length a.work.now) = let p = c.requires.readied in let k = kind_of c.args.start in let s = chain_short _ _ (limit_end p k) c.args.n (number_in c.args.start) c.requires.n_value in (omega (arith, limit_room p k), omega (arith, limit_work p k)) in room')).0 c.requires.readied); u_bound = rw l.0 (listing_below l.1 c.requires.n_value h) }
+    let h = c.loop-i-test.true in record { readied = rw c.number.ensures (ready_kept (listing_wrote l.1 h) room.0 c.requires.readied); u_bound = rw l.0 (listing_below l.1 c.requires.n_value h) }
 
 pub loop-i-preserved : goal.loop-i-preserved
 loop-i-preserved c =

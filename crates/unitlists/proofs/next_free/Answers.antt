@@ -28,22 +28,34 @@ pub loop-place-init : goal.loop-place-init
 loop-place-init c = searching_start c.requires.from_bound
 
 pub at-u-requires : goal.at-u-requires
-at-u-requires c = omega (arith, (let limit_is' : let a = c.args in c.unit_count-count.result ≡ (space_at a.v a.img.now a.kind).limit = c.unit_count-count.ensures ∙ count_same c.requires.readied c.args.kind in limit_is'), limit_end c.requires.readied c.args.kind)
+at-u-requires c =
+    let limit_is : let a = c.args in c.unit_count-count.result ≡ (space_at a.v a.img.now a.kind).limit = c.unit_count-count.ensures ∙ count_same c.requires.readied c.args.kind in
+    omega (arith, limit_is, limit_end c.requires.readied c.args.kind)
 
 pub cell_of-cell-requires : goal.cell_of-cell-requires
-cell_of-cell-requires c = let u = unit_is (goal.at.cell_of-cell-requires c).After-at-u in record { readied = c.requires.readied; u_bound = rw (u.0, u.1) (omega (arith, (let limit_is' : let a = c.args in c.unit_count-count.result ≡ (space_at a.v a.img.now a.kind).limit = c.unit_count-count.ensures ∙ count_same c.requires.readied c.args.kind in limit_is'))) }
+cell_of-cell-requires c =
+    let limit_is : let a = c.args in c.unit_count-count.result ≡ (space_at a.v a.img.now a.kind).limit = c.unit_count-count.ensures ∙ count_same c.requires.readied c.args.kind in
+    let u = unit_is (goal.at.cell_of-cell-requires c).After-at-u in record { readied = c.requires.readied; u_bound = rw (u.0, u.1) (omega (arith, limit_is)) }
 
 pub overflow_add-looked : goal.overflow_add-looked
 overflow_add-looked c = omega (arith, c.loop-place.invariant.count)
 
 pub returns-then-is_free : goal.returns-then-is_free
-returns-then-is_free c = searching_found c.loop-place.invariant c.args.kind c.at-u.result c.at-u.ensures (omega (arith, (let limit_is' : let a = c.args in c.unit_count-count.result ≡ (space_at a.v a.img.now a.kind).limit = c.unit_count-count.ensures ∙ count_same c.requires.readied c.args.kind in limit_is'))) (sym (cell_is (goal.at.returns-then-is_free c).After-cell_of-cell) ∙ eqb-true _ FREE (sym c.is_free.ensures ∙ c.if-is_free.true))
+returns-then-is_free c =
+    let limit_is : let a = c.args in c.unit_count-count.result ≡ (space_at a.v a.img.now a.kind).limit = c.unit_count-count.ensures ∙ count_same c.requires.readied c.args.kind in
+    searching_found c.loop-place.invariant c.args.kind c.at-u.result c.at-u.ensures (omega (arith, limit_is)) (sym (cell_is (goal.at.returns-then-is_free c).After-cell_of-cell) ∙ eqb-true _ FREE (sym c.is_free.ensures ∙ c.if-is_free.true))
 
 pub overflow_add-place : goal.overflow_add-place
-overflow_add-place c = omega (arith, (let limit_is' : let a = c.args in c.unit_count-count.result ≡ (space_at a.v a.img.now a.kind).limit = c.unit_count-count.ensures ∙ count_same c.requires.readied c.args.kind in limit_is'), limit_end c.requires.readied c.args.kind)
+overflow_add-place c =
+    let limit_is : let a = c.args in c.unit_count-count.result ≡ (space_at a.v a.img.now a.kind).limit = c.unit_count-count.ensures ∙ count_same c.requires.readied c.args.kind in
+    omega (arith, limit_is, limit_end c.requires.readied c.args.kind)
 
 pub loop-place-preserved : goal.loop-place-preserved
-loop-place-preserved c = searching_step c.loop-place.invariant (omega (arith, (let limit_is' : let a = c.args in c.unit_count-count.result ≡ (space_at a.v a.img.now a.kind).limit = c.unit_count-count.ensures ∙ count_same c.requires.readied c.args.kind in limit_is'))) (λ e. clash (c.is_free.ensures ∙ eq-eqb _ FREE (cell_is (goal.at.loop-place-preserved c).After-cell_of-cell ∙ e)) c.if-is_free.false)
+loop-place-preserved c =
+    let limit_is : let a = c.args in c.unit_count-count.result ≡ (space_at a.v a.img.now a.kind).limit = c.unit_count-count.ensures ∙ count_same c.requires.readied c.args.kind in
+    searching_step c.loop-place.invariant (omega (arith, limit_is)) (λ e. clash (c.is_free.ensures ∙ eq-eqb _ FREE (cell_is (goal.at.loop-place-preserved c).After-cell_of-cell ∙ e)) c.if-is_free.false)
 
 pub returns : goal.returns
-returns c = searching_none c.loop-place.invariant c.args.kind (omega (arith, (let limit_is' : let a = c.args in c.unit_count-count.result ≡ (space_at a.v a.img.now a.kind).limit = c.unit_count-count.ensures ∙ count_same c.requires.readied c.args.kind in limit_is')))
+returns c =
+    let limit_is : let a = c.args in c.unit_count-count.result ≡ (space_at a.v a.img.now a.kind).limit = c.unit_count-count.ensures ∙ count_same c.requires.readied c.args.kind in
+    searching_none c.loop-place.invariant c.args.kind (omega (arith, limit_is))

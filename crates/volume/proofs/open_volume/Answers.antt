@@ -61,7 +61,9 @@ returns-then-work-need c = own (goal.at.returns-then-work-need c).After-version_
 
 pub table_groups-requires : goal.table_groups-requires
 unfolding work_need
-table_groups-requires c = let i = c.args.img.now in record { image_sized = allowed_sized ((geometry_of c.version_of-g.result)) i (own_value i c.version_of-g.ensures) (narrow (goal.at.table_groups-requires c).After-version_of-g) (allowed (goal.at.table_groups-requires c).Else-not-length_allowed); img_in_bounds = (let enough' : let p = c.args in work_need (length p.img.now) ≤ length p.work.now = omega (arith, c.if-work-need.false, c.work_need-need.ensures) in enough') }
+table_groups-requires c =
+    let enough : let p = c.args in work_need (length p.img.now) ≤ length p.work.now = omega (arith, c.if-work-need.false, c.work_need-need.ensures) in
+    let i = c.args.img.now in record { image_sized = allowed_sized ((geometry_of c.version_of-g.result)) i (own_value i c.version_of-g.ensures) (narrow (goal.at.table_groups-requires c).After-version_of-g) (allowed (goal.at.table_groups-requires c).Else-not-length_allowed); img_in_bounds = enough }
 
 pub zero_first-requires : goal.zero_first-requires
 unfolding work_need
@@ -69,8 +71,14 @@ zero_first-requires c = omega (arith, c.if-work-need.false, c.table_groups.auto.
 
 pub returns-in-Refused : goal.returns-in-Refused
 unfolding work_need
-returns-in-Refused c = own (goal.at.returns-in-Refused c).After-version_of-g (c.args.work.now) c.zero_first.new.work (Refused c.in-Refused.a) (refused_late _ _ c.table_groups.ensures ((let decided' : let p = c.args in verdict ((geometry_of c.version_of-g.result)) p.img.now (length p.work.now) ≡ groups ((geometry_of c.version_of-g.result)) p.img.now = groups_decide _ _ _ (allowed (goal.at.returns-in-Refused c).Else-not-length_allowed) ((let enough' : let p = c.args in work_need (length p.img.now) ≤ length p.work.now = omega (arith, c.if-work-need.false, c.work_need-need.ensures) in enough')) in decided')) c.in-Refused.is (c.zero_first.ensures ∙ ap (λ n. work_cleared n c.table_groups.new.work) c.work_need-need.ensures))
+returns-in-Refused c =
+    let enough : let p = c.args in work_need (length p.img.now) ≤ length p.work.now = omega (arith, c.if-work-need.false, c.work_need-need.ensures) in
+    let decided : let p = c.args in verdict ((geometry_of c.version_of-g.result)) p.img.now (length p.work.now) ≡ groups ((geometry_of c.version_of-g.result)) p.img.now = groups_decide _ _ _ (allowed (goal.at.returns-in-Refused c).Else-not-length_allowed) enough in
+    own (goal.at.returns-in-Refused c).After-version_of-g (c.args.work.now) c.zero_first.new.work (Refused c.in-Refused.a) (refused_late _ _ c.table_groups.ensures decided c.in-Refused.is (c.zero_first.ensures ∙ ap (λ n. work_cleared n c.table_groups.new.work) c.work_need-need.ensures))
 
 pub returns-in-Ready : goal.returns-in-Ready
 unfolding work_need
-returns-in-Ready c = own (goal.at.returns-in-Ready c).After-version_of-g (c.args.work.now) c.table_groups.new.work (Ready c.in-Ready.v) (opened _ _ c.table_groups.ensures ((let decided' : let p = c.args in verdict ((geometry_of c.version_of-g.result)) p.img.now (length p.work.now) ≡ groups ((geometry_of c.version_of-g.result)) p.img.now = groups_decide _ _ _ (allowed (goal.at.returns-in-Ready c).Else-not-length_allowed) ((let enough' : let p = c.args in work_need (length p.img.now) ≤ length p.work.now = omega (arith, c.if-work-need.false, c.work_need-need.ensures) in enough')) in decided')) refl ((let enough' : let p = c.args in work_need (length p.img.now) ≤ length p.work.now = omega (arith, c.if-work-need.false, c.work_need-need.ensures) in enough')) c.in-Ready.is)
+returns-in-Ready c =
+    let enough : let p = c.args in work_need (length p.img.now) ≤ length p.work.now = omega (arith, c.if-work-need.false, c.work_need-need.ensures) in
+    let decided : let p = c.args in verdict ((geometry_of c.version_of-g.result)) p.img.now (length p.work.now) ≡ groups ((geometry_of c.version_of-g.result)) p.img.now = groups_decide _ _ _ (allowed (goal.at.returns-in-Ready c).Else-not-length_allowed) enough in
+    own (goal.at.returns-in-Ready c).After-version_of-g (c.args.work.now) c.table_groups.new.work (Ready c.in-Ready.v) (opened _ _ c.table_groups.ensures decided refl enough c.in-Ready.is)

@@ -63,16 +63,22 @@ pub overflow_sub-end : goal.overflow_sub-end
 overflow_sub-end c = let h = c.loop-i-test.true in omega arith
 
 pub copy_part-requires : goal.copy_part-requires
-copy_part-requires c = record { n_in_bounds = omega (arith, c.least-run.ensures, inside (goal.at.copy_part-requires c).After-unit_place, inner (goal.at.copy_part-requires c).After-unit_place); n_in_bounds_2 = ((let more' : (0 < c.least-run.result) × (c.loop-i.i + c.least-run.result ≤ length c.args.bytes.now) = let w = inner (goal.at.copy_part-requires c).After-unit_place in let e = c.least-run.ensures in let h = c.loop-i-test.true in (omega (arith, w, e, h), omega (arith, e, h)) in more')).1 }
+copy_part-requires c =
+    let more : (0 < c.least-run.result) × (c.loop-i.i + c.least-run.result ≤ length c.args.bytes.now) = let w = inner (goal.at.copy_part-requires c).After-unit_place in let e = c.least-run.ensures in let h = c.loop-i-test.true in (omega (arith, w, e, h), omega (arith, e, h)) in
+    record { n_in_bounds = omega (arith, c.least-run.ensures, inside (goal.at.copy_part-requires c).After-unit_place, inner (goal.at.copy_part-requires c).After-unit_place); n_in_bounds_2 = more.1 }
 
 pub overflow_add-i : goal.overflow_add-i
-overflow_add-i c = omega (arith, ((let more' : (0 < c.least-run.result) × (c.loop-i.i + c.least-run.result ≤ length c.args.bytes.now) = let w = inner (goal.at.overflow_add-i c).After-unit_place in let e = c.least-run.ensures in let h = c.loop-i-test.true in (omega (arith, w, e, h), omega (arith, e, h)) in more')).1)
+overflow_add-i c =
+    let more : (0 < c.least-run.result) × (c.loop-i.i + c.least-run.result ≤ length c.args.bytes.now) = let w = inner (goal.at.overflow_add-i c).After-unit_place in let e = c.least-run.ensures in let h = c.loop-i-test.true in (omega (arith, w, e, h), omega (arith, e, h)) in
+    omega (arith, more.1)
 
 pub overflow_add-k : goal.overflow_add-k
 overflow_add-k c = omega (arith, below (goal.at.overflow_add-k c).In-loop-i, c.requires.writable.room)
 
 pub loop-i-smaller : goal.loop-i-smaller
-loop-i-smaller c = let m = (let more' : (0 < c.least-run.result) × (c.loop-i.i + c.least-run.result ≤ length c.args.bytes.now) = let w = inner (goal.at.loop-i-smaller c).After-unit_place in let e = c.least-run.ensures in let h = c.loop-i-test.true in (omega (arith, w, e, h), omega (arith, e, h)) in more') in omega (arith, m.0, m.1)
+loop-i-smaller c =
+    let more : (0 < c.least-run.result) × (c.loop-i.i + c.least-run.result ≤ length c.args.bytes.now) = let w = inner (goal.at.loop-i-smaller c).After-unit_place in let e = c.least-run.ensures in let h = c.loop-i-test.true in (omega (arith, w, e, h), omega (arith, e, h)) in
+    let m = more in omega (arith, m.0, m.1)
 
 pub loop-i-preserved : goal.loop-i-preserved
 loop-i-preserved c = putting_step _ c.args.work.now c.args.n c.args.offset c.args.bytes.now c.args.img.now c.requires.bytes_bound c.loop-i.invariant c.loop-i-test.true _ _ c.least-run.result c.unit_bytes-unit.ensures (starts (goal.at.loop-i-preserved c).After-unit_place) c.least-run.ensures c.copy_part.new.to c.copy_part.ensures

@@ -23,7 +23,8 @@ cell_value-requires c = record { to_in_bounds = c.requires.writable.room; j_lt_t
 
 pub put_cell-requires : goal.put_cell-requires
 put_cell-requires c =
-    let u = (let unit_is' : let a = c.args in (kind_of c.of-u.result ≡ a.kind) × (number_in c.of-u.result ≡ get_or a.work.now c.loop-j.j 0) = unit_as c.args.kind _ c.of-u.ensures in unit_is') in
+    let unit_is : let a = c.args in (kind_of c.of-u.result ≡ a.kind) × (number_in c.of-u.result ≡ get_or a.work.now c.loop-j.j 0) = unit_as c.args.kind _ c.of-u.ensures in
+    let u = unit_is in
     let p = c.requires.writable in
     let h = c.loop-j-test.true in rw (u.0, u.1) (record { cell_listed = p.cells c.loop-j.j h; u_in_bounds = omega (arith, p.cell_room c.loop-j.j h, c.loop-j.invariant.long) })
 
@@ -35,7 +36,8 @@ loop-j-smaller c = omega arith
 
 pub loop-j-preserved : goal.loop-j-preserved
 loop-j-preserved c =
-    let u = (let unit_is' : let a = c.args in (kind_of c.of-u.result ≡ a.kind) × (number_in c.of-u.result ≡ get_or a.work.now c.loop-j.j 0) = unit_as c.args.kind _ c.of-u.ensures in unit_is') in
+    let unit_is : let a = c.args in (kind_of c.of-u.result ≡ a.kind) × (number_in c.of-u.result ≡ get_or a.work.now c.loop-j.j 0) = unit_as c.args.kind _ c.of-u.ensures in
+    let u = unit_is in
     let e = (unit_as c.args.kind _ c.cell_value.ensures).1 in
     writing_step _ _ c.args.work.now c.args.from c.args.to c.requires.writable.room c.args.img.now c.loop-j.invariant c.loop-j-test.true c.put_cell.new.img c.put_cell.auto.img (rw (u.0, u.1, e) at c.put_cell.ensures)
 

@@ -16,9 +16,10 @@ use Rattle.edits.proofs.resize.gather.Goals as goal
 
 pub returns-then-unit_count-need : goal.returns-then-unit_count-need
 returns-then-unit_count-need c =
+    let many : let a = c.args in c.unit_count.result ≡ (space_at a.v a.img.now (kind_of a.start)).limit = c.unit_count.ensures ∙ ap (unit_count c.args.v) c.kind-kind.ensures ∙ count_same c.requires.readied (kind_of c.args.start) in
     let k = kind_of c.args.start in
     let few = old_short c.requires.readied k _ _ c.requires.value in
-    let h : (space_at c.args.v c.args.img.now k).limit < c.args.need = omega (arith, c.if-unit_count-need.true, (let many' : let a = c.args in c.unit_count.result ≡ (space_at a.v a.img.now (kind_of a.start)).limit = c.unit_count.ensures ∙ ap (unit_count c.args.v) c.kind-kind.ensures ∙ count_same c.requires.readied (kind_of c.args.start) in many')) in record { value_2 = growth_is _ _ _ (needs_more c.requires.readied k _ _ c.requires.value _ h) (none_looked _ _ _ h); work_after = c.list_units.ensures.work_after; work_after_2 = (λ q. absurd (clash q refl)); wrote = gathered_wrote c.requires.readied k _ few c.list_units.ensures.wrote; looked_bound = omega arith }
+    let h : (space_at c.args.v c.args.img.now k).limit < c.args.need = omega (arith, c.if-unit_count-need.true, many) in record { value_2 = growth_is _ _ _ (needs_more c.requires.readied k _ _ c.requires.value _ h) (none_looked _ _ _ h); work_after = c.list_units.ensures.work_after; work_after_2 = (λ q. absurd (clash q refl)); wrote = gathered_wrote c.requires.readied k _ few c.list_units.ensures.wrote; looked_bound = omega arith }
 
 pub returns-then-n-old : goal.returns-then-n-old
 returns-then-n-old c =
@@ -27,15 +28,17 @@ returns-then-n-old c =
 
 pub list_free-l-requires : goal.list_free-l-requires
 list_free-l-requires c =
+    let many : let a = c.args in c.unit_count.result ≡ (space_at a.v a.img.now (kind_of a.start)).limit = c.unit_count.ensures ∙ ap (unit_count c.args.v) c.kind-kind.ensures ∙ count_same c.requires.readied (kind_of c.args.start) in
     let k = kind_of c.args.start in
-    let few = old_short c.requires.readied k _ _ c.requires.value in record { readied = gathered_ready c.requires.readied (gathered_wrote c.requires.readied k _ few c.list_units.ensures.wrote); k_le_need = omega (arith, c.if-n-old.false); need_le_stream = omega (arith, c.if-unit_count-need.false, (let many' : let a = c.args in c.unit_count.result ≡ (space_at a.v a.img.now (kind_of a.start)).limit = c.unit_count.ensures ∙ ap (unit_count c.args.v) c.kind-kind.ensures ∙ count_same c.requires.readied (kind_of c.args.start) in many'), limit_room c.requires.readied k) }
+    let few = old_short c.requires.readied k _ _ c.requires.value in record { readied = gathered_ready c.requires.readied (gathered_wrote c.requires.readied k _ few c.list_units.ensures.wrote); k_le_need = omega (arith, c.if-n-old.false); need_le_stream = omega (arith, c.if-unit_count-need.false, many, limit_room c.requires.readied k) }
 
 pub returns : goal.returns
 returns c =
+    let many : let a = c.args in c.unit_count.result ≡ (space_at a.v a.img.now (kind_of a.start)).limit = c.unit_count.ensures ∙ ap (unit_count c.args.v) c.kind-kind.ensures ∙ count_same c.requires.readied (kind_of c.args.start) in
     let k = kind_of c.args.start in
     let few = old_short c.requires.readied k _ _ c.requires.value in
     let t = gathered_wrote c.requires.readied k _ few c.list_units.ensures.wrote in
-    let m : c.args.need ≤ (space_at c.args.v c.args.img.now k).limit = omega (arith, c.if-unit_count-need.false, (let many' : let a = c.args in c.unit_count.result ≡ (space_at a.v a.img.now (kind_of a.start)).limit = c.unit_count.ensures ∙ ap (unit_count c.args.v) c.kind-kind.ensures ∙ count_same c.requires.readied (kind_of c.args.start) in many')) in
+    let m : c.args.need ≤ (space_at c.args.v c.args.img.now k).limit = omega (arith, c.if-unit_count-need.false, many) in
     let o : c.args.old ≤ c.args.need = omega (arith, c.if-n-old.false) in
     let g = chain_long c.requires.readied k _ _ c.requires.value in
     let n = filled_count _ _ _ (rw c.kind-kind.ensures at c.list_free-l.ensures.value) o in

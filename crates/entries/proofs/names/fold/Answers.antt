@@ -34,12 +34,18 @@ overflow_sub-result-then-small_by_50 c = omega (arith, (by_50 _ (sym c.small_by_
 
 pub returns-then-small_by_50 : goal.returns-then-small_by_50
 unfolding fold
-returns-then-small_by_50 c = sym (rw ((let not20' : small_by20 c.args.u ≡ false = sym c.small_by_20.ensures ∙ c.if-small_by_20.false in not20'), sym c.small_by_50.ensures ∙ c.if-small_by_50.true))
+returns-then-small_by_50 c =
+    let not20 : small_by20 c.args.u ≡ false = sym c.small_by_20.ensures ∙ c.if-small_by_20.false in
+    sym (rw (not20, sym c.small_by_50.ensures ∙ c.if-small_by_50.true))
 
 pub returns-then-u-eq255 : goal.returns-then-u-eq255
 unfolding fold
-returns-then-u-eq255 c = sym (rw ((let not20' : small_by20 c.args.u ≡ false = sym c.small_by_20.ensures ∙ c.if-small_by_20.false in not20'), sym c.small_by_50.ensures ∙ c.if-small_by_50.false, eq-eqb _ 0xFF c.if-u-eq255.true))
+returns-then-u-eq255 c =
+    let not20 : small_by20 c.args.u ≡ false = sym c.small_by_20.ensures ∙ c.if-small_by_20.false in
+    sym (rw (not20, sym c.small_by_50.ensures ∙ c.if-small_by_50.false, eq-eqb _ 0xFF c.if-u-eq255.true))
 
 pub returns : goal.returns
 unfolding fold
-returns c = sym (rw ((let not20' : small_by20 c.args.u ≡ false = sym c.small_by_20.ensures ∙ c.if-small_by_20.false in not20'), sym c.small_by_50.ensures ∙ c.if-small_by_50.false, ne_eqb _ 0xFF c.if-u-eq255.false))
+returns c =
+    let not20 : small_by20 c.args.u ≡ false = sym c.small_by_20.ensures ∙ c.if-small_by_20.false in
+    sym (rw (not20, sym c.small_by_50.ensures ∙ c.if-small_by_50.false, ne_eqb _ 0xFF c.if-u-eq255.false))

@@ -89,11 +89,17 @@ start_unit-first-requires c = stream_room c.requires.fact c.requires.stream_at _
 
 pub gather_across-g-requires : goal.gather_across-g-requires
 unfolding on_zero
-gather_across-g-requires c = let f = (let first' : let a = c.args in (kind_of c.start_unit-first.result ≡ kind_for a.e.size) × (number_in c.start_unit-first.result ≡ start ((volume_in a.v a.img.now).directory.entry a.e.id.0)) = let f = stream_start c.requires.fact c.requires.stream_at _ c.kind_for-from.result c.place.ensures c.start_unit-first.ensures in (f.0 ∙ c.kind_for-from.ensures, f.1) in first') in record { readied = c.requires.fact.ready; value = rw (f.0, f.1) (over_chain c.requires.fact c.requires.stream_at _ (many (goal.at.gather_across-g-requires c).After-units_for-old)); start_nonzero = rw (f.0, c.kind_for-to.ensures) (kinds_differ c.args.e.size c.args.new c.requires.value) }
+gather_across-g-requires c =
+    let first : let a = c.args in (kind_of c.start_unit-first.result ≡ kind_for a.e.size) × (number_in c.start_unit-first.result ≡ start ((volume_in a.v a.img.now).directory.entry a.e.id.0)) = let f = stream_start c.requires.fact c.requires.stream_at _ c.kind_for-from.result c.place.ensures c.start_unit-first.ensures in (f.0 ∙ c.kind_for-from.ensures, f.1) in
+    let f = first in record { readied = c.requires.fact.ready; value = rw (f.0, f.1) (over_chain c.requires.fact c.requires.stream_at _ (many (goal.at.gather_across-g-requires c).After-units_for-old)); start_nonzero = rw (f.0, c.kind_for-to.ensures) (kinds_differ c.args.e.size c.args.new c.requires.value) }
 
 pub returns-then-not-g : goal.returns-then-not-g
 unfolding on_zero
-returns-then-not-g c = (too_few c.requires.fact c.requires.stream_at c.args.new c.requires.value _ ((let wanted' : let a = c.args in c.units_for-need.result ≡ round_up a.new (space_at a.v a.img.now (kind_for a.new)).unit = c.units_for-need.ensures ∙ ap (round_up c.args.new) (c.unit_bytes-2.ensures ∙ ap (unit_bytes c.args.v) c.kind_for-to.ensures ∙ unit_same c.requires.fact.ready (kind_for c.args.new)) in wanted')) ((let answered' : let a = c.args in c.gather_across-g.result.enough ≡ not (ltb (length (free_units (space_at a.v a.img.now (kind_for a.new)))) c.units_for-need.result) = (rw c.kind_for-to.ensures at (growth_enough _ _ _ c.gather_across-g.ensures.answer)) ∙ sym (none_before (length (free_units (space_at c.args.v c.args.img.now (kind_for c.args.new)))) c.units_for-need.result) in answered')) (ap not c.if-not-g.true), (refl, (c.gather_across-g.ensures.wrote, (let looked' : let a = c.args in let vol = volume_in a.v a.img.now in (c.gather_across-g.result.looked ≡ cells_looked (length_searches vol a.e.id.0 a.new)) × (c.gather_across-g.result.looked ≤ (space_for vol a.new).limit) = let n = (rw c.kind_for-to.ensures at (growth_looked _ _ _ c.gather_across-g.ensures.answer)) ∙ move_looked c.requires.fact c.requires.stream_at c.args.new c.requires.value _ ((let wanted' : let a = c.args in c.units_for-need.result ≡ round_up a.new (space_at a.v a.img.now (kind_for a.new)).unit = c.units_for-need.ensures ∙ ap (round_up c.args.new) (c.unit_bytes-2.ensures ∙ ap (unit_bytes c.args.v) c.kind_for-to.ensures ∙ unit_same c.requires.fact.ready (kind_for c.args.new)) in wanted')) in (n, omega (arith, n, length_most (volume_in c.args.v c.args.img.now) c.args.e.id.0 c.args.new)) in looked'))))
+returns-then-not-g c =
+    let wanted : let a = c.args in c.units_for-need.result ≡ round_up a.new (space_at a.v a.img.now (kind_for a.new)).unit = c.units_for-need.ensures ∙ ap (round_up c.args.new) (c.unit_bytes-2.ensures ∙ ap (unit_bytes c.args.v) c.kind_for-to.ensures ∙ unit_same c.requires.fact.ready (kind_for c.args.new)) in
+    let answered : let a = c.args in c.gather_across-g.result.enough ≡ not (ltb (length (free_units (space_at a.v a.img.now (kind_for a.new)))) c.units_for-need.result) = (rw c.kind_for-to.ensures at (growth_enough _ _ _ c.gather_across-g.ensures.answer)) ∙ sym (none_before (length (free_units (space_at c.args.v c.args.img.now (kind_for c.args.new)))) c.units_for-need.result) in
+    let looked' : let a = c.args in let vol = volume_in a.v a.img.now in (c.gather_across-g.result.looked ≡ cells_looked (length_searches vol a.e.id.0 a.new)) × (c.gather_across-g.result.looked ≤ (space_for vol a.new).limit) = let n = (rw c.kind_for-to.ensures at (growth_looked _ _ _ c.gather_across-g.ensures.answer)) ∙ move_looked c.requires.fact c.requires.stream_at c.args.new c.requires.value _ wanted in (n, omega (arith, n, length_most (volume_in c.args.v c.args.img.now) c.args.e.id.0 c.args.new)) in
+    (too_few c.requires.fact c.requires.stream_at c.args.new c.requires.value _ wanted answered (ap not c.if-not-g.true), (refl, (c.gather_across-g.ensures.wrote, looked')))
 
 pub kept_bytes-n-requires : goal.kept_bytes-n-requires
 unfolding on_zero
@@ -113,4 +119,7 @@ relocate-requires c = record { fact = record { ready = gathered_ready c.requires
 
 pub returns : goal.returns
 unfolding on_zero
-returns c = ((enough (goal.at.returns c).Else-not-g).1, (c.relocate.ensures.image, (wrote_two c.gather_across-g.ensures.wrote c.relocate.ensures.wrote, (let looked' : let a = c.args in let vol = volume_in a.v a.img.now in (c.gather_across-g.result.looked ≡ cells_looked (length_searches vol a.e.id.0 a.new)) × (c.gather_across-g.result.looked ≤ (space_for vol a.new).limit) = let n = (rw c.kind_for-to.ensures at (growth_looked _ _ _ c.gather_across-g.ensures.answer)) ∙ move_looked c.requires.fact c.requires.stream_at c.args.new c.requires.value _ ((let wanted' : let a = c.args in c.units_for-need.result ≡ round_up a.new (space_at a.v a.img.now (kind_for a.new)).unit = c.units_for-need.ensures ∙ ap (round_up c.args.new) (c.unit_bytes-2.ensures ∙ ap (unit_bytes c.args.v) c.kind_for-to.ensures ∙ unit_same c.requires.fact.ready (kind_for c.args.new)) in wanted')) in (n, omega (arith, n, length_most (volume_in c.args.v c.args.img.now) c.args.e.id.0 c.args.new)) in looked'))))
+returns c =
+    let wanted : let a = c.args in c.units_for-need.result ≡ round_up a.new (space_at a.v a.img.now (kind_for a.new)).unit = c.units_for-need.ensures ∙ ap (round_up c.args.new) (c.unit_bytes-2.ensures ∙ ap (unit_bytes c.args.v) c.kind_for-to.ensures ∙ unit_same c.requires.fact.ready (kind_for c.args.new)) in
+    let looked' : let a = c.args in let vol = volume_in a.v a.img.now in (c.gather_across-g.result.looked ≡ cells_looked (length_searches vol a.e.id.0 a.new)) × (c.gather_across-g.result.looked ≤ (space_for vol a.new).limit) = let n = (rw c.kind_for-to.ensures at (growth_looked _ _ _ c.gather_across-g.ensures.answer)) ∙ move_looked c.requires.fact c.requires.stream_at c.args.new c.requires.value _ wanted in (n, omega (arith, n, length_most (volume_in c.args.v c.args.img.now) c.args.e.id.0 c.args.new)) in
+    ((enough (goal.at.returns c).Else-not-g).1, (c.relocate.ensures.image, (wrote_two c.gather_across-g.ensures.wrote c.relocate.ensures.wrote, looked')))

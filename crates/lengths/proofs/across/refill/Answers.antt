@@ -16,12 +16,19 @@ pub move_down-requires : goal.move_down-requires
 move_down-requires c = omega (arith, lists_fit c.requires.fact c.requires.stream_at c.args.new c.requires.value _ _ c.requires.both_listed, c.requires.fact.ready.stream.room)
 
 pub resize-requires-2 : goal.resize-requires-2
-resize-requires-2 c = let k = grow_asks c.requires.fact c.requires.stream_at c.args.new c.requires.value _ _ c.requires.both_listed c.move_down.ensures.front ((let wrote' : let a = c.args in Wrote a.work.now c.move_down.new.work 0 a.v.stream = wrote_wider 0 _ c.move_down.ensures.wrote (omega arith) (omega (arith, lists_fit c.requires.fact c.requires.stream_at c.args.new c.requires.value _ _ c.requires.both_listed)) in wrote')) c.resize.ensures in rw c.with_size.ensures (record { fact = k.0; stream_at = k.1.0; value = grow_within c.args.new; size_nonzero = (λ z. omega (arith, z, (crossed_some _ _ c.requires.value).1)); gathered = k.1.1 })
+resize-requires-2 c =
+    let wrote' : let a = c.args in Wrote a.work.now c.move_down.new.work 0 a.v.stream = wrote_wider 0 _ c.move_down.ensures.wrote (omega arith) (omega (arith, lists_fit c.requires.fact c.requires.stream_at c.args.new c.requires.value _ _ c.requires.both_listed)) in
+    let k = grow_asks c.requires.fact c.requires.stream_at c.args.new c.requires.value _ _ c.requires.both_listed c.move_down.ensures.front wrote' c.resize.ensures in rw c.with_size.ensures (record { fact = k.0; stream_at = k.1.0; value = grow_within c.args.new; size_nonzero = (λ z. omega (arith, z, (crossed_some _ _ c.requires.value).1)); gathered = k.1.1 })
 
 pub put_bytes-requires : goal.put_bytes-requires
 put_bytes-requires c =
+    let grown : let a = c.args in let cut = c.resize.new.img in c.resize-2.new.img ≡ resized (volume_in a.v cut) cut a.e.id.0 a.new = rw c.with_size.ensures at c.resize-2.ensures in
+    let wrote' : let a = c.args in Wrote a.work.now c.move_down.new.work 0 a.v.stream = wrote_wider 0 _ c.move_down.ensures.wrote (omega arith) (omega (arith, lists_fit c.requires.fact c.requires.stream_at c.args.new c.requires.value _ _ c.requires.both_listed)) in
     rw c.kind_for.ensures
-    (put_asks c.requires.fact c.requires.stream_at c.args.new c.requires.value _ _ c.requires.both_listed c.move_down.ensures.front ((let wrote' : let a = c.args in Wrote a.work.now c.move_down.new.work 0 a.v.stream = wrote_wider 0 _ c.move_down.ensures.wrote (omega arith) (omega (arith, lists_fit c.requires.fact c.requires.stream_at c.args.new c.requires.value _ _ c.requires.both_listed)) in wrote')) c.requires.bytes_value c.resize.ensures ((let grown' : let a = c.args in let cut = c.resize.new.img in c.resize-2.new.img ≡ resized (volume_in a.v cut) cut a.e.id.0 a.new = rw c.with_size.ensures at c.resize-2.ensures in grown')))
+    (put_asks c.requires.fact c.requires.stream_at c.args.new c.requires.value _ _ c.requires.both_listed c.move_down.ensures.front wrote' c.requires.bytes_value c.resize.ensures grown)
 
 pub returns : goal.returns
-returns c = record { image = put_image c.requires.fact c.requires.stream_at c.args.new c.requires.value _ _ c.requires.both_listed c.move_down.ensures.front ((let wrote' : let a = c.args in Wrote a.work.now c.move_down.new.work 0 a.v.stream = wrote_wider 0 _ c.move_down.ensures.wrote (omega arith) (omega (arith, lists_fit c.requires.fact c.requires.stream_at c.args.new c.requires.value _ _ c.requires.both_listed)) in wrote')) c.requires.bytes_value c.resize.ensures ((let grown' : let a = c.args in let cut = c.resize.new.img in c.resize-2.new.img ≡ resized (volume_in a.v cut) cut a.e.id.0 a.new = rw c.with_size.ensures at c.resize-2.ensures in grown')) (rw c.kind_for.ensures at c.put_bytes.ensures); wrote = (let wrote' : let a = c.args in Wrote a.work.now c.move_down.new.work 0 a.v.stream = wrote_wider 0 _ c.move_down.ensures.wrote (omega arith) (omega (arith, lists_fit c.requires.fact c.requires.stream_at c.args.new c.requires.value _ _ c.requires.both_listed)) in wrote') }
+returns c =
+    let grown : let a = c.args in let cut = c.resize.new.img in c.resize-2.new.img ≡ resized (volume_in a.v cut) cut a.e.id.0 a.new = rw c.with_size.ensures at c.resize-2.ensures in
+    let wrote' : let a = c.args in Wrote a.work.now c.move_down.new.work 0 a.v.stream = wrote_wider 0 _ c.move_down.ensures.wrote (omega arith) (omega (arith, lists_fit c.requires.fact c.requires.stream_at c.args.new c.requires.value _ _ c.requires.both_listed)) in
+    record { image = put_image c.requires.fact c.requires.stream_at c.args.new c.requires.value _ _ c.requires.both_listed c.move_down.ensures.front wrote' c.requires.bytes_value c.resize.ensures grown (rw c.kind_for.ensures at c.put_bytes.ensures); wrote = wrote' }

@@ -23,7 +23,11 @@ pub units_covered-covered-requires : goal.units_covered-covered-requires
 units_covered-covered-requires c = record { streams_markable = c.mark_streams-a.ensures.stands (right (goal.at.units_covered-covered-requires c).Else-is_broken); cells_right = c.requires.cells_right }
 
 pub returns-then-shared-is_shared : goal.returns-then-shared-is_shared
-returns-then-shared-is_shared c = record { answer = says_right _ _ (right (goal.at.returns-then-shared-is_shared c).Else-is_broken) ((let owners' : let p = c.args in owner_rules (volume_of p.t.geometry p.img.now) ≡ (not (p.shared || c.is_shared.result) && c.units_covered-covered.result) = rw (c.is_shared.ensures, c.units_covered-covered.ensures) (by_owners c.requires.streams_markable.sectors.sized c.requires.cells_right.tables c.requires.only_system (c.mark_streams-a.ensures.owners (right (goal.at.returns-then-shared-is_shared c).Else-is_broken))) in owners') ∙ c.if-shared-is_shared.true); wrote = c.mark_streams-a.ensures.wrote }
+returns-then-shared-is_shared c =
+    let owners' : let p = c.args in owner_rules (volume_of p.t.geometry p.img.now) ≡ (not (p.shared || c.is_shared.result) && c.units_covered-covered.result) = rw (c.is_shared.ensures, c.units_covered-covered.ensures) (by_owners c.requires.streams_markable.sectors.sized c.requires.cells_right.tables c.requires.only_system (c.mark_streams-a.ensures.owners (right (goal.at.returns-then-shared-is_shared c).Else-is_broken))) in
+    record { answer = says_right _ _ (right (goal.at.returns-then-shared-is_shared c).Else-is_broken) (owners' ∙ c.if-shared-is_shared.true); wrote = c.mark_streams-a.ensures.wrote }
 
 pub returns : goal.returns
-returns c = record { answer = says_wrong _ _ (right (goal.at.returns c).Else-is_broken) ((let owners' : let p = c.args in owner_rules (volume_of p.t.geometry p.img.now) ≡ (not (p.shared || c.is_shared.result) && c.units_covered-covered.result) = rw (c.is_shared.ensures, c.units_covered-covered.ensures) (by_owners c.requires.streams_markable.sectors.sized c.requires.cells_right.tables c.requires.only_system (c.mark_streams-a.ensures.owners (right (goal.at.returns c).Else-is_broken))) in owners') ∙ c.if-shared-is_shared.false); wrote = c.mark_streams-a.ensures.wrote }
+returns c =
+    let owners' : let p = c.args in owner_rules (volume_of p.t.geometry p.img.now) ≡ (not (p.shared || c.is_shared.result) && c.units_covered-covered.result) = rw (c.is_shared.ensures, c.units_covered-covered.ensures) (by_owners c.requires.streams_markable.sectors.sized c.requires.cells_right.tables c.requires.only_system (c.mark_streams-a.ensures.owners (right (goal.at.returns c).Else-is_broken))) in
+    record { answer = says_wrong _ _ (right (goal.at.returns c).Else-is_broken) (owners' ∙ c.if-shared-is_shared.false); wrote = c.mark_streams-a.ensures.wrote }

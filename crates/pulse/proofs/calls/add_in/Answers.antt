@@ -12,13 +12,16 @@ use Rattle.pulse.proofs.calls.add_in.Goals as goal
 
 pub returns-then-not-some : goal.returns-then-not-some
 returns-then-not-some c =
+    let found : let p = c.args in PulsesAt p.v p.image.now p.path.now c.find_pulses.new.work c.in-At.s = let p = c.args in subst (λ x. PulsesFound p.v p.image.now p.path.now p.work.now c.find_pulses.new.work x) c.in-At.is c.find_pulses.ensures.pulses_found in
     let p = c.args in
-    let z = at_zero ((let found' : let p = c.args in PulsesAt p.v p.image.now p.path.now c.find_pulses.new.work c.in-At.s = let p = c.args in subst (λ x. PulsesFound p.v p.image.now p.path.now p.work.now c.find_pulses.new.work x) c.in-At.is c.find_pulses.ensures.pulses_found in found')) p.work.now c.find_pulses.ensures.wrote.long in
+    let z = at_zero found p.work.now c.find_pulses.ensures.wrote.long in
     let n = leb-false 1 p.p.ticks.0 (sym c.some.ensures ∙ c.if-not-some.true) in
     let k = no_ticks p.image.now p.path.now p.work.now z (pulse_of p.p) (omega (arith, n)) in record { result_value = k.0; image_after = k.1; open_volume = c.find_pulses.ensures.open_volume; wrote = c.find_pulses.ensures.wrote }
 
 pub append-requires : goal.append-requires
-append-requires c = record { pulses_at = (let found' : let p = c.args in PulsesAt p.v p.image.now p.path.now c.find_pulses.new.work c.in-At.s = let p = c.args in subst (λ x. PulsesFound p.v p.image.now p.path.now p.work.now c.find_pulses.new.work x) c.in-At.is c.find_pulses.ensures.pulses_found in found'); le_ticks = leb-true 1 _ (sym c.some.ensures ∙ c.if-not-some.false) }
+append-requires c =
+    let found : let p = c.args in PulsesAt p.v p.image.now p.path.now c.find_pulses.new.work c.in-At.s = let p = c.args in subst (λ x. PulsesFound p.v p.image.now p.path.now p.work.now c.find_pulses.new.work x) c.in-At.is c.find_pulses.ensures.pulses_found in
+    record { pulses_at = found; le_ticks = leb-true 1 _ (sym c.some.ensures ∙ c.if-not-some.false) }
 
 pub returns-in-Refused : goal.returns-in-Refused
 returns-in-Refused c =

@@ -23,13 +23,19 @@ pub returns-in-Refused : goal.returns-in-Refused
 returns-in-Refused c = let k = append_full c.requires.pulses_at (pulse_of c.args.p) c.requires.le_ticks c.in-Refused.a (ap (λ x. plain (number_of x)) (sym c.in-Refused.is) ∙ c.set_length_opened.ensures.result_value) c.set_length_opened.ensures.image_after in record { result_value = k.0; image_after = k.1; open_volume = c.set_length_opened.ensures.open_volume; wrote = c.set_length_opened.ensures.wrote }
 
 pub plus-requires : goal.plus-requires
-plus-requires c = ((let fits' : let s = c.args.s.trailer in (distance_for (s.count.0 + 1) < 0x1_0000_0000) × (s.count.0 + 1 < 0x1_0000_0000) × (s.total.0 + c.args.p.ticks.0 < 0x1_0000_0000_0000_0000) = let g = c.well_formed.1.1.1.1.1 in append_fits c.requires.pulses_at (pulse_of c.args.p) c.requires.le_ticks (λ i. (c.slice_known-1.given i).fits) (omega (arith, g)) (omega (arith, g)) in fits')).1
+plus-requires c =
+    let fits' : let s = c.args.s.trailer in (distance_for (s.count.0 + 1) < 0x1_0000_0000) × (s.count.0 + 1 < 0x1_0000_0000) × (s.total.0 + c.args.p.ticks.0 < 0x1_0000_0000_0000_0000) = let g = c.well_formed.1.1.1.1.1 in append_fits c.requires.pulses_at (pulse_of c.args.p) c.requires.le_ticks (λ i. (c.slice_known-1.given i).fits) (omega (arith, g)) (omega (arith, g)) in
+    fits'.1
 
 pub plus-requires-2 : goal.plus-requires-2
-plus-requires-2 c = ((let fits' : let s = c.args.s.trailer in (distance_for (s.count.0 + 1) < 0x1_0000_0000) × (s.count.0 + 1 < 0x1_0000_0000) × (s.total.0 + c.args.p.ticks.0 < 0x1_0000_0000_0000_0000) = let g = c.well_formed.1.1.1.1.1 in append_fits c.requires.pulses_at (pulse_of c.args.p) c.requires.le_ticks (λ i. (c.slice_known-1.given i).fits) (omega (arith, g)) (omega (arith, g)) in fits')).2
+plus-requires-2 c =
+    let fits' : let s = c.args.s.trailer in (distance_for (s.count.0 + 1) < 0x1_0000_0000) × (s.count.0 + 1 < 0x1_0000_0000) × (s.total.0 + c.args.p.ticks.0 < 0x1_0000_0000_0000_0000) = let g = c.well_formed.1.1.1.1.1 in append_fits c.requires.pulses_at (pulse_of c.args.p) c.requires.le_ticks (λ i. (c.slice_known-1.given i).fits) (omega (arith, g)) (omega (arith, g)) in
+    fits'.2
 
 pub put_tail-requires : goal.put_tail-requires
-put_tail-requires c = record { bytes_len = refl; count_bound = rw c.plus.ensures ((let fits' : let s = c.args.s.trailer in (distance_for (s.count.0 + 1) < 0x1_0000_0000) × (s.count.0 + 1 < 0x1_0000_0000) × (s.total.0 + c.args.p.ticks.0 < 0x1_0000_0000_0000_0000) = let g = c.well_formed.1.1.1.1.1 in append_fits c.requires.pulses_at (pulse_of c.args.p) c.requires.le_ticks (λ i. (c.slice_known-1.given i).fits) (omega (arith, g)) (omega (arith, g)) in fits')).0 }
+put_tail-requires c =
+    let fits' : let s = c.args.s.trailer in (distance_for (s.count.0 + 1) < 0x1_0000_0000) × (s.count.0 + 1 < 0x1_0000_0000) × (s.total.0 + c.args.p.ticks.0 < 0x1_0000_0000_0000_0000) = let g = c.well_formed.1.1.1.1.1 in append_fits c.requires.pulses_at (pulse_of c.args.p) c.requires.le_ticks (λ i. (c.slice_known-1.given i).fits) (omega (arith, g)) (omega (arith, g)) in
+    record { bytes_len = refl; count_bound = rw c.plus.ensures fits'.0 }
 
 pub overflow_sub-e : goal.overflow_sub-e
 overflow_sub-e c = let q = at_inside c.requires.pulses_at in omega (arith, q.0, q.1)

@@ -38,24 +38,32 @@ pub from-n-requires : goal.from-n-requires
 from-n-requires c = omega (arith, inside (goal.at.from-n-requires c).In-loop-v)
 
 pub overflow_add-first : goal.overflow_add-first
-overflow_add-first c = omega (arith, c.bytes.ensures, inside (goal.at.overflow_add-first c).In-loop-v, c.requires.count_bound.0, (let few' : c.args.e.size ≤ 0x400_0000 = stream_few c.requires.open_stream.opened c.requires.open_stream.stream in few'))
+overflow_add-first c =
+    let few : c.args.e.size ≤ 0x400_0000 = stream_few c.requires.open_stream.opened c.requires.open_stream.stream in
+    omega (arith, c.bytes.ensures, inside (goal.at.overflow_add-first c).In-loop-v, c.requires.count_bound.0, few)
 
 pub add_piece-sum-requires : goal.add_piece-sum-requires
 add_piece-sum-requires c = let n = some (goal.at.add_piece-sum-requires c).After-from-n in record { open_stream = c.requires.open_stream; n_bound = (omega (arith, c.bytes.ensures, n.2, c.requires.count_bound.0), omega (arith, c.loop-v.invariant.1, n.1, c.requires.count_bound.1)); n_bound_2 = fits (goal.at.add_piece-sum-requires c).After-from-n }
 
 pub returns-in_default : goal.returns-in_default
-returns-in_default c = piece_wrong c.loop-v.invariant.0 c.from-n.result.0 (some (goal.at.returns-in_default c).After-from-n).2 (sym c.in_default.is ∙ (let summed' : c.add_piece-sum.result ≡ sum_from ((contents (own_volume c.args.image.now) c.args.image.now c.args.e.id.0)) (c.args.first + 8 * c.loop-v.k.0) c.from-n.result.0 c.loop-v.total.0 = c.add_piece-sum.ensures ∙ ap (λ i. sum_from ((contents (own_volume c.args.image.now) c.args.image.now c.args.e.id.0)) (c.args.first + i) c.from-n.result.0 c.loop-v.total.0) c.bytes.ensures in summed'))
+returns-in_default c =
+    let summed : c.add_piece-sum.result ≡ sum_from ((contents (own_volume c.args.image.now) c.args.image.now c.args.e.id.0)) (c.args.first + 8 * c.loop-v.k.0) c.from-n.result.0 c.loop-v.total.0 = c.add_piece-sum.ensures ∙ ap (λ i. sum_from ((contents (own_volume c.args.image.now) c.args.image.now c.args.e.id.0)) (c.args.first + i) c.from-n.result.0 c.loop-v.total.0) c.bytes.ensures in
+    piece_wrong c.loop-v.invariant.0 c.from-n.result.0 (some (goal.at.returns-in_default c).After-from-n).2 (sym c.in_default.is ∙ summed)
 
 pub plus-k-requires : goal.plus-k-requires
-plus-k-requires c = omega (arith, (some (goal.at.plus-k-requires c).After-from-n).2, c.requires.count_bound.0, (let few' : c.args.e.size ≤ 0x400_0000 = stream_few c.requires.open_stream.opened c.requires.open_stream.stream in few'))
+plus-k-requires c =
+    let few : c.args.e.size ≤ 0x400_0000 = stream_few c.requires.open_stream.opened c.requires.open_stream.stream in
+    omega (arith, (some (goal.at.plus-k-requires c).After-from-n).2, c.requires.count_bound.0, few)
 
 pub loop-v-smaller : goal.loop-v-smaller
 loop-v-smaller c = let n = some (goal.at.loop-v-smaller c).After-from-n in omega (arith, n.0, n.2, c.plus-k.ensures)
 
 pub loop-v-preserved : goal.loop-v-preserved
 loop-v-preserved c =
+    let same : length c.add_piece-sum.new.piece ≡ length c.args.piece.now = c.add_piece-sum.auto.piece ∙ c.loop-v.invariant.1 in
+    let summed : c.add_piece-sum.result ≡ sum_from ((contents (own_volume c.args.image.now) c.args.image.now c.args.e.id.0)) (c.args.first + 8 * c.loop-v.k.0) c.from-n.result.0 c.loop-v.total.0 = c.add_piece-sum.ensures ∙ ap (λ i. sum_from ((contents (own_volume c.args.image.now) c.args.image.now c.args.e.id.0)) (c.args.first + i) c.from-n.result.0 c.loop-v.total.0) c.bytes.ensures in
     let n = c.from-n.result.0 in
-    (rw c.plus-k.ensures (summing_piece c.loop-v.invariant.0 n c.in-Ticks.t (some (goal.at.loop-v-preserved c).After-from-n).2 (sym c.in-Ticks.is ∙ (let summed' : c.add_piece-sum.result ≡ sum_from ((contents (own_volume c.args.image.now) c.args.image.now c.args.e.id.0)) (c.args.first + 8 * c.loop-v.k.0) c.from-n.result.0 c.loop-v.total.0 = c.add_piece-sum.ensures ∙ ap (λ i. sum_from ((contents (own_volume c.args.image.now) c.args.image.now c.args.e.id.0)) (c.args.first + i) c.from-n.result.0 c.loop-v.total.0) c.bytes.ensures in summed'))), (let same' : length c.add_piece-sum.new.piece ≡ length c.args.piece.now = c.add_piece-sum.auto.piece ∙ c.loop-v.invariant.1 in same'))
+    (rw c.plus-k.ensures (summing_piece c.loop-v.invariant.0 n c.in-Ticks.t (some (goal.at.loop-v-preserved c).After-from-n).2 (sym c.in-Ticks.is ∙ summed)), same)
 
 pub returns : goal.returns
 returns c = summing_end c.loop-v.invariant.0 (ltb-false _ _ (sym c.below.ensures ∙ c.loop-v-test.false))

@@ -28,8 +28,9 @@ pulse_at-p-requires c = omega (arith, c.bytes-at.ensures, inside (goal.at.pulse_
 
 pub plus-total-requires : goal.plus-total-requires
 plus-total-requires c =
+    let ticks_there_lem : c.pulse_at-p.result.ticks.0 ≡ ticks_from (c.args.bytes.now) 0 c.loop-n.k.0 = ap (λ p. p.ticks.0) c.pulse_at-p.ensures ∙ ticks_first (c.args.bytes.now) c.loop-n.k.0 _ c.bytes-at.ensures in
     let f = summing_fits c.loop-n.invariant (λ i. (c.shared_slice_known-1.given i).fits) (inside (goal.at.plus-total-requires c).In-loop-n) c.requires.n_bound in
-    omega (arith, (let ticks_there_lem' : c.pulse_at-p.result.ticks.0 ≡ ticks_from (c.args.bytes.now) 0 c.loop-n.k.0 = ap (λ p. p.ticks.0) c.pulse_at-p.ensures ∙ ticks_first (c.args.bytes.now) c.loop-n.k.0 _ c.bytes-at.ensures in ticks_there_lem'), f)
+    omega (arith, ticks_there_lem, f)
 
 pub plus-k-requires : goal.plus-k-requires
 plus-k-requires c = omega (arith, inside (goal.at.plus-k-requires c).In-loop-n)
@@ -39,9 +40,10 @@ loop-n-smaller c = omega (arith, inside (goal.at.loop-n-smaller c).In-loop-n, c.
 
 pub loop-n-preserved : goal.loop-n-preserved
 loop-n-preserved c =
+    let ticks_there_lem : c.pulse_at-p.result.ticks.0 ≡ ticks_from (c.args.bytes.now) 0 c.loop-n.k.0 = ap (λ p. p.ticks.0) c.pulse_at-p.ensures ∙ ticks_first (c.args.bytes.now) c.loop-n.k.0 _ c.bytes-at.ensures in
     let e = sym (right_first (c.args.bytes.now) c.loop-n.k.0 _ c.bytes-at.ensures) ∙ sym c.is_right.ensures
     ∙ c.if-not-is_right.false in
-    rw (c.plus-k.ensures, c.plus-total.ensures, (let ticks_there_lem' : c.pulse_at-p.result.ticks.0 ≡ ticks_from (c.args.bytes.now) 0 c.loop-n.k.0 = ap (λ p. p.ticks.0) c.pulse_at-p.ensures ∙ ticks_first (c.args.bytes.now) c.loop-n.k.0 _ c.bytes-at.ensures in ticks_there_lem')) (summing_next c.loop-n.invariant (inside (goal.at.loop-n-preserved c).In-loop-n) e)
+    rw (c.plus-k.ensures, c.plus-total.ensures, ticks_there_lem) (summing_next c.loop-n.invariant (inside (goal.at.loop-n-preserved c).In-loop-n) e)
 
 pub returns : goal.returns
 returns c = summing_end c.loop-n.invariant (ltb-false _ _ (sym c.below.ensures ∙ c.loop-n-test.false))

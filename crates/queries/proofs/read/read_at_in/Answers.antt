@@ -32,12 +32,15 @@ object_at-object-requires c = record { directory_listed = (find_asks c.requires)
 
 pub returns-then-not-is_stream : goal.returns-then-not-is_stream
 returns-then-not-is_stream c =
+    let found : ObjectOf (volume_in c.args.v c.args.img.now) c.object_at-object.result = looked_up c.requires _ (inside (goal.at.returns-then-not-is_stream c).Else-not-below) (c.object_at-object.ensures.id_value, (c.object_at-object.ensures.entry_type_value, c.object_at-object.ensures.size_value)) in
     let a = c.args in
-    let h = (let found' : ObjectOf (volume_in c.args.v c.args.img.now) c.object_at-object.result = looked_up c.requires _ (inside (goal.at.returns-then-not-is_stream c).Else-not-below) (c.object_at-object.ensures.id_value, (c.object_at-object.ensures.entry_type_value, c.object_at-object.ensures.size_value)) in found') in
+    let h = found in
     rw (← ap (λ i. i.0) c.object_at-object.ensures.id_value) (let r = at_other _ _ a.img.now a.position a.out.now c.object_at-object.result.id.0 h.0 (object_other (volume_in a.v a.img.now) _ h (eqb-false _ _ (sym c.is_stream.ensures ∙ c.if-not-is_stream.true))) in record { result_value = r.0; out_after = r.1 })
 
 pub read_object-requires : goal.read_object-requires
-read_object-requires c = record { fact = c.requires; stream_at = object_stream (volume_in c.args.v c.args.img.now) _ ((let found' : ObjectOf (volume_in c.args.v c.args.img.now) c.object_at-object.result = looked_up c.requires _ (inside (goal.at.read_object-requires c).Else-not-below) (c.object_at-object.ensures.id_value, (c.object_at-object.ensures.entry_type_value, c.object_at-object.ensures.size_value)) in found')) (eqb-true _ _ (sym c.is_stream.ensures ∙ c.if-not-is_stream.false)) }
+read_object-requires c =
+    let found : ObjectOf (volume_in c.args.v c.args.img.now) c.object_at-object.result = looked_up c.requires _ (inside (goal.at.read_object-requires c).Else-not-below) (c.object_at-object.ensures.id_value, (c.object_at-object.ensures.entry_type_value, c.object_at-object.ensures.size_value)) in
+    record { fact = c.requires; stream_at = object_stream (volume_in c.args.v c.args.img.now) _ found (eqb-true _ _ (sym c.is_stream.ensures ∙ c.if-not-is_stream.false)) }
 
 pub returns : goal.returns
 returns c = rw (← ap (λ i. i.0) c.object_at-object.ensures.id_value) (record { result_value = c.read_object.ensures.result_value; out_after = c.read_object.ensures.out_after })

@@ -17,10 +17,14 @@ returns-then-not-list_difats c =
     lists_fail a (left_listed a c.list_difats.ensures) (c.if-not-list_difats.true)
 
 pub list_fats-requires : goal.list_fats-requires
-list_fats-requires c = record { difats = (let difats_at' : Difats (geometry_of c.args.g) c.args.img.now c.list_difats.new.work (c.args.list + F c.args.img.now) = let a = c.requires in lists_difats a (left_listed a c.list_difats.ensures) (c.if-not-list_difats.false) in difats_at'); f_value = c.requires.fats }
+list_fats-requires c =
+    let difats_at : Difats (geometry_of c.args.g) c.args.img.now c.list_difats.new.work (c.args.list + F c.args.img.now) = let a = c.requires in lists_difats a (left_listed a c.list_difats.ensures) (c.if-not-list_difats.false) in
+    record { difats = difats_at; f_value = c.requires.fats }
 
 pub difat_rest-requires : goal.difat_rest-requires
-difat_rest-requires c = let a = c.requires in record { difats = rw a.fats (difats_kept ((let difats_at' : Difats (geometry_of c.args.g) c.args.img.now c.list_difats.new.work (c.args.list + F c.args.img.now) = let a = c.requires in lists_difats a (left_listed a c.list_difats.ensures) (c.if-not-list_difats.false) in difats_at')) c.list_fats.ensures.wrote); f_value = (a.fats, a.difats) }
+difat_rest-requires c =
+    let difats_at : Difats (geometry_of c.args.g) c.args.img.now c.list_difats.new.work (c.args.list + F c.args.img.now) = let a = c.requires in lists_difats a (left_listed a c.list_difats.ensures) (c.if-not-list_difats.false) in
+    let a = c.requires in record { difats = rw a.fats (difats_kept difats_at c.list_fats.ensures.wrote); f_value = (a.fats, a.difats) }
 
 pub returns : goal.returns
 returns c =

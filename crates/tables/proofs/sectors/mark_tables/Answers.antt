@@ -19,29 +19,50 @@ two c =
     left_difats ((let args' : let p = c.args in StageArgs (geometry_of p.g) p.img.now c.zero_first.new.work p.n p.f p.d p.list = unmarked_args c.requires.stage_args c.zero_first.ensures in args')) c.mark_list-2.ensures (c.if-not-mark_list-2.false)
 
 pub mark_list-requires : goal.mark_list-requires
-mark_list-requires c = fat_args ((let args' : let p = c.args in StageArgs (geometry_of p.g) p.img.now c.zero_first.new.work p.n p.f p.d p.list = unmarked_args c.requires.stage_args c.zero_first.ensures in args')) ((let lists' : let p = c.args in Unmarked (geometry_of p.g) p.img.now c.zero_first.new.work p.list = unmarked c.requires.stage_args c.zero_first.ensures c.requires.built in lists')).built
+mark_list-requires c =
+    let args' : let p = c.args in StageArgs (geometry_of p.g) p.img.now c.zero_first.new.work p.n p.f p.d p.list = unmarked_args c.requires.stage_args c.zero_first.ensures in
+    let lists : let p = c.args in Unmarked (geometry_of p.g) p.img.now c.zero_first.new.work p.list = unmarked c.requires.stage_args c.zero_first.ensures c.requires.built in
+    fat_args args' lists.built
 
 pub returns-then-not-mark_list : goal.returns-then-not-mark_list
 returns-then-not-mark_list c =
-    let l = left_fats ((let args' : let p = c.args in StageArgs (geometry_of p.g) p.img.now c.zero_first.new.work p.n p.f p.d p.list = unmarked_args c.requires.stage_args c.zero_first.ensures in args')) c.mark_list.ensures (c.if-not-mark_list.true) in
-    marks_fail (fats_fail ((let args' : let p = c.args in StageArgs (geometry_of p.g) p.img.now c.zero_first.new.work p.n p.f p.d p.list = unmarked_args c.requires.stage_args c.zero_first.ensures in args')) ((let lists' : let p = c.args in Unmarked (geometry_of p.g) p.img.now c.zero_first.new.work p.list = unmarked c.requires.stage_args c.zero_first.ensures c.requires.built in lists')) l.answer) (wrote_two ((let start' : let p = c.args in Wrote p.work.now c.zero_first.new.work 0 (sector_count (geometry_of p.g) p.img.now) = unmarked_wrote c.requires.stage_args c.zero_first.ensures in start')) l.wrote)
+    let args' : let p = c.args in StageArgs (geometry_of p.g) p.img.now c.zero_first.new.work p.n p.f p.d p.list = unmarked_args c.requires.stage_args c.zero_first.ensures in
+    let lists : let p = c.args in Unmarked (geometry_of p.g) p.img.now c.zero_first.new.work p.list = unmarked c.requires.stage_args c.zero_first.ensures c.requires.built in
+    let start : let p = c.args in Wrote p.work.now c.zero_first.new.work 0 (sector_count (geometry_of p.g) p.img.now) = unmarked_wrote c.requires.stage_args c.zero_first.ensures in
+    let l = left_fats args' c.mark_list.ensures (c.if-not-mark_list.true) in
+    marks_fail (fats_fail args' lists l.answer) (wrote_two start l.wrote)
 
 pub mark_list-requires-2 : goal.mark_list-requires-2
-mark_list-requires-2 c = difat_list ((let args' : let p = c.args in StageArgs (geometry_of p.g) p.img.now c.zero_first.new.work p.n p.f p.d p.list = unmarked_args c.requires.stage_args c.zero_first.ensures in args')) ((let lists' : let p = c.args in Unmarked (geometry_of p.g) p.img.now c.zero_first.new.work p.list = unmarked c.requires.stage_args c.zero_first.ensures c.requires.built in lists')).built ((let one' : let p = c.args in ListLeft c.zero_first.new.work c.mark_list.new.work (sector_count (geometry_of p.g) p.img.now) p.list (F p.img.now) 1 true = left_fats ((let args' : let p = c.args in StageArgs (geometry_of p.g) p.img.now c.zero_first.new.work p.n p.f p.d p.list = unmarked_args c.requires.stage_args c.zero_first.ensures in args')) c.mark_list.ensures (c.if-not-mark_list.false) in one')).wrote
+mark_list-requires-2 c =
+    let args' : let p = c.args in StageArgs (geometry_of p.g) p.img.now c.zero_first.new.work p.n p.f p.d p.list = unmarked_args c.requires.stage_args c.zero_first.ensures in
+    let lists : let p = c.args in Unmarked (geometry_of p.g) p.img.now c.zero_first.new.work p.list = unmarked c.requires.stage_args c.zero_first.ensures c.requires.built in
+    let one : let p = c.args in ListLeft c.zero_first.new.work c.mark_list.new.work (sector_count (geometry_of p.g) p.img.now) p.list (F p.img.now) 1 true = left_fats args' c.mark_list.ensures (c.if-not-mark_list.false) in
+    difat_list args' lists.built one.wrote
 
 pub returns-then-not-mark_list-2 : goal.returns-then-not-mark_list-2
 returns-then-not-mark_list-2 c =
-    let k = (let one' : let p = c.args in ListLeft c.zero_first.new.work c.mark_list.new.work (sector_count (geometry_of p.g) p.img.now) p.list (F p.img.now) 1 true = left_fats ((let args' : let p = c.args in StageArgs (geometry_of p.g) p.img.now c.zero_first.new.work p.n p.f p.d p.list = unmarked_args c.requires.stage_args c.zero_first.ensures in args')) c.mark_list.ensures (c.if-not-mark_list.false) in one') in
-    let l = left_difats ((let args' : let p = c.args in StageArgs (geometry_of p.g) p.img.now c.zero_first.new.work p.n p.f p.d p.list = unmarked_args c.requires.stage_args c.zero_first.ensures in args')) c.mark_list-2.ensures (c.if-not-mark_list-2.true) in
-    marks_fail (difats_fail ((let args' : let p = c.args in StageArgs (geometry_of p.g) p.img.now c.zero_first.new.work p.n p.f p.d p.list = unmarked_args c.requires.stage_args c.zero_first.ensures in args')) ((let lists' : let p = c.args in Unmarked (geometry_of p.g) p.img.now c.zero_first.new.work p.list = unmarked c.requires.stage_args c.zero_first.ensures c.requires.built in lists')) k.wrote k.answer l.answer) (wrote_two ((let start' : let p = c.args in Wrote p.work.now c.zero_first.new.work 0 (sector_count (geometry_of p.g) p.img.now) = unmarked_wrote c.requires.stage_args c.zero_first.ensures in start')) (wrote_two k.wrote l.wrote))
+    let args' : let p = c.args in StageArgs (geometry_of p.g) p.img.now c.zero_first.new.work p.n p.f p.d p.list = unmarked_args c.requires.stage_args c.zero_first.ensures in
+    let lists : let p = c.args in Unmarked (geometry_of p.g) p.img.now c.zero_first.new.work p.list = unmarked c.requires.stage_args c.zero_first.ensures c.requires.built in
+    let start : let p = c.args in Wrote p.work.now c.zero_first.new.work 0 (sector_count (geometry_of p.g) p.img.now) = unmarked_wrote c.requires.stage_args c.zero_first.ensures in
+    let one : let p = c.args in ListLeft c.zero_first.new.work c.mark_list.new.work (sector_count (geometry_of p.g) p.img.now) p.list (F p.img.now) 1 true = left_fats args' c.mark_list.ensures (c.if-not-mark_list.false) in
+    let k = one in
+    let l = left_difats args' c.mark_list-2.ensures (c.if-not-mark_list-2.true) in
+    marks_fail (difats_fail args' lists k.wrote k.answer l.answer) (wrote_two start (wrote_two k.wrote l.wrote))
 
 pub table_marks-requires : goal.table_marks-requires
 table_marks-requires c =
-    let k = (let one' : let p = c.args in ListLeft c.zero_first.new.work c.mark_list.new.work (sector_count (geometry_of p.g) p.img.now) p.list (F p.img.now) 1 true = left_fats ((let args' : let p = c.args in StageArgs (geometry_of p.g) p.img.now c.zero_first.new.work p.n p.f p.d p.list = unmarked_args c.requires.stage_args c.zero_first.ensures in args')) c.mark_list.ensures (c.if-not-mark_list.false) in one') in
-    let l = two (goal.at.table_marks-requires c).Else-not-mark_list-2 in record { fat_listed = built_listed ((let args' : let p = c.args in StageArgs (geometry_of p.g) p.img.now c.zero_first.new.work p.n p.f p.d p.list = unmarked_args c.requires.stage_args c.zero_first.ensures in args')) ((let lists' : let p = c.args in Unmarked (geometry_of p.g) p.img.now c.zero_first.new.work p.list = unmarked c.requires.stage_args c.zero_first.ensures c.requires.built in lists')) k.wrote k.answer l.wrote l.answer _ ((let args' : let p = c.args in StageArgs (geometry_of p.g) p.img.now c.zero_first.new.work p.n p.f p.d p.list = unmarked_args c.requires.stage_args c.zero_first.ensures in args')).sectors; table_marked = sectors_marked ((let args' : let p = c.args in StageArgs (geometry_of p.g) p.img.now c.zero_first.new.work p.n p.f p.d p.list = unmarked_args c.requires.stage_args c.zero_first.ensures in args')) ((let lists' : let p = c.args in Unmarked (geometry_of p.g) p.img.now c.zero_first.new.work p.list = unmarked c.requires.stage_args c.zero_first.ensures c.requires.built in lists')) k.wrote k.answer l.answer }
+    let args' : let p = c.args in StageArgs (geometry_of p.g) p.img.now c.zero_first.new.work p.n p.f p.d p.list = unmarked_args c.requires.stage_args c.zero_first.ensures in
+    let lists : let p = c.args in Unmarked (geometry_of p.g) p.img.now c.zero_first.new.work p.list = unmarked c.requires.stage_args c.zero_first.ensures c.requires.built in
+    let one : let p = c.args in ListLeft c.zero_first.new.work c.mark_list.new.work (sector_count (geometry_of p.g) p.img.now) p.list (F p.img.now) 1 true = left_fats args' c.mark_list.ensures (c.if-not-mark_list.false) in
+    let k = one in
+    let l = two (goal.at.table_marks-requires c).Else-not-mark_list-2 in record { fat_listed = built_listed args' lists k.wrote k.answer l.wrote l.answer _ args'.sectors; table_marked = sectors_marked args' lists k.wrote k.answer l.answer }
 
 pub returns : goal.returns
 returns c =
-    let k = (let one' : let p = c.args in ListLeft c.zero_first.new.work c.mark_list.new.work (sector_count (geometry_of p.g) p.img.now) p.list (F p.img.now) 1 true = left_fats ((let args' : let p = c.args in StageArgs (geometry_of p.g) p.img.now c.zero_first.new.work p.n p.f p.d p.list = unmarked_args c.requires.stage_args c.zero_first.ensures in args')) c.mark_list.ensures (c.if-not-mark_list.false) in one') in
+    let args' : let p = c.args in StageArgs (geometry_of p.g) p.img.now c.zero_first.new.work p.n p.f p.d p.list = unmarked_args c.requires.stage_args c.zero_first.ensures in
+    let lists : let p = c.args in Unmarked (geometry_of p.g) p.img.now c.zero_first.new.work p.list = unmarked c.requires.stage_args c.zero_first.ensures c.requires.built in
+    let start : let p = c.args in Wrote p.work.now c.zero_first.new.work 0 (sector_count (geometry_of p.g) p.img.now) = unmarked_wrote c.requires.stage_args c.zero_first.ensures in
+    let one : let p = c.args in ListLeft c.zero_first.new.work c.mark_list.new.work (sector_count (geometry_of p.g) p.img.now) p.list (F p.img.now) 1 true = left_fats args' c.mark_list.ensures (c.if-not-mark_list.false) in
+    let k = one in
     let l = two (goal.at.returns c).Else-not-mark_list-2 in
-    marks_left ((let args' : let p = c.args in StageArgs (geometry_of p.g) p.img.now c.zero_first.new.work p.n p.f p.d p.list = unmarked_args c.requires.stage_args c.zero_first.ensures in args')) ((let lists' : let p = c.args in Unmarked (geometry_of p.g) p.img.now c.zero_first.new.work p.list = unmarked c.requires.stage_args c.zero_first.ensures c.requires.built in lists')) k.wrote k.answer l.wrote l.answer ((let start' : let p = c.args in Wrote p.work.now c.zero_first.new.work 0 (sector_count (geometry_of p.g) p.img.now) = unmarked_wrote c.requires.stage_args c.zero_first.ensures in start')) c.table_marks.ensures
+    marks_left args' lists k.wrote k.answer l.wrote l.answer start c.table_marks.ensures

@@ -26,7 +26,9 @@ pub loop-i-init : goal.loop-i-init
 loop-i-init c = passed_none
 
 pub block_at-b-requires : goal.block_at-b-requires
-block_at-b-requires c = let h = c.loop-i-test.true in record { le_bytes = (c.requires.fat_listed.sized.wide, c.requires.fat_listed.sized.narrow); g_in_bounds = ((let listed' : TableListed (geometry_of c.args.t.geometry) c.args.img.now c.args.work.now c.args.t.list c.args.t.sectors = fat_listed c.requires.fat_listed _ (omega (arith, c.requires.fat_listed.count, c.requires.fat_listed.covers)) in listed')).room _ h; low_lt_end = h }
+block_at-b-requires c =
+    let listed : TableListed (geometry_of c.args.t.geometry) c.args.img.now c.args.work.now c.args.t.list c.args.t.sectors = fat_listed c.requires.fat_listed _ (omega (arith, c.requires.fat_listed.count, c.requires.fat_listed.covers)) in
+    let h = c.loop-i-test.true in record { le_bytes = (c.requires.fat_listed.sized.wide, c.requires.fat_listed.sized.narrow); g_in_bounds = listed.room _ h; low_lt_end = h }
 
 pub overflow_mul-k : goal.overflow_mul-k
 overflow_mul-k c = omega (arith, (block (goal.at.overflow_mul-k c).After-block_at-b).inside, c.requires.fat_listed.sized.short)

@@ -22,18 +22,42 @@ pub open_directory-d-requires : goal.open_directory-d-requires
 open_directory-d-requires c = c.requires
 
 pub read_entries-requires : goal.read_entries-requires
-read_entries-requires c = record { directory_listed = c.open_directory-d.ensures.directory; d_bound = omega (arith, nodes_apart ((let listed' : let p = c.args in TablesHold (geometry_of p.g) p.img.now c.open_directory-d.new.work p.n = let t = c.requires in record { listed = c.open_directory-d.ensures.fat; whole = omega (arith, t.whole, c.open_directory-d.ensures.wrote.long); tables = t.tables; cells = t.cells; chained = t.chained; count = t.count } in listed')) c.open_directory-d.ensures.answer) }
+read_entries-requires c =
+    let listed' : let p = c.args in TablesHold (geometry_of p.g) p.img.now c.open_directory-d.new.work p.n = let t = c.requires in record { listed = c.open_directory-d.ensures.fat; whole = omega (arith, t.whole, c.open_directory-d.ensures.wrote.long); tables = t.tables; cells = t.cells; chained = t.chained; count = t.count } in
+    record { directory_listed = c.open_directory-d.ensures.directory; d_bound = omega (arith, nodes_apart listed' c.open_directory-d.ensures.answer) }
 
 pub returns-then-not-read_entries : goal.returns-then-not-read_entries
-returns-then-not-read_entries c = record { answer = sym (wrong_fields _ _ (said_no (ap not c.if-not-read_entries.true) ((let fields' : let p = c.args in c.read_entries.result ≡ entry_rules (directory (geometry_of p.g) p.img.now) = rw c.open_directory-d.ensures.answer at c.read_entries.ensures.answer in fields')))); hold = (let read' : let p = c.args in TablesHold (geometry_of p.g) p.img.now c.read_entries.new.work p.n = hold_kept ((let listed' : let p = c.args in TablesHold (geometry_of p.g) p.img.now c.open_directory-d.new.work p.n = let t = c.requires in record { listed = c.open_directory-d.ensures.fat; whole = omega (arith, t.whole, c.open_directory-d.ensures.wrote.long); tables = t.tables; cells = t.cells; chained = t.chained; count = t.count } in listed')) c.read_entries.ensures.wrote (omega (arith, nodes_before ((let listed' : let p = c.args in TablesHold (geometry_of p.g) p.img.now c.open_directory-d.new.work p.n = let t = c.requires in record { listed = c.open_directory-d.ensures.fat; whole = omega (arith, t.whole, c.open_directory-d.ensures.wrote.long); tables = t.tables; cells = t.cells; chained = t.chained; count = t.count } in listed')) c.open_directory-d.ensures.answer)) in read'); wrote = (let read_wrote' : let p = c.args in Wrote p.work.now c.read_entries.new.work 0 (work_need (length p.img.now)) = wrote_two c.open_directory-d.ensures.wrote (wrote_before ((let listed' : let p = c.args in TablesHold (geometry_of p.g) p.img.now c.open_directory-d.new.work p.n = let t = c.requires in record { listed = c.open_directory-d.ensures.fat; whole = omega (arith, t.whole, c.open_directory-d.ensures.wrote.long); tables = t.tables; cells = t.cells; chained = t.chained; count = t.count } in listed')) c.read_entries.ensures.wrote (omega (arith, nodes_before ((let listed' : let p = c.args in TablesHold (geometry_of p.g) p.img.now c.open_directory-d.new.work p.n = let t = c.requires in record { listed = c.open_directory-d.ensures.fat; whole = omega (arith, t.whole, c.open_directory-d.ensures.wrote.long); tables = t.tables; cells = t.cells; chained = t.chained; count = t.count } in listed')) c.open_directory-d.ensures.answer))) in read_wrote') }
+returns-then-not-read_entries c =
+    let fields : let p = c.args in c.read_entries.result ≡ entry_rules (directory (geometry_of p.g) p.img.now) = rw c.open_directory-d.ensures.answer at c.read_entries.ensures.answer in
+    let listed' : let p = c.args in TablesHold (geometry_of p.g) p.img.now c.open_directory-d.new.work p.n = let t = c.requires in record { listed = c.open_directory-d.ensures.fat; whole = omega (arith, t.whole, c.open_directory-d.ensures.wrote.long); tables = t.tables; cells = t.cells; chained = t.chained; count = t.count } in
+    let read : let p = c.args in TablesHold (geometry_of p.g) p.img.now c.read_entries.new.work p.n = hold_kept listed' c.read_entries.ensures.wrote (omega (arith, nodes_before listed' c.open_directory-d.ensures.answer)) in
+    let read_wrote : let p = c.args in Wrote p.work.now c.read_entries.new.work 0 (work_need (length p.img.now)) = wrote_two c.open_directory-d.ensures.wrote (wrote_before listed' c.read_entries.ensures.wrote (omega (arith, nodes_before listed' c.open_directory-d.ensures.answer))) in
+    record { answer = sym (wrong_fields _ _ (said_no (ap not c.if-not-read_entries.true) fields)); hold = read; wrote = read_wrote }
 
 pub tree_rules-requires : goal.tree_rules-requires
 tree_rules-requires c =
+    let listed' : let p = c.args in TablesHold (geometry_of p.g) p.img.now c.open_directory-d.new.work p.n = let t = c.requires in record { listed = c.open_directory-d.ensures.fat; whole = omega (arith, t.whole, c.open_directory-d.ensures.wrote.long); tables = t.tables; cells = t.cells; chained = t.chained; count = t.count } in
     let y = (ap not c.if-not-read_entries.false) in
-    walk_ready ((let listed' : let p = c.args in TablesHold (geometry_of p.g) p.img.now c.open_directory-d.new.work p.n = let t = c.requires in record { listed = c.open_directory-d.ensures.fat; whole = omega (arith, t.whole, c.open_directory-d.ensures.wrote.long); tables = t.tables; cells = t.cells; chained = t.chained; count = t.count } in listed')) c.open_directory-d.ensures.answer c.open_directory-d.ensures.directory c.read_entries.ensures.wrote (said_yes y c.read_entries.ensures.answer) (c.read_entries.ensures.nodes (not-false _ y))
+    walk_ready listed' c.open_directory-d.ensures.answer c.open_directory-d.ensures.directory c.read_entries.ensures.wrote (said_yes y c.read_entries.ensures.answer) (c.read_entries.ensures.nodes (not-false _ y))
 
 pub returns-then-not-tree_rules : goal.returns-then-not-tree_rules
-returns-then-not-tree_rules c = record { answer = sym (wrong_trees _ _ (said_yes (ap not c.if-not-read_entries.false) ((let fields' : let p = c.args in c.read_entries.result ≡ entry_rules (directory (geometry_of p.g) p.img.now) = rw c.open_directory-d.ensures.answer at c.read_entries.ensures.answer in fields'))) (said_no (ap not c.if-not-tree_rules.true) ((let trees' : let p = c.args in c.tree_rules.result ≡ tree_rules (directory (geometry_of p.g) p.img.now) = rw c.open_directory-d.ensures.answer at c.tree_rules.ensures.answer in trees')))); hold = (let walked' : let p = c.args in TablesHold (geometry_of p.g) p.img.now c.tree_rules.new.work p.n = hold_kept ((let read' : let p = c.args in TablesHold (geometry_of p.g) p.img.now c.read_entries.new.work p.n = hold_kept ((let listed' : let p = c.args in TablesHold (geometry_of p.g) p.img.now c.open_directory-d.new.work p.n = let t = c.requires in record { listed = c.open_directory-d.ensures.fat; whole = omega (arith, t.whole, c.open_directory-d.ensures.wrote.long); tables = t.tables; cells = t.cells; chained = t.chained; count = t.count } in listed')) c.read_entries.ensures.wrote (omega (arith, nodes_before ((let listed' : let p = c.args in TablesHold (geometry_of p.g) p.img.now c.open_directory-d.new.work p.n = let t = c.requires in record { listed = c.open_directory-d.ensures.fat; whole = omega (arith, t.whole, c.open_directory-d.ensures.wrote.long); tables = t.tables; cells = t.cells; chained = t.chained; count = t.count } in listed')) c.open_directory-d.ensures.answer)) in read')) c.tree_rules.ensures.wrote (omega (arith, nodes_before ((let listed' : let p = c.args in TablesHold (geometry_of p.g) p.img.now c.open_directory-d.new.work p.n = let t = c.requires in record { listed = c.open_directory-d.ensures.fat; whole = omega (arith, t.whole, c.open_directory-d.ensures.wrote.long); tables = t.tables; cells = t.cells; chained = t.chained; count = t.count } in listed')) c.open_directory-d.ensures.answer)) in walked'); wrote = (let wrote' : let p = c.args in Wrote p.work.now c.tree_rules.new.work 0 (work_need (length p.img.now)) = wrote_two ((let read_wrote' : let p = c.args in Wrote p.work.now c.read_entries.new.work 0 (work_need (length p.img.now)) = wrote_two c.open_directory-d.ensures.wrote (wrote_before ((let listed' : let p = c.args in TablesHold (geometry_of p.g) p.img.now c.open_directory-d.new.work p.n = let t = c.requires in record { listed = c.open_directory-d.ensures.fat; whole = omega (arith, t.whole, c.open_directory-d.ensures.wrote.long); tables = t.tables; cells = t.cells; chained = t.chained; count = t.count } in listed')) c.read_entries.ensures.wrote (omega (arith, nodes_before ((let listed' : let p = c.args in TablesHold (geometry_of p.g) p.img.now c.open_directory-d.new.work p.n = let t = c.requires in record { listed = c.open_directory-d.ensures.fat; whole = omega (arith, t.whole, c.open_directory-d.ensures.wrote.long); tables = t.tables; cells = t.cells; chained = t.chained; count = t.count } in listed')) c.open_directory-d.ensures.answer))) in read_wrote')) (wrote_before ((let read' : let p = c.args in TablesHold (geometry_of p.g) p.img.now c.read_entries.new.work p.n = hold_kept ((let listed' : let p = c.args in TablesHold (geometry_of p.g) p.img.now c.open_directory-d.new.work p.n = let t = c.requires in record { listed = c.open_directory-d.ensures.fat; whole = omega (arith, t.whole, c.open_directory-d.ensures.wrote.long); tables = t.tables; cells = t.cells; chained = t.chained; count = t.count } in listed')) c.read_entries.ensures.wrote (omega (arith, nodes_before ((let listed' : let p = c.args in TablesHold (geometry_of p.g) p.img.now c.open_directory-d.new.work p.n = let t = c.requires in record { listed = c.open_directory-d.ensures.fat; whole = omega (arith, t.whole, c.open_directory-d.ensures.wrote.long); tables = t.tables; cells = t.cells; chained = t.chained; count = t.count } in listed')) c.open_directory-d.ensures.answer)) in read')) c.tree_rules.ensures.wrote (omega (arith, nodes_before ((let listed' : let p = c.args in TablesHold (geometry_of p.g) p.img.now c.open_directory-d.new.work p.n = let t = c.requires in record { listed = c.open_directory-d.ensures.fat; whole = omega (arith, t.whole, c.open_directory-d.ensures.wrote.long); tables = t.tables; cells = t.cells; chained = t.chained; count = t.count } in listed')) c.open_directory-d.ensures.answer))) in wrote') }
+returns-then-not-tree_rules c =
+    let trees : let p = c.args in c.tree_rules.result ≡ tree_rules (directory (geometry_of p.g) p.img.now) = rw c.open_directory-d.ensures.answer at c.tree_rules.ensures.answer in
+    let fields : let p = c.args in c.read_entries.result ≡ entry_rules (directory (geometry_of p.g) p.img.now) = rw c.open_directory-d.ensures.answer at c.read_entries.ensures.answer in
+    let listed' : let p = c.args in TablesHold (geometry_of p.g) p.img.now c.open_directory-d.new.work p.n = let t = c.requires in record { listed = c.open_directory-d.ensures.fat; whole = omega (arith, t.whole, c.open_directory-d.ensures.wrote.long); tables = t.tables; cells = t.cells; chained = t.chained; count = t.count } in
+    let read : let p = c.args in TablesHold (geometry_of p.g) p.img.now c.read_entries.new.work p.n = hold_kept listed' c.read_entries.ensures.wrote (omega (arith, nodes_before listed' c.open_directory-d.ensures.answer)) in
+    let walked : let p = c.args in TablesHold (geometry_of p.g) p.img.now c.tree_rules.new.work p.n = hold_kept read c.tree_rules.ensures.wrote (omega (arith, nodes_before listed' c.open_directory-d.ensures.answer)) in
+    let read_wrote : let p = c.args in Wrote p.work.now c.read_entries.new.work 0 (work_need (length p.img.now)) = wrote_two c.open_directory-d.ensures.wrote (wrote_before listed' c.read_entries.ensures.wrote (omega (arith, nodes_before listed' c.open_directory-d.ensures.answer))) in
+    let wrote' : let p = c.args in Wrote p.work.now c.tree_rules.new.work 0 (work_need (length p.img.now)) = wrote_two read_wrote (wrote_before read c.tree_rules.ensures.wrote (omega (arith, nodes_before listed' c.open_directory-d.ensures.answer))) in
+    record { answer = sym (wrong_trees _ _ (said_yes (ap not c.if-not-read_entries.false) fields) (said_no (ap not c.if-not-tree_rules.true) trees)); hold = walked; wrote = wrote' }
 
 pub returns : goal.returns
-returns c = record { answer = sym (all_right _ _ (said_yes (ap not c.if-not-read_entries.false) ((let fields' : let p = c.args in c.read_entries.result ≡ entry_rules (directory (geometry_of p.g) p.img.now) = rw c.open_directory-d.ensures.answer at c.read_entries.ensures.answer in fields'))) (said_yes (ap not c.if-not-tree_rules.false) ((let trees' : let p = c.args in c.tree_rules.result ≡ tree_rules (directory (geometry_of p.g) p.img.now) = rw c.open_directory-d.ensures.answer at c.tree_rules.ensures.answer in trees')))); hold = (let walked' : let p = c.args in TablesHold (geometry_of p.g) p.img.now c.tree_rules.new.work p.n = hold_kept ((let read' : let p = c.args in TablesHold (geometry_of p.g) p.img.now c.read_entries.new.work p.n = hold_kept ((let listed' : let p = c.args in TablesHold (geometry_of p.g) p.img.now c.open_directory-d.new.work p.n = let t = c.requires in record { listed = c.open_directory-d.ensures.fat; whole = omega (arith, t.whole, c.open_directory-d.ensures.wrote.long); tables = t.tables; cells = t.cells; chained = t.chained; count = t.count } in listed')) c.read_entries.ensures.wrote (omega (arith, nodes_before ((let listed' : let p = c.args in TablesHold (geometry_of p.g) p.img.now c.open_directory-d.new.work p.n = let t = c.requires in record { listed = c.open_directory-d.ensures.fat; whole = omega (arith, t.whole, c.open_directory-d.ensures.wrote.long); tables = t.tables; cells = t.cells; chained = t.chained; count = t.count } in listed')) c.open_directory-d.ensures.answer)) in read')) c.tree_rules.ensures.wrote (omega (arith, nodes_before ((let listed' : let p = c.args in TablesHold (geometry_of p.g) p.img.now c.open_directory-d.new.work p.n = let t = c.requires in record { listed = c.open_directory-d.ensures.fat; whole = omega (arith, t.whole, c.open_directory-d.ensures.wrote.long); tables = t.tables; cells = t.cells; chained = t.chained; count = t.count } in listed')) c.open_directory-d.ensures.answer)) in walked'); wrote = (let wrote' : let p = c.args in Wrote p.work.now c.tree_rules.new.work 0 (work_need (length p.img.now)) = wrote_two ((let read_wrote' : let p = c.args in Wrote p.work.now c.read_entries.new.work 0 (work_need (length p.img.now)) = wrote_two c.open_directory-d.ensures.wrote (wrote_before ((let listed' : let p = c.args in TablesHold (geometry_of p.g) p.img.now c.open_directory-d.new.work p.n = let t = c.requires in record { listed = c.open_directory-d.ensures.fat; whole = omega (arith, t.whole, c.open_directory-d.ensures.wrote.long); tables = t.tables; cells = t.cells; chained = t.chained; count = t.count } in listed')) c.read_entries.ensures.wrote (omega (arith, nodes_before ((let listed' : let p = c.args in TablesHold (geometry_of p.g) p.img.now c.open_directory-d.new.work p.n = let t = c.requires in record { listed = c.open_directory-d.ensures.fat; whole = omega (arith, t.whole, c.open_directory-d.ensures.wrote.long); tables = t.tables; cells = t.cells; chained = t.chained; count = t.count } in listed')) c.open_directory-d.ensures.answer))) in read_wrote')) (wrote_before ((let read' : let p = c.args in TablesHold (geometry_of p.g) p.img.now c.read_entries.new.work p.n = hold_kept ((let listed' : let p = c.args in TablesHold (geometry_of p.g) p.img.now c.open_directory-d.new.work p.n = let t = c.requires in record { listed = c.open_directory-d.ensures.fat; whole = omega (arith, t.whole, c.open_directory-d.ensures.wrote.long); tables = t.tables; cells = t.cells; chained = t.chained; count = t.count } in listed')) c.read_entries.ensures.wrote (omega (arith, nodes_before ((let listed' : let p = c.args in TablesHold (geometry_of p.g) p.img.now c.open_directory-d.new.work p.n = let t = c.requires in record { listed = c.open_directory-d.ensures.fat; whole = omega (arith, t.whole, c.open_directory-d.ensures.wrote.long); tables = t.tables; cells = t.cells; chained = t.chained; count = t.count } in listed')) c.open_directory-d.ensures.answer)) in read')) c.tree_rules.ensures.wrote (omega (arith, nodes_before ((let listed' : let p = c.args in TablesHold (geometry_of p.g) p.img.now c.open_directory-d.new.work p.n = let t = c.requires in record { listed = c.open_directory-d.ensures.fat; whole = omega (arith, t.whole, c.open_directory-d.ensures.wrote.long); tables = t.tables; cells = t.cells; chained = t.chained; count = t.count } in listed')) c.open_directory-d.ensures.answer))) in wrote') }
+returns c =
+    let trees : let p = c.args in c.tree_rules.result ≡ tree_rules (directory (geometry_of p.g) p.img.now) = rw c.open_directory-d.ensures.answer at c.tree_rules.ensures.answer in
+    let fields : let p = c.args in c.read_entries.result ≡ entry_rules (directory (geometry_of p.g) p.img.now) = rw c.open_directory-d.ensures.answer at c.read_entries.ensures.answer in
+    let listed' : let p = c.args in TablesHold (geometry_of p.g) p.img.now c.open_directory-d.new.work p.n = let t = c.requires in record { listed = c.open_directory-d.ensures.fat; whole = omega (arith, t.whole, c.open_directory-d.ensures.wrote.long); tables = t.tables; cells = t.cells; chained = t.chained; count = t.count } in
+    let read : let p = c.args in TablesHold (geometry_of p.g) p.img.now c.read_entries.new.work p.n = hold_kept listed' c.read_entries.ensures.wrote (omega (arith, nodes_before listed' c.open_directory-d.ensures.answer)) in
+    let walked : let p = c.args in TablesHold (geometry_of p.g) p.img.now c.tree_rules.new.work p.n = hold_kept read c.tree_rules.ensures.wrote (omega (arith, nodes_before listed' c.open_directory-d.ensures.answer)) in
+    let read_wrote : let p = c.args in Wrote p.work.now c.read_entries.new.work 0 (work_need (length p.img.now)) = wrote_two c.open_directory-d.ensures.wrote (wrote_before listed' c.read_entries.ensures.wrote (omega (arith, nodes_before listed' c.open_directory-d.ensures.answer))) in
+    let wrote' : let p = c.args in Wrote p.work.now c.tree_rules.new.work 0 (work_need (length p.img.now)) = wrote_two read_wrote (wrote_before read c.tree_rules.ensures.wrote (omega (arith, nodes_before listed' c.open_directory-d.ensures.answer))) in
+    record { answer = sym (all_right _ _ (said_yes (ap not c.if-not-read_entries.false) fields) (said_yes (ap not c.if-not-tree_rules.false) trees)); hold = walked; wrote = wrote' }

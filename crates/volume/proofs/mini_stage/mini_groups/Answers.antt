@@ -19,14 +19,16 @@ cells_rest-requires c = (system_marked c.system_tables.ensures c.in-Right.is).li
 
 pub returns-then-not-cells_rest : goal.returns-then-not-cells_rest
 returns-then-not-cells_rest c =
+    let rest : let p = c.args in c.cells_rest.result ≡ rest_free (volume (geometry_of p.g) p.img.now).minis = c.cells_rest.ensures ∙ ap rest_free (system_minis c.system_tables.ensures c.in-Right.is) in
     let l = c.system_tables.ensures in
-    stage_refused _ _ _ Mini (rest_breaks _ (system_right_lem l c.in-Right.is) (said_no (ap not c.if-not-cells_rest.true) ((let rest' : let p = c.args in c.cells_rest.result ≡ rest_free (volume (geometry_of p.g) p.img.now).minis = c.cells_rest.ensures ∙ ap rest_free (system_minis c.system_tables.ensures c.in-Right.is) in rest')))) l.wrote
+    stage_refused _ _ _ Mini (rest_breaks _ (system_right_lem l c.in-Right.is) (said_no (ap not c.if-not-cells_rest.true) rest)) l.wrote
 
 pub owner_groups-requires : goal.owner_groups-requires
 owner_groups-requires c = system_marked c.system_tables.ensures c.in-Right.is
 
 pub returns : goal.returns
 returns c =
+    let rest : let p = c.args in c.cells_rest.result ≡ rest_free (volume (geometry_of p.g) p.img.now).minis = c.cells_rest.ensures ∙ ap rest_free (system_minis c.system_tables.ensures c.in-Right.is) in
     let l = c.system_tables.ensures in
     let e = c.in-Right.is in
-    stage_later (minis_hold _ (system_right_lem l e) (said_yes (ap not c.if-not-cells_rest.false) ((let rest' : let p = c.args in c.cells_rest.result ≡ rest_free (volume (geometry_of p.g) p.img.now).minis = c.cells_rest.ensures ∙ ap rest_free (system_minis c.system_tables.ensures c.in-Right.is) in rest')))) l.wrote (stage_for owner_groups _ (ap (λ t. t.geometry) (system_tables l e)) c.owner_groups.ensures)
+    stage_later (minis_hold _ (system_right_lem l e) (said_yes (ap not c.if-not-cells_rest.false) rest)) l.wrote (stage_for owner_groups _ (ap (λ t. t.geometry) (system_tables l e)) c.owner_groups.ensures)

@@ -47,23 +47,50 @@ pub returns-then-cells-m : goal.returns-then-cells-m
 returns-then-cells-m c = record { answer = cells_too_few _ _ (omega (arith, c.if-cells-m.true, cells (goal.at.returns-then-cells-m c).After-cells, units (goal.at.returns-then-cells-m c).After-size)); wrote = wrote_none _ _ _ }
 
 pub overflow_sub-list : goal.overflow_sub-list
-overflow_sub-list c = (let room' : let p = c.args in c.mini_fat_count-m.result ≤ p.d.list = let p = c.requires in omega (arith, (let many' : let p = c.args in c.mini_fat_count-m.result ≡ mini_fat_count p.img.now = c.mini_fat_count-m.ensures in many'), table_short _ _ p.fat.sized p.table, p.room) in room')
+overflow_sub-list c =
+    let many : let p = c.args in c.mini_fat_count-m.result ≡ mini_fat_count p.img.now = c.mini_fat_count-m.ensures in
+    let room' : let p = c.args in c.mini_fat_count-m.result ≤ p.d.list = let p = c.requires in omega (arith, many, table_short _ _ p.fat.sized p.table, p.room) in
+    room'
 
 pub list_minis-minis-requires : goal.list_minis-minis-requires
-list_minis-minis-requires c = let p = c.requires in record { fat_listed = p.fat; mini_counts = (let counts' : let p = c.args in MiniCounts (geometry_of p.t.geometry) p.img.now (c.size.result / 64) = let p = c.requires in mini_counts _ _ p.fat.sized _ p.table p.stream (units (goal.at.list_minis-minis-requires c).After-size) (omega (arith, c.if-cells-m.false, cells (goal.at.list_minis-minis-requires c).After-cells)) in counts'); units_le_at = omega (arith, ((let counts' : let p = c.args in MiniCounts (geometry_of p.t.geometry) p.img.now (c.size.result / 64) = let p = c.requires in mini_counts _ _ p.fat.sized _ p.table p.stream (units (goal.at.list_minis-minis-requires c).After-size) (omega (arith, c.if-cells-m.false, cells (goal.at.list_minis-minis-requires c).After-cells)) in counts')).few, (let many' : let p = c.args in c.mini_fat_count-m.result ≡ mini_fat_count p.img.now = c.mini_fat_count-m.ensures in many'), (let room' : let p = c.args in c.mini_fat_count-m.result ≤ p.d.list = let p = c.requires in omega (arith, (let many' : let p = c.args in c.mini_fat_count-m.result ≡ mini_fat_count p.img.now = c.mini_fat_count-m.ensures in many'), table_short _ _ p.fat.sized p.table, p.room) in room'), table_short _ _ p.fat.sized p.table, p.room); img_bound = omega (arith, (let many' : let p = c.args in c.mini_fat_count-m.result ≡ mini_fat_count p.img.now = c.mini_fat_count-m.ensures in many'), (let room' : let p = c.args in c.mini_fat_count-m.result ≤ p.d.list = let p = c.requires in omega (arith, (let many' : let p = c.args in c.mini_fat_count-m.result ≡ mini_fat_count p.img.now = c.mini_fat_count-m.ensures in many'), table_short _ _ p.fat.sized p.table, p.room) in room'), p.before) }
+list_minis-minis-requires c =
+    let many : let p = c.args in c.mini_fat_count-m.result ≡ mini_fat_count p.img.now = c.mini_fat_count-m.ensures in
+    let room' : let p = c.args in c.mini_fat_count-m.result ≤ p.d.list = let p = c.requires in omega (arith, many, table_short _ _ p.fat.sized p.table, p.room) in
+    let counts : let p = c.args in MiniCounts (geometry_of p.t.geometry) p.img.now (c.size.result / 64) = let p = c.requires in mini_counts _ _ p.fat.sized _ p.table p.stream (units (goal.at.list_minis-minis-requires c).After-size) (omega (arith, c.if-cells-m.false, cells (goal.at.list_minis-minis-requires c).After-cells)) in
+    let p = c.requires in record { fat_listed = p.fat; mini_counts = counts; units_le_at = omega (arith, counts.few, many, room', table_short _ _ p.fat.sized p.table, p.room); img_bound = omega (arith, many, room', p.before) }
 
 pub copy_minis-requires : goal.copy_minis-requires
-copy_minis-requires c = record { mini_listed = c.list_minis-minis.ensures.listed; units_bound = rw c.requires.fat.count ((let apart' : let p = c.args in sector_count_of p.t p.img.now + c.list_minis-minis.result.units ≤ c.list_minis-minis.result.list = let p = c.requires in rw c.list_minis-minis.ensures.answer (omega (arith, ((let counts' : let p = c.args in MiniCounts (geometry_of p.t.geometry) p.img.now (c.size.result / 64) = let p = c.requires in mini_counts _ _ p.fat.sized _ p.table p.stream (units (goal.at.copy_minis-requires c).After-size) (omega (arith, c.if-cells-m.false, cells (goal.at.copy_minis-requires c).After-cells)) in counts')).few, (let many' : let p = c.args in c.mini_fat_count-m.result ≡ mini_fat_count p.img.now = c.mini_fat_count-m.ensures in many'), (let room' : let p = c.args in c.mini_fat_count-m.result ≤ p.d.list = let p = c.requires in omega (arith, (let many' : let p = c.args in c.mini_fat_count-m.result ≡ mini_fat_count p.img.now = c.mini_fat_count-m.ensures in many'), table_short _ _ p.fat.sized p.table, p.room) in room'), table_short _ _ p.fat.sized p.table, p.room, p.fat.sized.many)) in apart')) }
+copy_minis-requires c =
+    let many' : let p = c.args in c.mini_fat_count-m.result ≡ mini_fat_count p.img.now = c.mini_fat_count-m.ensures in
+    let room' : let p = c.args in c.mini_fat_count-m.result ≤ p.d.list = let p = c.requires in omega (arith, many', table_short _ _ p.fat.sized p.table, p.room) in
+    let counts : let p = c.args in MiniCounts (geometry_of p.t.geometry) p.img.now (c.size.result / 64) = let p = c.requires in mini_counts _ _ p.fat.sized _ p.table p.stream (units (goal.at.copy_minis-requires c).After-size) (omega (arith, c.if-cells-m.false, cells (goal.at.copy_minis-requires c).After-cells)) in
+    let apart : let p = c.args in sector_count_of p.t p.img.now + c.list_minis-minis.result.units ≤ c.list_minis-minis.result.list = let p = c.requires in rw c.list_minis-minis.ensures.answer (omega (arith, counts.few, many', room', table_short _ _ p.fat.sized p.table, p.room, p.fat.sized.many)) in
+    record { mini_listed = c.list_minis-minis.ensures.listed; units_bound = rw c.requires.fat.count apart }
 
 pub returns-then-not-copy_minis : goal.returns-then-not-copy_minis
-returns-then-not-copy_minis c = record { answer = (let rules' : let p = c.args in mini_cell_rules (volume (geometry_of p.t.geometry) p.img.now) ≡ c.copy_minis.result = cells_by_rules _ _ (omega (arith, c.if-cells-m.false, cells (goal.at.returns-then-not-copy_minis c).After-cells, units (goal.at.returns-then-not-copy_minis c).After-size)) (rw c.list_minis-minis.ensures.answer at c.copy_minis.ensures.answer) in rules') ∙ c.if-not-copy_minis.true; wrote = (let wrote' : let p = c.args in Wrote p.work.now c.copy_minis.new.work (sector_count_of p.t p.img.now) (p.d.list - sector_count_of p.t p.img.now) = let p = c.requires in wrote_two ((let listed_wrote' : let p = c.args in Wrote p.work.now c.list_minis-minis.new.work (sector_count_of p.t p.img.now) (p.d.list - sector_count_of p.t p.img.now) = let p = c.requires in wrote_wider _ _ (rw ((let many' : let p = c.args in c.mini_fat_count-m.result ≡ mini_fat_count p.img.now = c.mini_fat_count-m.ensures in many')) at c.list_minis-minis.ensures.wrote) (omega (arith, (let many' : let p = c.args in c.mini_fat_count-m.result ≡ mini_fat_count p.img.now = c.mini_fat_count-m.ensures in many'), (let room' : let p = c.args in c.mini_fat_count-m.result ≤ p.d.list = let p = c.requires in omega (arith, (let many' : let p = c.args in c.mini_fat_count-m.result ≡ mini_fat_count p.img.now = c.mini_fat_count-m.ensures in many'), table_short _ _ p.fat.sized p.table, p.room) in room'), table_short _ _ p.fat.sized p.table, p.room)) (omega (arith, (let many' : let p = c.args in c.mini_fat_count-m.result ≡ mini_fat_count p.img.now = c.mini_fat_count-m.ensures in many'), (let room' : let p = c.args in c.mini_fat_count-m.result ≤ p.d.list = let p = c.requires in omega (arith, (let many' : let p = c.args in c.mini_fat_count-m.result ≡ mini_fat_count p.img.now = c.mini_fat_count-m.ensures in many'), table_short _ _ p.fat.sized p.table, p.room) in room'), table_short _ _ p.fat.sized p.table, p.room)) in listed_wrote')) (wrote_wider _ _ (rw p.fat.count at c.copy_minis.ensures.wrote) (omega arith) (omega (arith, (let apart' : let p = c.args in sector_count_of p.t p.img.now + c.list_minis-minis.result.units ≤ c.list_minis-minis.result.list = let p = c.requires in rw c.list_minis-minis.ensures.answer (omega (arith, ((let counts' : let p = c.args in MiniCounts (geometry_of p.t.geometry) p.img.now (c.size.result / 64) = let p = c.requires in mini_counts _ _ p.fat.sized _ p.table p.stream (units (goal.at.returns-then-not-copy_minis c).After-size) (omega (arith, c.if-cells-m.false, cells (goal.at.returns-then-not-copy_minis c).After-cells)) in counts')).few, (let many' : let p = c.args in c.mini_fat_count-m.result ≡ mini_fat_count p.img.now = c.mini_fat_count-m.ensures in many'), (let room' : let p = c.args in c.mini_fat_count-m.result ≤ p.d.list = let p = c.requires in omega (arith, (let many' : let p = c.args in c.mini_fat_count-m.result ≡ mini_fat_count p.img.now = c.mini_fat_count-m.ensures in many'), table_short _ _ p.fat.sized p.table, p.room) in room'), table_short _ _ p.fat.sized p.table, p.room, p.fat.sized.many)) in apart'), (let room' : let p = c.args in c.mini_fat_count-m.result ≤ p.d.list = let p = c.requires in omega (arith, (let many' : let p = c.args in c.mini_fat_count-m.result ≡ mini_fat_count p.img.now = c.mini_fat_count-m.ensures in many'), table_short _ _ p.fat.sized p.table, p.room) in room'), (let many' : let p = c.args in c.mini_fat_count-m.result ≡ mini_fat_count p.img.now = c.mini_fat_count-m.ensures in many'), ap (λ q. q.list) c.list_minis-minis.ensures.answer, p.room))) in wrote') }
+returns-then-not-copy_minis c =
+    let many' : let p = c.args in c.mini_fat_count-m.result ≡ mini_fat_count p.img.now = c.mini_fat_count-m.ensures in
+    let room' : let p = c.args in c.mini_fat_count-m.result ≤ p.d.list = let p = c.requires in omega (arith, many', table_short _ _ p.fat.sized p.table, p.room) in
+    let counts : let p = c.args in MiniCounts (geometry_of p.t.geometry) p.img.now (c.size.result / 64) = let p = c.requires in mini_counts _ _ p.fat.sized _ p.table p.stream (units (goal.at.returns-then-not-copy_minis c).After-size) (omega (arith, c.if-cells-m.false, cells (goal.at.returns-then-not-copy_minis c).After-cells)) in
+    let apart : let p = c.args in sector_count_of p.t p.img.now + c.list_minis-minis.result.units ≤ c.list_minis-minis.result.list = let p = c.requires in rw c.list_minis-minis.ensures.answer (omega (arith, counts.few, many', room', table_short _ _ p.fat.sized p.table, p.room, p.fat.sized.many)) in
+    let rules' : let p = c.args in mini_cell_rules (volume (geometry_of p.t.geometry) p.img.now) ≡ c.copy_minis.result = cells_by_rules _ _ (omega (arith, c.if-cells-m.false, cells (goal.at.returns-then-not-copy_minis c).After-cells, units (goal.at.returns-then-not-copy_minis c).After-size)) (rw c.list_minis-minis.ensures.answer at c.copy_minis.ensures.answer) in
+    let listed_wrote : let p = c.args in Wrote p.work.now c.list_minis-minis.new.work (sector_count_of p.t p.img.now) (p.d.list - sector_count_of p.t p.img.now) = let p = c.requires in wrote_wider _ _ (rw many' at c.list_minis-minis.ensures.wrote) (omega (arith, many', room', table_short _ _ p.fat.sized p.table, p.room)) (omega (arith, many', room', table_short _ _ p.fat.sized p.table, p.room)) in
+    let wrote' : let p = c.args in Wrote p.work.now c.copy_minis.new.work (sector_count_of p.t p.img.now) (p.d.list - sector_count_of p.t p.img.now) = let p = c.requires in wrote_two listed_wrote (wrote_wider _ _ (rw p.fat.count at c.copy_minis.ensures.wrote) (omega arith) (omega (arith, apart, room', many', ap (λ q. q.list) c.list_minis-minis.ensures.answer, p.room))) in
+    record { answer = rules' ∙ c.if-not-copy_minis.true; wrote = wrote' }
 
 pub returns : goal.returns
 returns c =
-    let i = rw (units (goal.at.returns c).After-size, (let many' : let p = c.args in c.mini_fat_count-m.result ≡ mini_fat_count p.img.now = c.mini_fat_count-m.ensures in many')) at c.list_minis-minis.ensures.answer in record {
+    let many' : let p = c.args in c.mini_fat_count-m.result ≡ mini_fat_count p.img.now = c.mini_fat_count-m.ensures in
+    let room' : let p = c.args in c.mini_fat_count-m.result ≤ p.d.list = let p = c.requires in omega (arith, many', table_short _ _ p.fat.sized p.table, p.room) in
+    let counts : let p = c.args in MiniCounts (geometry_of p.t.geometry) p.img.now (c.size.result / 64) = let p = c.requires in mini_counts _ _ p.fat.sized _ p.table p.stream (units (goal.at.returns c).After-size) (omega (arith, c.if-cells-m.false, cells (goal.at.returns c).After-cells)) in
+    let apart : let p = c.args in sector_count_of p.t p.img.now + c.list_minis-minis.result.units ≤ c.list_minis-minis.result.list = let p = c.requires in rw c.list_minis-minis.ensures.answer (omega (arith, counts.few, many', room', table_short _ _ p.fat.sized p.table, p.room, p.fat.sized.many)) in
+    let rules' : let p = c.args in mini_cell_rules (volume (geometry_of p.t.geometry) p.img.now) ≡ c.copy_minis.result = cells_by_rules _ _ (omega (arith, c.if-cells-m.false, cells (goal.at.returns c).After-cells, units (goal.at.returns c).After-size)) (rw c.list_minis-minis.ensures.answer at c.copy_minis.ensures.answer) in
+    let listed_wrote : let p = c.args in Wrote p.work.now c.list_minis-minis.new.work (sector_count_of p.t p.img.now) (p.d.list - sector_count_of p.t p.img.now) = let p = c.requires in wrote_wider _ _ (rw many' at c.list_minis-minis.ensures.wrote) (omega (arith, many', room', table_short _ _ p.fat.sized p.table, p.room)) (omega (arith, many', room', table_short _ _ p.fat.sized p.table, p.room)) in
+    let wrote' : let p = c.args in Wrote p.work.now c.copy_minis.new.work (sector_count_of p.t p.img.now) (p.d.list - sector_count_of p.t p.img.now) = let p = c.requires in wrote_two listed_wrote (wrote_wider _ _ (rw p.fat.count at c.copy_minis.ensures.wrote) (omega arith) (omega (arith, apart, room', many', ap (λ q. q.list) c.list_minis-minis.ensures.answer, p.room))) in
+    let i = rw (units (goal.at.returns c).After-size, many') at c.list_minis-minis.ensures.answer in record {
       answer = (
-        (let rules' : let p = c.args in mini_cell_rules (volume (geometry_of p.t.geometry) p.img.now) ≡ c.copy_minis.result = cells_by_rules _ _ (omega (arith, c.if-cells-m.false, cells (goal.at.returns c).After-cells, units (goal.at.returns c).After-size)) (rw c.list_minis-minis.ensures.answer at c.copy_minis.ensures.answer) in rules') ∙ c.if-not-copy_minis.false,
-        (i, (listed_kept c.list_minis-minis.ensures.listed (rw c.requires.fat.count at c.copy_minis.ensures.wrote) ((let apart' : let p = c.args in sector_count_of p.t p.img.now + c.list_minis-minis.result.units ≤ c.list_minis-minis.result.list = let p = c.requires in rw c.list_minis-minis.ensures.answer (omega (arith, ((let counts' : let p = c.args in MiniCounts (geometry_of p.t.geometry) p.img.now (c.size.result / 64) = let p = c.requires in mini_counts _ _ p.fat.sized _ p.table p.stream (units (goal.at.returns c).After-size) (omega (arith, c.if-cells-m.false, cells (goal.at.returns c).After-cells)) in counts')).few, (let many' : let p = c.args in c.mini_fat_count-m.result ≡ mini_fat_count p.img.now = c.mini_fat_count-m.ensures in many'), (let room' : let p = c.args in c.mini_fat_count-m.result ≤ p.d.list = let p = c.requires in omega (arith, (let many' : let p = c.args in c.mini_fat_count-m.result ≡ mini_fat_count p.img.now = c.mini_fat_count-m.ensures in many'), table_short _ _ p.fat.sized p.table, p.room) in room'), table_short _ _ p.fat.sized p.table, p.room, p.fat.sized.many)) in apart')), rw (i, c.requires.fat.count) at (c.copy_minis.ensures.copied (c.if-not-copy_minis.false)))),
+        rules' ∙ c.if-not-copy_minis.false,
+        (i, (listed_kept c.list_minis-minis.ensures.listed (rw c.requires.fat.count at c.copy_minis.ensures.wrote) apart, rw (i, c.requires.fat.count) at (c.copy_minis.ensures.copied (c.if-not-copy_minis.false)))),
       );
-      wrote = (let wrote' : let p = c.args in Wrote p.work.now c.copy_minis.new.work (sector_count_of p.t p.img.now) (p.d.list - sector_count_of p.t p.img.now) = let p = c.requires in wrote_two ((let listed_wrote' : let p = c.args in Wrote p.work.now c.list_minis-minis.new.work (sector_count_of p.t p.img.now) (p.d.list - sector_count_of p.t p.img.now) = let p = c.requires in wrote_wider _ _ (rw ((let many' : let p = c.args in c.mini_fat_count-m.result ≡ mini_fat_count p.img.now = c.mini_fat_count-m.ensures in many')) at c.list_minis-minis.ensures.wrote) (omega (arith, (let many' : let p = c.args in c.mini_fat_count-m.result ≡ mini_fat_count p.img.now = c.mini_fat_count-m.ensures in many'), (let room' : let p = c.args in c.mini_fat_count-m.result ≤ p.d.list = let p = c.requires in omega (arith, (let many' : let p = c.args in c.mini_fat_count-m.result ≡ mini_fat_count p.img.now = c.mini_fat_count-m.ensures in many'), table_short _ _ p.fat.sized p.table, p.room) in room'), table_short _ _ p.fat.sized p.table, p.room)) (omega (arith, (let many' : let p = c.args in c.mini_fat_count-m.result ≡ mini_fat_count p.img.now = c.mini_fat_count-m.ensures in many'), (let room' : let p = c.args in c.mini_fat_count-m.result ≤ p.d.list = let p = c.requires in omega (arith, (let many' : let p = c.args in c.mini_fat_count-m.result ≡ mini_fat_count p.img.now = c.mini_fat_count-m.ensures in many'), table_short _ _ p.fat.sized p.table, p.room) in room'), table_short _ _ p.fat.sized p.table, p.room)) in listed_wrote')) (wrote_wider _ _ (rw p.fat.count at c.copy_minis.ensures.wrote) (omega arith) (omega (arith, (let apart' : let p = c.args in sector_count_of p.t p.img.now + c.list_minis-minis.result.units ≤ c.list_minis-minis.result.list = let p = c.requires in rw c.list_minis-minis.ensures.answer (omega (arith, ((let counts' : let p = c.args in MiniCounts (geometry_of p.t.geometry) p.img.now (c.size.result / 64) = let p = c.requires in mini_counts _ _ p.fat.sized _ p.table p.stream (units (goal.at.returns c).After-size) (omega (arith, c.if-cells-m.false, cells (goal.at.returns c).After-cells)) in counts')).few, (let many' : let p = c.args in c.mini_fat_count-m.result ≡ mini_fat_count p.img.now = c.mini_fat_count-m.ensures in many'), (let room' : let p = c.args in c.mini_fat_count-m.result ≤ p.d.list = let p = c.requires in omega (arith, (let many' : let p = c.args in c.mini_fat_count-m.result ≡ mini_fat_count p.img.now = c.mini_fat_count-m.ensures in many'), table_short _ _ p.fat.sized p.table, p.room) in room'), table_short _ _ p.fat.sized p.table, p.room, p.fat.sized.many)) in apart'), (let room' : let p = c.args in c.mini_fat_count-m.result ≤ p.d.list = let p = c.requires in omega (arith, (let many' : let p = c.args in c.mini_fat_count-m.result ≡ mini_fat_count p.img.now = c.mini_fat_count-m.ensures in many'), table_short _ _ p.fat.sized p.table, p.room) in room'), (let many' : let p = c.args in c.mini_fat_count-m.result ≡ mini_fat_count p.img.now = c.mini_fat_count-m.ensures in many'), ap (λ q. q.list) c.list_minis-minis.ensures.answer, p.room))) in wrote');
+      wrote = wrote';
     }

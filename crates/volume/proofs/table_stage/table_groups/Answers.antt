@@ -40,7 +40,10 @@ pub returns-then-not-header_rules : goal.returns-then-not-header_rules
 returns-then-not-header_rules c = stage_refused _ _ _ Header (header_breaks _ _ (said_no (ap not c.if-not-header_rules.true) c.header_rules.ensures)) (wrote_none _ 0 _)
 
 pub returns-then-not-table_rules : goal.returns-then-not-table_rules
-returns-then-not-table_rules c = stage_refused _ _ _ Tables (tables_break _ _ ((let header' : let p = c.args in header_rules (geometry_of p.g) p.img.now ≡ true = said_yes (ap not c.if-not-header_rules.false) c.header_rules.ensures in header')) (said_no (ap not c.if-not-table_rules.true) c.table_rules.ensures.answer)) ((let wrote' : let p = c.args in Wrote p.work.now c.table_rules.new.work 0 (work_need (length p.img.now)) = tables_wrote _ _ c.table_rules.ensures.left c.table_rules.auto.work in wrote'))
+returns-then-not-table_rules c =
+    let header : let p = c.args in header_rules (geometry_of p.g) p.img.now ≡ true = said_yes (ap not c.if-not-header_rules.false) c.header_rules.ensures in
+    let wrote : let p = c.args in Wrote p.work.now c.table_rules.new.work 0 (work_need (length p.img.now)) = tables_wrote _ _ c.table_rules.ensures.left c.table_rules.auto.work in
+    stage_refused _ _ _ Tables (tables_break _ _ header (said_no (ap not c.if-not-table_rules.true) c.table_rules.ensures.answer)) wrote
 
 pub tables_of-t-requires : goal.tables_of-t-requires
 tables_of-t-requires c = record { image_sized = c.requires.image_sized; img_bound = (listed (goal.at.tables_of-t-requires c).Else-not-table_rules).few }
@@ -49,16 +52,43 @@ pub cell_rules-requires : goal.cell_rules-requires
 cell_rules-requires c = rw c.tables_of-t.ensures (listed (goal.at.cell_rules-requires c).Else-not-table_rules)
 
 pub returns-then-not-cell_rules : goal.returns-then-not-cell_rules
-returns-then-not-cell_rules c = stage_refused _ _ _ Cells (cells_break _ _ ((let header' : let p = c.args in header_rules (geometry_of p.g) p.img.now ≡ true = said_yes (ap not c.if-not-header_rules.false) c.header_rules.ensures in header')) (tables (goal.at.returns-then-not-cell_rules c).Else-not-table_rules) (said_no (ap not c.if-not-cell_rules.true) ((let asked' : let p = c.args in let g = geometry_of p.g in let i = p.img.now in (c.cell_rules.result ≡ cell_rules (sector_space g i)) × (Holds c.cell_rules.new.work 0 (sector_count g i) (fat_cell g i) × Wrote c.table_rules.new.work c.cell_rules.new.work 0 (sector_count g i)) = (rw c.tables_of-t.ensures at c.cell_rules.ensures.answer, (rw c.tables_of-t.ensures at c.cell_rules.ensures.holds, rw c.tables_of-t.ensures at c.cell_rules.ensures.wrote)) in asked')).0)) ((let wrote_both' : let p = c.args in let g = geometry_of p.g in let i = p.img.now in Wrote p.work.now c.cell_rules.new.work 0 (work_need (length i)) = wrote_two ((let wrote' : let p = c.args in Wrote p.work.now c.table_rules.new.work 0 (work_need (length p.img.now)) = tables_wrote _ _ c.table_rules.ensures.left c.table_rules.auto.work in wrote')) (cells_wrote _ _ ((let asked' : let p = c.args in let g = geometry_of p.g in let i = p.img.now in (c.cell_rules.result ≡ cell_rules (sector_space g i)) × (Holds c.cell_rules.new.work 0 (sector_count g i) (fat_cell g i) × Wrote c.table_rules.new.work c.cell_rules.new.work 0 (sector_count g i)) = (rw c.tables_of-t.ensures at c.cell_rules.ensures.answer, (rw c.tables_of-t.ensures at c.cell_rules.ensures.holds, rw c.tables_of-t.ensures at c.cell_rules.ensures.wrote)) in asked')).1.1 (listed (goal.at.returns-then-not-cell_rules c).Else-not-table_rules).sized) in wrote_both'))
+returns-then-not-cell_rules c =
+    let header : let p = c.args in header_rules (geometry_of p.g) p.img.now ≡ true = said_yes (ap not c.if-not-header_rules.false) c.header_rules.ensures in
+    let wrote' : let p = c.args in Wrote p.work.now c.table_rules.new.work 0 (work_need (length p.img.now)) = tables_wrote _ _ c.table_rules.ensures.left c.table_rules.auto.work in
+    let asked : let p = c.args in let g = geometry_of p.g in let i = p.img.now in (c.cell_rules.result ≡ cell_rules (sector_space g i)) × (Holds c.cell_rules.new.work 0 (sector_count g i) (fat_cell g i) × Wrote c.table_rules.new.work c.cell_rules.new.work 0 (sector_count g i)) = (rw c.tables_of-t.ensures at c.cell_rules.ensures.answer, (rw c.tables_of-t.ensures at c.cell_rules.ensures.holds, rw c.tables_of-t.ensures at c.cell_rules.ensures.wrote)) in
+    let wrote_both : let p = c.args in let g = geometry_of p.g in let i = p.img.now in Wrote p.work.now c.cell_rules.new.work 0 (work_need (length i)) = wrote_two wrote' (cells_wrote _ _ asked.1.1 (listed (goal.at.returns-then-not-cell_rules c).Else-not-table_rules).sized) in
+    stage_refused _ _ _ Cells (cells_break _ _ header (tables (goal.at.returns-then-not-cell_rules c).Else-not-table_rules) (said_no (ap not c.if-not-cell_rules.true) asked.0)) wrote_both
 
 pub directory_length-requires : goal.directory_length-requires
-directory_length-requires c = rw c.tables_of-t.ensures (record { fat_listed = (let still' : let p = c.args in let g = geometry_of p.g in let i = p.img.now in FatListedAt g i c.cell_rules.new.work (sector_count g i) (list_place i) = cells_listed _ _ ((let asked' : let p = c.args in let g = geometry_of p.g in let i = p.img.now in (c.cell_rules.result ≡ cell_rules (sector_space g i)) × (Holds c.cell_rules.new.work 0 (sector_count g i) (fat_cell g i) × Wrote c.table_rules.new.work c.cell_rules.new.work 0 (sector_count g i)) = (rw c.tables_of-t.ensures at c.cell_rules.ensures.answer, (rw c.tables_of-t.ensures at c.cell_rules.ensures.holds, rw c.tables_of-t.ensures at c.cell_rules.ensures.wrote)) in asked')).1.1 (listed (goal.at.directory_length-requires c).Else-not-table_rules) in still'); holds = ((let asked' : let p = c.args in let g = geometry_of p.g in let i = p.img.now in (c.cell_rules.result ≡ cell_rules (sector_space g i)) × (Holds c.cell_rules.new.work 0 (sector_count g i) (fat_cell g i) × Wrote c.table_rules.new.work c.cell_rules.new.work 0 (sector_count g i)) = (rw c.tables_of-t.ensures at c.cell_rules.ensures.answer, (rw c.tables_of-t.ensures at c.cell_rules.ensures.holds, rw c.tables_of-t.ensures at c.cell_rules.ensures.wrote)) in asked')).1.0 })
+directory_length-requires c =
+    let asked : let p = c.args in let g = geometry_of p.g in let i = p.img.now in (c.cell_rules.result ≡ cell_rules (sector_space g i)) × (Holds c.cell_rules.new.work 0 (sector_count g i) (fat_cell g i) × Wrote c.table_rules.new.work c.cell_rules.new.work 0 (sector_count g i)) = (rw c.tables_of-t.ensures at c.cell_rules.ensures.answer, (rw c.tables_of-t.ensures at c.cell_rules.ensures.holds, rw c.tables_of-t.ensures at c.cell_rules.ensures.wrote)) in
+    let still : let p = c.args in let g = geometry_of p.g in let i = p.img.now in FatListedAt g i c.cell_rules.new.work (sector_count g i) (list_place i) = cells_listed _ _ asked.1.1 (listed (goal.at.directory_length-requires c).Else-not-table_rules) in
+    rw c.tables_of-t.ensures (record { fat_listed = still; holds = asked.1.0 })
 
 pub entry_groups-requires : goal.entry_groups-requires
-entry_groups-requires c = (let hold' : let p = c.args in let g = geometry_of p.g in let i = p.img.now in TablesHold g i c.cell_rules.new.work c.in-Is.n = record { listed = (let still' : let p = c.args in let g = geometry_of p.g in let i = p.img.now in FatListedAt g i c.cell_rules.new.work (sector_count g i) (list_place i) = cells_listed _ _ ((let asked' : let p = c.args in let g = geometry_of p.g in let i = p.img.now in (c.cell_rules.result ≡ cell_rules (sector_space g i)) × (Holds c.cell_rules.new.work 0 (sector_count g i) (fat_cell g i) × Wrote c.table_rules.new.work c.cell_rules.new.work 0 (sector_count g i)) = (rw c.tables_of-t.ensures at c.cell_rules.ensures.answer, (rw c.tables_of-t.ensures at c.cell_rules.ensures.holds, rw c.tables_of-t.ensures at c.cell_rules.ensures.wrote)) in asked')).1.1 (listed (goal.at.entry_groups-requires c).Else-not-table_rules) in still'); whole = omega (arith, c.requires.img_in_bounds, c.table_rules.auto.work, ((let asked' : let p = c.args in let g = geometry_of p.g in let i = p.img.now in (c.cell_rules.result ≡ cell_rules (sector_space g i)) × (Holds c.cell_rules.new.work 0 (sector_count g i) (fat_cell g i) × Wrote c.table_rules.new.work c.cell_rules.new.work 0 (sector_count g i)) = (rw c.tables_of-t.ensures at c.cell_rules.ensures.answer, (rw c.tables_of-t.ensures at c.cell_rules.ensures.holds, rw c.tables_of-t.ensures at c.cell_rules.ensures.wrote)) in asked')).1.1.long); tables = tables (goal.at.entry_groups-requires c).Else-not-table_rules; cells = cells (goal.at.entry_groups-requires c).Else-not-cell_rules; chained = has_length _ _ ((let found' : let p = c.args in let g = geometry_of p.g in let i = p.img.now in c.directory_length.result ≡ length_answer (directory_rules (volume g i)) (length (directory_sectors_of g i)) = rw c.tables_of-t.ensures at c.directory_length.ensures in found')) c.in-Is.is; count = length_is _ _ ((let found' : let p = c.args in let g = geometry_of p.g in let i = p.img.now in c.directory_length.result ≡ length_answer (directory_rules (volume g i)) (length (directory_sectors_of g i)) = rw c.tables_of-t.ensures at c.directory_length.ensures in found')) c.in-Is.is } in hold')
+entry_groups-requires c =
+    let found : let p = c.args in let g = geometry_of p.g in let i = p.img.now in c.directory_length.result ≡ length_answer (directory_rules (volume g i)) (length (directory_sectors_of g i)) = rw c.tables_of-t.ensures at c.directory_length.ensures in
+    let asked : let p = c.args in let g = geometry_of p.g in let i = p.img.now in (c.cell_rules.result ≡ cell_rules (sector_space g i)) × (Holds c.cell_rules.new.work 0 (sector_count g i) (fat_cell g i) × Wrote c.table_rules.new.work c.cell_rules.new.work 0 (sector_count g i)) = (rw c.tables_of-t.ensures at c.cell_rules.ensures.answer, (rw c.tables_of-t.ensures at c.cell_rules.ensures.holds, rw c.tables_of-t.ensures at c.cell_rules.ensures.wrote)) in
+    let still : let p = c.args in let g = geometry_of p.g in let i = p.img.now in FatListedAt g i c.cell_rules.new.work (sector_count g i) (list_place i) = cells_listed _ _ asked.1.1 (listed (goal.at.entry_groups-requires c).Else-not-table_rules) in
+    let hold : let p = c.args in let g = geometry_of p.g in let i = p.img.now in TablesHold g i c.cell_rules.new.work c.in-Is.n = record { listed = still; whole = omega (arith, c.requires.img_in_bounds, c.table_rules.auto.work, asked.1.1.long); tables = tables (goal.at.entry_groups-requires c).Else-not-table_rules; cells = cells (goal.at.entry_groups-requires c).Else-not-cell_rules; chained = has_length _ _ found c.in-Is.is; count = length_is _ _ found c.in-Is.is } in
+    hold
 
 pub returns-in-Is : goal.returns-in-Is
-returns-in-Is c = stage_later (tables_hold_lem _ _ ((let header' : let p = c.args in header_rules (geometry_of p.g) p.img.now ≡ true = said_yes (ap not c.if-not-header_rules.false) c.header_rules.ensures in header')) (tables (goal.at.returns-in-Is c).Else-not-table_rules) (cells (goal.at.returns-in-Is c).Else-not-cell_rules) ((let hold' : let p = c.args in let g = geometry_of p.g in let i = p.img.now in TablesHold g i c.cell_rules.new.work c.in-Is.n = record { listed = (let still' : let p = c.args in let g = geometry_of p.g in let i = p.img.now in FatListedAt g i c.cell_rules.new.work (sector_count g i) (list_place i) = cells_listed _ _ ((let asked' : let p = c.args in let g = geometry_of p.g in let i = p.img.now in (c.cell_rules.result ≡ cell_rules (sector_space g i)) × (Holds c.cell_rules.new.work 0 (sector_count g i) (fat_cell g i) × Wrote c.table_rules.new.work c.cell_rules.new.work 0 (sector_count g i)) = (rw c.tables_of-t.ensures at c.cell_rules.ensures.answer, (rw c.tables_of-t.ensures at c.cell_rules.ensures.holds, rw c.tables_of-t.ensures at c.cell_rules.ensures.wrote)) in asked')).1.1 (listed (goal.at.returns-in-Is c).Else-not-table_rules) in still'); whole = omega (arith, c.requires.img_in_bounds, c.table_rules.auto.work, ((let asked' : let p = c.args in let g = geometry_of p.g in let i = p.img.now in (c.cell_rules.result ≡ cell_rules (sector_space g i)) × (Holds c.cell_rules.new.work 0 (sector_count g i) (fat_cell g i) × Wrote c.table_rules.new.work c.cell_rules.new.work 0 (sector_count g i)) = (rw c.tables_of-t.ensures at c.cell_rules.ensures.answer, (rw c.tables_of-t.ensures at c.cell_rules.ensures.holds, rw c.tables_of-t.ensures at c.cell_rules.ensures.wrote)) in asked')).1.1.long); tables = tables (goal.at.returns-in-Is c).Else-not-table_rules; cells = cells (goal.at.returns-in-Is c).Else-not-cell_rules; chained = has_length _ _ ((let found' : let p = c.args in let g = geometry_of p.g in let i = p.img.now in c.directory_length.result ≡ length_answer (directory_rules (volume g i)) (length (directory_sectors_of g i)) = rw c.tables_of-t.ensures at c.directory_length.ensures in found')) c.in-Is.is; count = length_is _ _ ((let found' : let p = c.args in let g = geometry_of p.g in let i = p.img.now in c.directory_length.result ≡ length_answer (directory_rules (volume g i)) (length (directory_sectors_of g i)) = rw c.tables_of-t.ensures at c.directory_length.ensures in found')) c.in-Is.is } in hold')).chained) ((let wrote_both' : let p = c.args in let g = geometry_of p.g in let i = p.img.now in Wrote p.work.now c.cell_rules.new.work 0 (work_need (length i)) = wrote_two ((let wrote' : let p = c.args in Wrote p.work.now c.table_rules.new.work 0 (work_need (length p.img.now)) = tables_wrote _ _ c.table_rules.ensures.left c.table_rules.auto.work in wrote')) (cells_wrote _ _ ((let asked' : let p = c.args in let g = geometry_of p.g in let i = p.img.now in (c.cell_rules.result ≡ cell_rules (sector_space g i)) × (Holds c.cell_rules.new.work 0 (sector_count g i) (fat_cell g i) × Wrote c.table_rules.new.work c.cell_rules.new.work 0 (sector_count g i)) = (rw c.tables_of-t.ensures at c.cell_rules.ensures.answer, (rw c.tables_of-t.ensures at c.cell_rules.ensures.holds, rw c.tables_of-t.ensures at c.cell_rules.ensures.wrote)) in asked')).1.1 (listed (goal.at.returns-in-Is c).Else-not-table_rules).sized) in wrote_both')) c.entry_groups.ensures
+returns-in-Is c =
+    let header : let p = c.args in header_rules (geometry_of p.g) p.img.now ≡ true = said_yes (ap not c.if-not-header_rules.false) c.header_rules.ensures in
+    let wrote' : let p = c.args in Wrote p.work.now c.table_rules.new.work 0 (work_need (length p.img.now)) = tables_wrote _ _ c.table_rules.ensures.left c.table_rules.auto.work in
+    let found : let p = c.args in let g = geometry_of p.g in let i = p.img.now in c.directory_length.result ≡ length_answer (directory_rules (volume g i)) (length (directory_sectors_of g i)) = rw c.tables_of-t.ensures at c.directory_length.ensures in
+    let asked : let p = c.args in let g = geometry_of p.g in let i = p.img.now in (c.cell_rules.result ≡ cell_rules (sector_space g i)) × (Holds c.cell_rules.new.work 0 (sector_count g i) (fat_cell g i) × Wrote c.table_rules.new.work c.cell_rules.new.work 0 (sector_count g i)) = (rw c.tables_of-t.ensures at c.cell_rules.ensures.answer, (rw c.tables_of-t.ensures at c.cell_rules.ensures.holds, rw c.tables_of-t.ensures at c.cell_rules.ensures.wrote)) in
+    let still : let p = c.args in let g = geometry_of p.g in let i = p.img.now in FatListedAt g i c.cell_rules.new.work (sector_count g i) (list_place i) = cells_listed _ _ asked.1.1 (listed (goal.at.returns-in-Is c).Else-not-table_rules) in
+    let wrote_both : let p = c.args in let g = geometry_of p.g in let i = p.img.now in Wrote p.work.now c.cell_rules.new.work 0 (work_need (length i)) = wrote_two wrote' (cells_wrote _ _ asked.1.1 (listed (goal.at.returns-in-Is c).Else-not-table_rules).sized) in
+    let hold : let p = c.args in let g = geometry_of p.g in let i = p.img.now in TablesHold g i c.cell_rules.new.work c.in-Is.n = record { listed = still; whole = omega (arith, c.requires.img_in_bounds, c.table_rules.auto.work, asked.1.1.long); tables = tables (goal.at.returns-in-Is c).Else-not-table_rules; cells = cells (goal.at.returns-in-Is c).Else-not-cell_rules; chained = has_length _ _ found c.in-Is.is; count = length_is _ _ found c.in-Is.is } in
+    stage_later (tables_hold_lem _ _ header (tables (goal.at.returns-in-Is c).Else-not-table_rules) (cells (goal.at.returns-in-Is c).Else-not-cell_rules) hold.chained) wrote_both c.entry_groups.ensures
 
 pub returns-in-Never : goal.returns-in-Never
-returns-in-Never c = stage_refused _ _ _ Directory (directory_breaks _ _ ((let header' : let p = c.args in header_rules (geometry_of p.g) p.img.now ≡ true = said_yes (ap not c.if-not-header_rules.false) c.header_rules.ensures in header')) (tables (goal.at.returns-in-Never c).Else-not-table_rules) (cells (goal.at.returns-in-Never c).Else-not-cell_rules) (has_none _ _ ((let found' : let p = c.args in let g = geometry_of p.g in let i = p.img.now in c.directory_length.result ≡ length_answer (directory_rules (volume g i)) (length (directory_sectors_of g i)) = rw c.tables_of-t.ensures at c.directory_length.ensures in found')) c.in-Never.is)) ((let wrote_both' : let p = c.args in let g = geometry_of p.g in let i = p.img.now in Wrote p.work.now c.cell_rules.new.work 0 (work_need (length i)) = wrote_two ((let wrote' : let p = c.args in Wrote p.work.now c.table_rules.new.work 0 (work_need (length p.img.now)) = tables_wrote _ _ c.table_rules.ensures.left c.table_rules.auto.work in wrote')) (cells_wrote _ _ ((let asked' : let p = c.args in let g = geometry_of p.g in let i = p.img.now in (c.cell_rules.result ≡ cell_rules (sector_space g i)) × (Holds c.cell_rules.new.work 0 (sector_count g i) (fat_cell g i) × Wrote c.table_rules.new.work c.cell_rules.new.work 0 (sector_count g i)) = (rw c.tables_of-t.ensures at c.cell_rules.ensures.answer, (rw c.tables_of-t.ensures at c.cell_rules.ensures.holds, rw c.tables_of-t.ensures at c.cell_rules.ensures.wrote)) in asked')).1.1 (listed (goal.at.returns-in-Never c).Else-not-table_rules).sized) in wrote_both'))
+returns-in-Never c =
+    let header : let p = c.args in header_rules (geometry_of p.g) p.img.now ≡ true = said_yes (ap not c.if-not-header_rules.false) c.header_rules.ensures in
+    let wrote' : let p = c.args in Wrote p.work.now c.table_rules.new.work 0 (work_need (length p.img.now)) = tables_wrote _ _ c.table_rules.ensures.left c.table_rules.auto.work in
+    let found : let p = c.args in let g = geometry_of p.g in let i = p.img.now in c.directory_length.result ≡ length_answer (directory_rules (volume g i)) (length (directory_sectors_of g i)) = rw c.tables_of-t.ensures at c.directory_length.ensures in
+    let asked : let p = c.args in let g = geometry_of p.g in let i = p.img.now in (c.cell_rules.result ≡ cell_rules (sector_space g i)) × (Holds c.cell_rules.new.work 0 (sector_count g i) (fat_cell g i) × Wrote c.table_rules.new.work c.cell_rules.new.work 0 (sector_count g i)) = (rw c.tables_of-t.ensures at c.cell_rules.ensures.answer, (rw c.tables_of-t.ensures at c.cell_rules.ensures.holds, rw c.tables_of-t.ensures at c.cell_rules.ensures.wrote)) in
+    let wrote_both : let p = c.args in let g = geometry_of p.g in let i = p.img.now in Wrote p.work.now c.cell_rules.new.work 0 (work_need (length i)) = wrote_two wrote' (cells_wrote _ _ asked.1.1 (listed (goal.at.returns-in-Never c).Else-not-table_rules).sized) in
+    stage_refused _ _ _ Directory (directory_breaks _ _ header (tables (goal.at.returns-in-Never c).Else-not-table_rules) (cells (goal.at.returns-in-Never c).Else-not-cell_rules) (has_none _ _ found c.in-Never.is)) wrote_both
