@@ -25,7 +25,7 @@ def write(crate, tests, name, lead):
         found = re.findall(r"^unfoldable pub (\S+)", text, re.M)
         if found:
             items = ", ".join("%s as %s·%s" % (n, "·".join(mod), n) for n in found)
-            uses.append("use Rattle·%s.specs.%s.{%s}" % (crate, ".".join(mod), items))
+            uses.append("use Rattle.%s.specs.%s.{%s}" % (crate, ".".join(mod), items))
             opened += ["%s·%s" % ("·".join(mod), n) for n in found]
     lines = [lead, "-- Written by tools/opened.py."]
     lines += uses + ["", "unfoldable pub %s : Unit {0}" % name, "unfolding " + " ".join(opened), name + " = tt", ""]
@@ -33,4 +33,4 @@ def write(crate, tests, name, lead):
 
 
 write("format", "format_tests", "opened", "-- Every definition of `format`, opened at once: a theorem that computes says `unfolding opened`.")
-write("pulse_laws", "pulse_tests", "openedPulse", "-- Every definition of `pulse_laws`, opened at once.")
+write("pulse_laws", "pulse_tests", "opened_pulse", "-- Every definition of `pulse_laws`, opened at once.")

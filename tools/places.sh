@@ -26,7 +26,7 @@ target=$DESTDIR$prefix
 cd "$(dirname "$0")/.."
 version=$(cat VERSION)
 major=${version%%.*}
-library=${CFB_LIB_DIR:-target/staticlib}/libcfb_c.a
+library=${CFB_LIB_DIR:-crates/cfb_c/out}/libcfb_c.a
 binary=cli/target/release/cfb
 shared=target/shared/libcfb.so.$version
 

@@ -7,11 +7,11 @@ fn main() {
     let here = env::var("CARGO_MANIFEST_DIR").expect("set by cargo");
     let folder = match env::var_os("CFB_LIB_DIR") {
         Some(named) => PathBuf::from(named),
-        None => Path::new(&here).join("../../target/staticlib"),
+        None => Path::new(&here).join("../../crates/cfb_c/out"),
     };
     let library = folder.join("libcfb_c.a");
     if !library.is_file() {
-        println!("cargo:warning={} is not there: `rt staticlib cfb_c` in the repository builds it", library.display());
+        println!("cargo:warning={} is not there: `tools/static` in the repository builds it", library.display());
     }
     println!("cargo:rustc-link-search=native={}", folder.display());
     println!("cargo:rustc-link-lib=static=cfb_c");
