@@ -23,14 +23,14 @@ returns-in_default c =
     let a = c.args in
     let vol = volume_in a.v a.img.now in
     let z = find_stopped vol a.path.now _ c.find_in-f.ensures c.refusal.ensures in
-    let l = length_refused (geometry_of a.v.tables.geometry) vol a.img.now a.path.now a.new-len c.refusal.result z in record { result_value = l.0; img_after = l.1; wrote = wrote_none _ 0 _ }
+    let l = length_refused (geometry_of a.v.tables.geometry) vol a.img.now a.path.now a.new_len c.refusal.result z in record { result_value = l.0; img_after = l.1; wrote = wrote_none _ 0 _ }
 
 pub returns-then-not-is_stream : goal.returns-then-not-is_stream
 returns-then-not-is_stream c =
     let found : let a = c.args in FindRight (volume_in a.v a.img.now) a.path.now (Entry c.in-Entry.e) = let a = c.args in subst (λ u. FindRight (volume_in a.v a.img.now) a.path.now u) c.in-Entry.is c.find_in-f.ensures in
     let a = c.args in
     let vol = volume_in a.v a.img.now in
-    let l = length_refused (geometry_of a.v.tables.geometry) vol a.img.now a.path.now a.new-len NotAStream (find_other vol a.path.now _ found (eqb-false _ _ (sym c.is_stream.ensures ∙ c.if-not-is_stream.true))) in record { result_value = l.0; img_after = l.1; wrote = wrote_none _ 0 _ }
+    let l = length_refused (geometry_of a.v.tables.geometry) vol a.img.now a.path.now a.new_len NotAStream (find_other vol a.path.now _ found (eqb-false _ _ (sym c.is_stream.ensures ∙ c.if-not-is_stream.true))) in record { result_value = l.0; img_after = l.1; wrote = wrote_none _ 0 _ }
 
 pub returns-then-e-new_len : goal.returns-then-e-new_len
 returns-then-e-new_len c =
@@ -39,7 +39,7 @@ returns-then-e-new_len c =
     let vol = volume_in a.v a.img.now in
     let f = found in
     let k = eqb-true _ _ (sym c.is_stream.ensures ∙ c.if-not-is_stream.false) in
-    let l = length_same (geometry_of a.v.tables.geometry) vol a.img.now a.path.now a.new-len _ _ (find_target vol a.path.now _ f k) (find_stream vol a.path.now _ f k).sized c.if-e-new_len.true in record { result_value = l.0; img_after = l.1; wrote = wrote_none _ 0 _ }
+    let l = length_same (geometry_of a.v.tables.geometry) vol a.img.now a.path.now a.new_len _ _ (find_target vol a.path.now _ f k) (find_stream vol a.path.now _ f k).sized c.if-e-new_len.true in record { result_value = l.0; img_after = l.1; wrote = wrote_none _ 0 _ }
 
 pub move_stream-moved-requires : goal.move_stream-moved-requires
 move_stream-moved-requires c =
@@ -55,7 +55,7 @@ returns-then-crossing c =
     let vol = volume_in a.v a.img.now in
     let f = found in
     let k = eqb-true _ _ (sym c.is_stream.ensures ∙ c.if-not-is_stream.false) in
-    let l = length_across (geometry_of a.v.tables.geometry) vol a.img.now a.path.now a.new-len _ _ (find_target vol a.path.now _ f k) (find_stream vol a.path.now _ f k).sized (own_geometry _ _) (sym c.crossing.ensures ∙ c.if-crossing.true) c.move_stream-moved.ensures.answer_value c.move_stream-moved.ensures.img_after in record { result_value = l.0; img_after = l.1; wrote = c.move_stream-moved.ensures.wrote }
+    let l = length_across (geometry_of a.v.tables.geometry) vol a.img.now a.path.now a.new_len _ _ (find_target vol a.path.now _ f k) (find_stream vol a.path.now _ f k).sized (own_geometry _ _) (sym c.crossing.ensures ∙ c.if-crossing.true) c.move_stream-moved.ensures.answer_value c.move_stream-moved.ensures.img_after in record { result_value = l.0; img_after = l.1; wrote = c.move_stream-moved.ensures.wrote }
 
 pub change_length-changed-requires : goal.change_length-changed-requires
 change_length-changed-requires c =
@@ -71,4 +71,4 @@ returns c =
     let vol = volume_in a.v a.img.now in
     let f = found in
     let k = eqb-true _ _ (sym c.is_stream.ensures ∙ c.if-not-is_stream.false) in
-    let l = length_within (geometry_of a.v.tables.geometry) vol a.img.now a.path.now a.new-len _ _ (find_target vol a.path.now _ f k) (find_stream vol a.path.now _ f k).sized (sym c.crossing.ensures ∙ c.if-crossing.false) c.change_length-changed.ensures.answer_value c.change_length-changed.ensures.img_after in record { result_value = l.0; img_after = l.1; wrote = c.change_length-changed.ensures.wrote }
+    let l = length_within (geometry_of a.v.tables.geometry) vol a.img.now a.path.now a.new_len _ _ (find_target vol a.path.now _ f k) (find_stream vol a.path.now _ f k).sized (sym c.crossing.ensures ∙ c.if-crossing.false) c.change_length-changed.ensures.answer_value c.change_length-changed.ensures.img_after in record { result_value = l.0; img_after = l.1; wrote = c.change_length-changed.ensures.wrote }

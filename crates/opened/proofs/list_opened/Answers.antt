@@ -15,4 +15,4 @@ returns c =
     let a = c.args in
     let q = list a.out.now a.work.now in
     let l = list_any _ _ a.image.now a.work.now a.out.now in
-    (c.list_in.ensures.result_value ∙ l.0 ∙ opened_reply c.requires q refl, (c.list_in.ensures.out_after ∙ l.1 ∙ opened_out c.requires q refl, opened_same c.requires c.list_in.ensures.wrote))
+    record { result_value = c.list_in.ensures.result_value ∙ l.0 ∙ opened_reply c.requires q refl; out_after = c.list_in.ensures.out_after ∙ l.1 ∙ opened_out c.requires q refl; open_volume = (opened_same c.requires c.list_in.ensures.wrote).0; wrote = (opened_same c.requires c.list_in.ensures.wrote).1 }

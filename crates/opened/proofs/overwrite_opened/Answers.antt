@@ -16,4 +16,4 @@ returns c =
     let q = overwrite a.path.now a.offset a.bytes.now a.work.now in
     let l = overwrite_any _ _ a.image.now a.work.now a.path.now a.offset a.bytes.now c.overwrite_in.ensures.result_value in
     let m = c.overwrite_in.ensures.img_after ∙ l.1 ∙ opened_image c.requires q refl in
-    (l.0 ∙ opened_reply c.requires q refl, (m, opened_edited c.requires q m c.overwrite_in.ensures.wrote))
+    record { result_value = l.0 ∙ opened_reply c.requires q refl; image_after = m; open_volume = (opened_edited c.requires q m c.overwrite_in.ensures.wrote).0; wrote = (opened_edited c.requires q m c.overwrite_in.ensures.wrote).1 }

@@ -16,4 +16,4 @@ returns c =
     let q = remove a.path.now a.work.now in
     let l = remove_any _ _ a.image.now a.work.now a.path.now c.remove_in.ensures.answer in
     let m = c.remove_in.ensures.image ∙ l.1 ∙ opened_image c.requires q refl in
-    (l.0 ∙ opened_reply c.requires q refl, (m, opened_edited c.requires q m c.remove_in.ensures.wrote))
+    record { result_value = l.0 ∙ opened_reply c.requires q refl; image_after = m; open_volume = (opened_edited c.requires q m c.remove_in.ensures.wrote).0; wrote = (opened_edited c.requires q m c.remove_in.ensures.wrote).1 }

@@ -80,7 +80,7 @@ returns-then-not-g c =
     let first : let a = c.args in (kind_of c.start_unit-first.result ≡ kind_for (max a.e.size a.new)) × (number_in c.start_unit-first.result ≡ start ((volume_in a.v a.img.now).directory.entry a.e.id.0)) = let f = stream_start c.requires.fact c.requires.stream_at _ c.kind_for-kind.result c.place.ensures c.start_unit-first.ensures in (f.0 ∙ kind_is (goal.at.returns-then-not-g c).After-kind_for-kind, f.1) in
     let answered : let a = c.args in let sp = space_at a.v a.img.now (kind_for (max a.e.size a.new)) in let old = c.units_for-old.result in let need = c.units_for-need.result in c.gather-g.result.enough ≡ not (ltb (old + length (free_units sp)) need) = rw first.0 at (growth_enough _ _ _ c.gather-g.ensures.value_2) in
     let looked' : let a = c.args in let vol = volume_in a.v a.img.now in (c.gather-g.result.looked ≡ cells_looked (length_searches vol a.e.id.0 a.new)) × (c.gather-g.result.looked ≤ (space_for vol a.new).limit) = let n = (rw first.0 at (growth_looked _ _ _ c.gather-g.ensures.value_2)) ∙ looked_is c.requires.fact c.requires.stream_at c.args.new c.requires.value _ _ (many (goal.at.returns-then-not-g c).After-units_for-old) wanted in (n, omega (arith, n, length_most (volume_in c.args.v c.args.img.now) c.args.e.id.0 c.args.new)) in
-    (too_few c.requires.fact c.requires.stream_at c.args.new c.requires.value _ _ (many (goal.at.returns-then-not-g c).After-units_for-old) wanted (ap not c.if-not-g.true) answered, (refl, (c.gather-g.ensures.wrote, looked')))
+    record { answer_value = too_few c.requires.fact c.requires.stream_at c.args.new c.requires.value _ _ (many (goal.at.returns-then-not-g c).After-units_for-old) wanted (ap not c.if-not-g.true) answered; img_after = refl; wrote = c.gather-g.ensures.wrote; looked_value = looked'.0; looked_bound = looked'.1 }
 
 pub resize-requires : goal.resize-requires
 unfolding on_zero
@@ -102,4 +102,4 @@ returns c =
     let answered : let a = c.args in let sp = space_at a.v a.img.now (kind_for (max a.e.size a.new)) in let old = c.units_for-old.result in let need = c.units_for-need.result in c.gather-g.result.enough ≡ not (ltb (old + length (free_units sp)) need) = rw first.0 at (growth_enough _ _ _ c.gather-g.ensures.value_2) in
     let enough : let a = c.args in let sp = space_at a.v a.img.now (kind_for (max a.e.size a.new)) in (ltb (c.units_for-old.result + length (free_units sp)) c.units_for-need.result ≡ false) × (0 ≡ length_answer (geometry_of a.v.tables.geometry) (volume_in a.v a.img.now) a.e.size a.new) = enough_free c.requires.fact c.requires.stream_at c.args.new c.requires.value _ _ (many (goal.at.returns c).After-units_for-old) wanted (ap not c.if-not-g.false) answered in
     let looked' : let a = c.args in let vol = volume_in a.v a.img.now in (c.gather-g.result.looked ≡ cells_looked (length_searches vol a.e.id.0 a.new)) × (c.gather-g.result.looked ≤ (space_for vol a.new).limit) = let n = (rw first.0 at (growth_looked _ _ _ c.gather-g.ensures.value_2)) ∙ looked_is c.requires.fact c.requires.stream_at c.args.new c.requires.value _ _ (many (goal.at.returns c).After-units_for-old) wanted in (n, omega (arith, n, length_most (volume_in c.args.v c.args.img.now) c.args.e.id.0 c.args.new)) in
-    (enough.1, (c.resize.ensures, (c.gather-g.ensures.wrote, looked')))
+    record { answer_value = enough.1; img_after = c.resize.ensures; wrote = c.gather-g.ensures.wrote; looked_value = looked'.0; looked_bound = looked'.1 }

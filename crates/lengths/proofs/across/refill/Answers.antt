@@ -25,7 +25,7 @@ put_bytes-requires c =
     let grown : let a = c.args in let cut = c.resize.new.img in c.resize-2.new.img ≡ resized (volume_in a.v cut) cut a.e.id.0 a.new = rw c.with_size.ensures at c.resize-2.ensures in
     let wrote' : let a = c.args in Wrote a.work.now c.move_down.new.work 0 a.v.stream = wrote_wider 0 _ c.move_down.ensures.wrote (omega arith) (omega (arith, lists_fit c.requires.fact c.requires.stream_at c.args.new c.requires.value _ _ c.requires.both_listed)) in
     rw c.kind_for.ensures
-    (put_asks c.requires.fact c.requires.stream_at c.args.new c.requires.value _ _ c.requires.both_listed c.move_down.ensures.front wrote' c.requires.bytes_value c.resize.ensures grown)
+    (let r = put_asks c.requires.fact c.requires.stream_at c.args.new c.requires.value _ _ c.requires.both_listed c.move_down.ensures.front wrote' c.requires.bytes_value c.resize.ensures grown in record { writable = r.0; bytes_bound = r.1 })
 
 pub returns : goal.returns
 returns c =
