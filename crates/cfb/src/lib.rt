@@ -2,8 +2,8 @@
 #![tactic(auto)]
 
 ghost use Rattle.std.specs.Prelude.{◌≡◌, length};
-ghost use Rattle.format.specs.Calls.Call.{validate as validateCall, find as findCall, read as readCall, overwrite as overwriteCall, set_length as lengthCall};
-ghost use Rattle.format.specs.Calls.Call.{create as createCall, remove as removeCall, list as listCall, read_at as readAtCall};
+ghost use Rattle.format.specs.Calls.Call.{validate as validate_call, find as find_call, read as read_call, overwrite as overwrite_call, set_length as length_call};
+ghost use Rattle.format.specs.Calls.Call.{create as create_call, remove as remove_call, list as list_call, read_at as read_at_call};
 ghost use Rattle.format.specs.Calls.Create.{stream, storage};
 ghost use Rattle.format.specs.Calls.Reply.{plain, reply};
 ghost use Rattle.format.specs.Calls.Buffers.{image_after, out_after, work_after};
@@ -28,8 +28,8 @@ use volume::Opened;
 
 // Whether an image keeps all rules; where not, the first group that it breaks.
 pub fn validate(image: &[u8], work: &mut [u32]) -> Answer
-    ensures result_value { plain (number_of result) ≡ reply image.now (validateCall work.old) }
-    ensures work_after { work.new ≡ work_after image.now (validateCall work.old) }
+    ensures result_value { plain (number_of result) ≡ reply image.now (validate_call work.old) }
+    ensures work_after { work.new ≡ work_after image.now (validate_call work.old) }
 {
     match open_image(image, work) {
         Opened::Refused(a) => return Answer::Refused(a),
@@ -40,8 +40,8 @@ pub fn validate(image: &[u8], work: &mut [u32]) -> Answer
 
 // The entry that a path leads to: its number, its type and its size.
 pub fn find(image: &[u8], work: &mut [u32], path: &[u16]) -> Find
-    ensures result_value { find_reply result ≡ reply image.now (findCall path.now work.old) }
-    ensures work_after { work.new ≡ work_after image.now (findCall path.now work.old) }
+    ensures result_value { find_reply result ≡ reply image.now (find_call path.now work.old) }
+    ensures work_after { work.new ≡ work_after image.now (find_call path.now work.old) }
 {
     match open_image(image, work) {
         Opened::Refused(a) => Find::Refused(a),
@@ -55,9 +55,9 @@ pub fn find(image: &[u8], work: &mut [u32], path: &[u16]) -> Find
 
 // Bytes of the stream that a path leads to, from an offset on: as many as are left of it and as the out buffer holds.
 pub fn read(image: &[u8], work: &mut [u32], path: &[u16], offset: u64, out: &mut [u8]) -> Read
-    ensures result_value { read_reply result ≡ reply image.now (readCall path.now offset out.old work.old) }
-    ensures out_after { out.new ≡ out_after image.now (readCall path.now offset out.old work.old) }
-    ensures work_after { work.new ≡ work_after image.now (readCall path.now offset out.old work.old) }
+    ensures result_value { read_reply result ≡ reply image.now (read_call path.now offset out.old work.old) }
+    ensures out_after { out.new ≡ out_after image.now (read_call path.now offset out.old work.old) }
+    ensures work_after { work.new ≡ work_after image.now (read_call path.now offset out.old work.old) }
 {
     match open_image(image, work) {
         Opened::Refused(a) => Read::Refused(a),
@@ -77,9 +77,9 @@ pub fn read_at(
     position: u64,
     out: &mut [u8],
 ) -> Read
-    ensures result_value { read_reply result ≡ reply image.now (readAtCall entry.0 position out.old work.old) }
-    ensures out_after { out.new ≡ out_after image.now (readAtCall entry.0 position out.old work.old) }
-    ensures work_after { work.new ≡ work_after image.now (readAtCall entry.0 position out.old work.old) }
+    ensures result_value { read_reply result ≡ reply image.now (read_at_call entry.0 position out.old work.old) }
+    ensures out_after { out.new ≡ out_after image.now (read_at_call entry.0 position out.old work.old) }
+    ensures work_after { work.new ≡ work_after image.now (read_at_call entry.0 position out.old work.old) }
 {
     match open_image(image, work) {
         Opened::Refused(a) => Read::Refused(a),
@@ -100,11 +100,11 @@ pub fn overwrite(
     bytes: &[u8],
 ) -> Answer
     ensures result_value { plain (number_of result)
-        ≡ reply image.old (overwriteCall path.now offset bytes.now work.old) }
+        ≡ reply image.old (overwrite_call path.now offset bytes.now work.old) }
     ensures image_after { image.new
-        ≡ image_after image.old (overwriteCall path.now offset bytes.now work.old) }
+        ≡ image_after image.old (overwrite_call path.now offset bytes.now work.old) }
     ensures work_after { work.new
-        ≡ work_after image.old (overwriteCall path.now offset bytes.now work.old) }
+        ≡ work_after image.old (overwrite_call path.now offset bytes.now work.old) }
 {
     match open_image(image, work) {
         Opened::Refused(a) => Answer::Refused(a),
@@ -118,9 +118,9 @@ pub fn overwrite(
 
 // Gives the stream that a path leads to another length: cut there, or with zero bytes up to there.
 pub fn set_length(image: &mut [u8], work: &mut [u32], path: &[u16], new_len: u64) -> Answer
-    ensures result_value { plain (number_of result) ≡ reply image.old (lengthCall path.now new_len work.old) }
-    ensures image_after { image.new ≡ image_after image.old (lengthCall path.now new_len work.old) }
-    ensures work_after { work.new ≡ work_after image.old (lengthCall path.now new_len work.old) }
+    ensures result_value { plain (number_of result) ≡ reply image.old (length_call path.now new_len work.old) }
+    ensures image_after { image.new ≡ image_after image.old (length_call path.now new_len work.old) }
+    ensures work_after { work.new ≡ work_after image.old (length_call path.now new_len work.old) }
 {
     match open_image(image, work) {
         Opened::Refused(a) => Answer::Refused(a),
@@ -134,9 +134,9 @@ pub fn set_length(image: &mut [u8], work: &mut [u32], path: &[u16], new_len: u64
 
 // An object at a path, where nothing is yet.
 fn create(image: &mut [u8], work: &mut [u32], path: &[u16], kind: NewKind) -> Answer
-    ensures result_value { plain (number_of result) ≡ reply image.old (createCall (new_kind_of kind) path.now work.old) }
-    ensures image_after { image.new ≡ image_after image.old (createCall (new_kind_of kind) path.now work.old) }
-    ensures work_after { work.new ≡ work_after image.old (createCall (new_kind_of kind) path.now work.old) }
+    ensures result_value { plain (number_of result) ≡ reply image.old (create_call (new_kind_of kind) path.now work.old) }
+    ensures image_after { image.new ≡ image_after image.old (create_call (new_kind_of kind) path.now work.old) }
+    ensures work_after { work.new ≡ work_after image.old (create_call (new_kind_of kind) path.now work.old) }
 {
     match open_image(image, work) {
         Opened::Refused(a) => Answer::Refused(a),
@@ -150,27 +150,27 @@ fn create(image: &mut [u8], work: &mut [u32], path: &[u16], kind: NewKind) -> An
 
 // A stream of no bytes at a path, where nothing is yet.
 pub fn create_stream(image: &mut [u8], work: &mut [u32], path: &[u16]) -> Answer
-    ensures result_value { plain (number_of result) ≡ reply image.old (createCall stream path.now work.old) }
-    ensures image_after { image.new ≡ image_after image.old (createCall stream path.now work.old) }
-    ensures work_after { work.new ≡ work_after image.old (createCall stream path.now work.old) }
+    ensures result_value { plain (number_of result) ≡ reply image.old (create_call stream path.now work.old) }
+    ensures image_after { image.new ≡ image_after image.old (create_call stream path.now work.old) }
+    ensures work_after { work.new ≡ work_after image.old (create_call stream path.now work.old) }
 {
     create(image, work, path, NewKind::Stream)
 }
 
 // A storage with nothing in it at a path, where nothing is yet.
 pub fn create_storage(image: &mut [u8], work: &mut [u32], path: &[u16]) -> Answer
-    ensures result_value { plain (number_of result) ≡ reply image.old (createCall storage path.now work.old) }
-    ensures image_after { image.new ≡ image_after image.old (createCall storage path.now work.old) }
-    ensures work_after { work.new ≡ work_after image.old (createCall storage path.now work.old) }
+    ensures result_value { plain (number_of result) ≡ reply image.old (create_call storage path.now work.old) }
+    ensures image_after { image.new ≡ image_after image.old (create_call storage path.now work.old) }
+    ensures work_after { work.new ≡ work_after image.old (create_call storage path.now work.old) }
 {
     create(image, work, path, NewKind::Storage)
 }
 
 // Removes the object that a path leads to: a stream, or a storage with nothing in it.
 pub fn remove(image: &mut [u8], work: &mut [u32], path: &[u16]) -> Answer
-    ensures result_value { plain (number_of result) ≡ reply image.old (removeCall path.now work.old) }
-    ensures image_after { image.new ≡ image_after image.old (removeCall path.now work.old) }
-    ensures work_after { work.new ≡ work_after image.old (removeCall path.now work.old) }
+    ensures result_value { plain (number_of result) ≡ reply image.old (remove_call path.now work.old) }
+    ensures image_after { image.new ≡ image_after image.old (remove_call path.now work.old) }
+    ensures work_after { work.new ≡ work_after image.old (remove_call path.now work.old) }
 {
     match open_image(image, work) {
         Opened::Refused(a) => Answer::Refused(a),
@@ -184,9 +184,9 @@ pub fn remove(image: &mut [u8], work: &mut [u32], path: &[u16]) -> Answer
 
 // A line for each object, in an out buffer that has room for all of them.
 pub fn list(image: &[u8], work: &mut [u32], out: &mut [u8]) -> List
-    ensures result_value { list_reply result ≡ reply image.now (listCall out.old work.old) }
-    ensures out_after { out.new ≡ out_after image.now (listCall out.old work.old) }
-    ensures work_after { work.new ≡ work_after image.now (listCall out.old work.old) }
+    ensures result_value { list_reply result ≡ reply image.now (list_call out.old work.old) }
+    ensures out_after { out.new ≡ out_after image.now (list_call out.old work.old) }
+    ensures work_after { work.new ≡ work_after image.now (list_call out.old work.old) }
 {
     match open_image(image, work) {
         Opened::Refused(a) => List::Refused(a),

@@ -2,8 +2,8 @@
 #![tactic(auto)]
 
 ghost use Rattle.std.specs.Prelude.{◌≡◌, length};
-ghost use Rattle.format.specs.Calls.Call.{validate as validateCall, find as findCall, read as readCall, overwrite as overwriteCall, set_length as lengthCall};
-ghost use Rattle.format.specs.Calls.Call.{create as createCall, remove as removeCall, list as listCall, read_at as readAtCall};
+ghost use Rattle.format.specs.Calls.Call.{validate as validate_call, find as find_call, read as read_call, overwrite as overwrite_call, set_length as length_call};
+ghost use Rattle.format.specs.Calls.Call.{create as create_call, remove as remove_call, list as list_call, read_at as read_at_call};
 ghost use Rattle.format.specs.Calls.Create.{stream, storage};
 ghost use Rattle.format.specs.Calls.Reply.{plain, reply};
 ghost use Rattle.format.specs.Calls.Buffers.{image_after, out_after, work_after};
@@ -27,8 +27,8 @@ pub mod pulse_calls;
 
 #[unsafe(no_mangle)]
 pub extern "C" fn cfb_validate(image: &[u8], work: &mut [u32]) -> u32
-    ensures result_value { plain result ≡ reply image.now (validateCall work.old) }
-    ensures work_after { work.new ≡ work_after image.now (validateCall work.old) }
+    ensures result_value { plain result ≡ reply image.now (validate_call work.old) }
+    ensures work_after { work.new ≡ work_after image.now (validate_call work.old) }
 {
     number(validate(image, work))
 }
@@ -43,8 +43,8 @@ pub extern "C" fn cfb_find(
     size: &mut u64,
 ) -> u32
     ensures count_after { record { number = result; entry = entry.new; type = kind.new; size = size.new; count = 0 }
-        ≡ reply image.now (findCall path.now work.old) }
-    ensures work_after { work.new ≡ work_after image.now (findCall path.now work.old) }
+        ≡ reply image.now (find_call path.now work.old) }
+    ensures work_after { work.new ≡ work_after image.now (find_call path.now work.old) }
 {
     match find(image, work, path) {
         Find::Entry(e) => {
@@ -82,9 +82,9 @@ pub extern "C" fn cfb_read(
     count: &mut u64,
 ) -> u32
     ensures count_after { record { number = result; entry = 0; type = 0; size = 0; count = count.new }
-        ≡ reply image.now (readCall path.now offset out.old work.old) }
-    ensures out_after { out.new ≡ out_after image.now (readCall path.now offset out.old work.old) }
-    ensures work_after { work.new ≡ work_after image.now (readCall path.now offset out.old work.old) }
+        ≡ reply image.now (read_call path.now offset out.old work.old) }
+    ensures out_after { out.new ≡ out_after image.now (read_call path.now offset out.old work.old) }
+    ensures work_after { work.new ≡ work_after image.now (read_call path.now offset out.old work.old) }
 {
     match read(image, work, path, offset, out) {
         Read::Done(n) => {
@@ -105,9 +105,9 @@ pub extern "C" fn cfb_read_at(
     count: &mut u64,
 ) -> u32
     ensures count_after { record { number = result; entry = 0; type = 0; size = 0; count = count.new }
-        ≡ reply image.now (readAtCall entry position out.old work.old) }
-    ensures out_after { out.new ≡ out_after image.now (readAtCall entry position out.old work.old) }
-    ensures work_after { work.new ≡ work_after image.now (readAtCall entry position out.old work.old) }
+        ≡ reply image.now (read_at_call entry position out.old work.old) }
+    ensures out_after { out.new ≡ out_after image.now (read_at_call entry position out.old work.old) }
+    ensures work_after { work.new ≡ work_after image.now (read_at_call entry position out.old work.old) }
 {
     match read_at(image, work, EntryId(entry), position, out) {
         Read::Done(n) => {
@@ -126,47 +126,47 @@ pub extern "C" fn cfb_overwrite(
     offset: u64,
     bytes: &[u8],
 ) -> u32
-    ensures result_value { plain result ≡ reply image.old (overwriteCall path.now offset bytes.now work.old) }
+    ensures result_value { plain result ≡ reply image.old (overwrite_call path.now offset bytes.now work.old) }
     ensures image_after { image.new
-        ≡ image_after image.old (overwriteCall path.now offset bytes.now work.old) }
+        ≡ image_after image.old (overwrite_call path.now offset bytes.now work.old) }
     ensures work_after { work.new
-        ≡ work_after image.old (overwriteCall path.now offset bytes.now work.old) }
+        ≡ work_after image.old (overwrite_call path.now offset bytes.now work.old) }
 {
     number(overwrite(image, work, path, offset, bytes))
 }
 
 #[unsafe(no_mangle)]
 pub extern "C" fn cfb_set_len(image: &mut [u8], work: &mut [u32], path: &[u16], new_len: u64) -> u32
-    ensures result_value { plain result ≡ reply image.old (lengthCall path.now new_len work.old) }
-    ensures image_after { image.new ≡ image_after image.old (lengthCall path.now new_len work.old) }
-    ensures work_after { work.new ≡ work_after image.old (lengthCall path.now new_len work.old) }
+    ensures result_value { plain result ≡ reply image.old (length_call path.now new_len work.old) }
+    ensures image_after { image.new ≡ image_after image.old (length_call path.now new_len work.old) }
+    ensures work_after { work.new ≡ work_after image.old (length_call path.now new_len work.old) }
 {
     number(set_length(image, work, path, new_len))
 }
 
 #[unsafe(no_mangle)]
 pub extern "C" fn cfb_create_stream(image: &mut [u8], work: &mut [u32], path: &[u16]) -> u32
-    ensures result_value { plain result ≡ reply image.old (createCall stream path.now work.old) }
-    ensures image_after { image.new ≡ image_after image.old (createCall stream path.now work.old) }
-    ensures work_after { work.new ≡ work_after image.old (createCall stream path.now work.old) }
+    ensures result_value { plain result ≡ reply image.old (create_call stream path.now work.old) }
+    ensures image_after { image.new ≡ image_after image.old (create_call stream path.now work.old) }
+    ensures work_after { work.new ≡ work_after image.old (create_call stream path.now work.old) }
 {
     number(create_stream(image, work, path))
 }
 
 #[unsafe(no_mangle)]
 pub extern "C" fn cfb_create_storage(image: &mut [u8], work: &mut [u32], path: &[u16]) -> u32
-    ensures result_value { plain result ≡ reply image.old (createCall storage path.now work.old) }
-    ensures image_after { image.new ≡ image_after image.old (createCall storage path.now work.old) }
-    ensures work_after { work.new ≡ work_after image.old (createCall storage path.now work.old) }
+    ensures result_value { plain result ≡ reply image.old (create_call storage path.now work.old) }
+    ensures image_after { image.new ≡ image_after image.old (create_call storage path.now work.old) }
+    ensures work_after { work.new ≡ work_after image.old (create_call storage path.now work.old) }
 {
     number(create_storage(image, work, path))
 }
 
 #[unsafe(no_mangle)]
 pub extern "C" fn cfb_remove(image: &mut [u8], work: &mut [u32], path: &[u16]) -> u32
-    ensures result_value { plain result ≡ reply image.old (removeCall path.now work.old) }
-    ensures image_after { image.new ≡ image_after image.old (removeCall path.now work.old) }
-    ensures work_after { work.new ≡ work_after image.old (removeCall path.now work.old) }
+    ensures result_value { plain result ≡ reply image.old (remove_call path.now work.old) }
+    ensures image_after { image.new ≡ image_after image.old (remove_call path.now work.old) }
+    ensures work_after { work.new ≡ work_after image.old (remove_call path.now work.old) }
 {
     number(remove(image, work, path))
 }
@@ -174,9 +174,9 @@ pub extern "C" fn cfb_remove(image: &mut [u8], work: &mut [u32], path: &[u16]) -
 #[unsafe(no_mangle)]
 pub extern "C" fn cfb_list(image: &[u8], work: &mut [u32], out: &mut [u8], count: &mut u64) -> u32
     ensures count_after { record { number = result; entry = 0; type = 0; size = 0; count = count.new }
-        ≡ reply image.now (listCall out.old work.old) }
-    ensures out_after { out.new ≡ out_after image.now (listCall out.old work.old) }
-    ensures work_after { work.new ≡ work_after image.now (listCall out.old work.old) }
+        ≡ reply image.now (list_call out.old work.old) }
+    ensures out_after { out.new ≡ out_after image.now (list_call out.old work.old) }
+    ensures work_after { work.new ≡ work_after image.now (list_call out.old work.old) }
 {
     match list(image, work, out) {
         List::Done(n) => {

@@ -2,8 +2,8 @@
 // and the work buffer are as `cfb_open` or the last call left them.
 ghost use Rattle.std.specs.Prelude.{◌≡◌, ◌≢◌, length};
 ghost use Rattle.format.specs.Rules.Length.{work_need};
-ghost use Rattle.format.specs.Calls.Call.{validate as validateCall, find as findCall, read as readCall, overwrite as overwriteCall, set_length as lengthCall};
-ghost use Rattle.format.specs.Calls.Call.{create as createCall, remove as removeCall, list as listCall, read_at as readAtCall};
+ghost use Rattle.format.specs.Calls.Call.{validate as validate_call, find as find_call, read as read_call, overwrite as overwrite_call, set_length as length_call};
+ghost use Rattle.format.specs.Calls.Call.{create as create_call, remove as remove_call, list as list_call, read_at as read_at_call};
 ghost use Rattle.format.specs.Calls.Create.{stream, storage};
 ghost use Rattle.format.specs.Calls.Reply.{plain, reply};
 ghost use Rattle.format.specs.Calls.Buffers.{work_cleared, image_after, out_after, work_after};
@@ -83,10 +83,10 @@ fn unpack(volume: &[u64; 9]) -> Volume
 
 #[unsafe(no_mangle)]
 pub extern "C" fn cfb_open(image: &[u8], work: &mut [u32], volume: &mut [u64; 9]) -> u32
-    ensures result_value { plain result ≡ reply image.now (validateCall work.old) }
+    ensures result_value { plain result ≡ reply image.now (validate_call work.old) }
     ensures open_volume { result ≡ 0 → OpenVolume (unpacked volume.new) image.now work.new }
     ensures wrote { result ≡ 0 → Wrote work.old work.new 0 (work_need (length image.now)) }
-    ensures work_after { result ≢ 0 → work.new ≡ work_after image.now (validateCall work.old) }
+    ensures work_after { result ≢ 0 → work.new ≡ work_after image.now (validate_call work.old) }
     ensures volume_unchanged { result ≢ 0 → volume.new ≡ volume.old }
 {
     match open_image(image, work) {
@@ -120,7 +120,7 @@ pub extern "C" fn cfb_opened_find(
 ) -> u32
     requires { OpenVolume (unpacked volume.now) image.now work.now }
     ensures { record { number = result; entry = entry.new; type = kind.new; size = size.new; count = 0 }
-        ≡ reply image.now (findCall path.now work.now) }
+        ≡ reply image.now (find_call path.now work.now) }
 {
     match find_opened(image, work, unpack(volume), path) {
         Find::Entry(e) => {
@@ -151,9 +151,9 @@ pub extern "C" fn cfb_opened_read(
 ) -> u32
     requires { OpenVolume (unpacked volume.now) image.now work.now }
     ensures count_after { record { number = result; entry = 0; type = 0; size = 0; count = count.new }
-        ≡ reply image.now (readCall path.now offset out.old work.now) }
+        ≡ reply image.now (read_call path.now offset out.old work.now) }
     ensures out_after { out.new
-        ≡ out_after image.now (readCall path.now offset out.old work.now) }
+        ≡ out_after image.now (read_call path.now offset out.old work.now) }
 {
     match read_opened(image, work, unpack(volume), path, offset, out) {
         Read::Done(n) => {
@@ -176,8 +176,8 @@ pub extern "C" fn cfb_opened_read_at(
 ) -> u32
     requires { OpenVolume (unpacked volume.now) image.now work.now }
     ensures count_after { record { number = result; entry = 0; type = 0; size = 0; count = count.new }
-        ≡ reply image.now (readAtCall entry position out.old work.now) }
-    ensures out_after { out.new ≡ out_after image.now (readAtCall entry position out.old work.now) }
+        ≡ reply image.now (read_at_call entry position out.old work.now) }
+    ensures out_after { out.new ≡ out_after image.now (read_at_call entry position out.old work.now) }
 {
     match read_at_opened(image, work, unpack(volume), EntryId(entry), position, out) {
         Read::Done(n) => {
@@ -199,9 +199,9 @@ pub extern "C" fn cfb_opened_overwrite(
 ) -> u32
     requires { OpenVolume (unpacked volume.now) image.old work.old }
     ensures result_value { plain result
-        ≡ reply image.old (overwriteCall path.now offset bytes.now work.old) }
+        ≡ reply image.old (overwrite_call path.now offset bytes.now work.old) }
     ensures image_after { image.new
-        ≡ image_after image.old (overwriteCall path.now offset bytes.now work.old) }
+        ≡ image_after image.old (overwrite_call path.now offset bytes.now work.old) }
     ensures open_volume { OpenVolume (unpacked volume.now) image.new work.new }
     ensures wrote { Wrote work.old work.new 0 (work_need (length image.old)) }
 {
@@ -217,9 +217,9 @@ pub extern "C" fn cfb_opened_set_len(
     new_len: u64,
 ) -> u32
     requires { OpenVolume (unpacked volume.now) image.old work.old }
-    ensures result_value { plain result ≡ reply image.old (lengthCall path.now new_len work.old) }
+    ensures result_value { plain result ≡ reply image.old (length_call path.now new_len work.old) }
     ensures image_after { image.new
-        ≡ image_after image.old (lengthCall path.now new_len work.old) }
+        ≡ image_after image.old (length_call path.now new_len work.old) }
     ensures open_volume { OpenVolume (unpacked volume.now) image.new work.new }
     ensures wrote { Wrote work.old work.new 0 (work_need (length image.old)) }
 {
@@ -234,8 +234,8 @@ pub extern "C" fn cfb_opened_create_stream(
     path: &[u16],
 ) -> u32
     requires { OpenVolume (unpacked volume.now) image.old work.now }
-    ensures result_value { plain result ≡ reply image.old (createCall stream path.now work.now) }
-    ensures image_after { image.new ≡ image_after image.old (createCall stream path.now work.now) }
+    ensures result_value { plain result ≡ reply image.old (create_call stream path.now work.now) }
+    ensures image_after { image.new ≡ image_after image.old (create_call stream path.now work.now) }
     ensures open_volume { OpenVolume (unpacked volume.now) image.new work.now }
 {
     number(create_opened(image, work, unpack(volume), path, NewKind::Stream))
@@ -249,8 +249,8 @@ pub extern "C" fn cfb_opened_create_storage(
     path: &[u16],
 ) -> u32
     requires { OpenVolume (unpacked volume.now) image.old work.now }
-    ensures result_value { plain result ≡ reply image.old (createCall storage path.now work.now) }
-    ensures image_after { image.new ≡ image_after image.old (createCall storage path.now work.now) }
+    ensures result_value { plain result ≡ reply image.old (create_call storage path.now work.now) }
+    ensures image_after { image.new ≡ image_after image.old (create_call storage path.now work.now) }
     ensures open_volume { OpenVolume (unpacked volume.now) image.new work.now }
 {
     number(create_opened(image, work, unpack(volume), path, NewKind::Storage))
@@ -264,8 +264,8 @@ pub extern "C" fn cfb_opened_remove(
     path: &[u16],
 ) -> u32
     requires { OpenVolume (unpacked volume.now) image.old work.old }
-    ensures result_value { plain result ≡ reply image.old (removeCall path.now work.old) }
-    ensures image_after { image.new ≡ image_after image.old (removeCall path.now work.old) }
+    ensures result_value { plain result ≡ reply image.old (remove_call path.now work.old) }
+    ensures image_after { image.new ≡ image_after image.old (remove_call path.now work.old) }
     ensures open_volume { OpenVolume (unpacked volume.now) image.new work.new }
     ensures wrote { Wrote work.old work.new 0 (work_need (length image.old)) }
 {
@@ -282,8 +282,8 @@ pub extern "C" fn cfb_opened_list(
 ) -> u32
     requires { OpenVolume (unpacked volume.now) image.now work.old }
     ensures count_after { record { number = result; entry = 0; type = 0; size = 0; count = count.new }
-        ≡ reply image.now (listCall out.old work.old) }
-    ensures out_after { out.new ≡ out_after image.now (listCall out.old work.old) }
+        ≡ reply image.now (list_call out.old work.old) }
+    ensures out_after { out.new ≡ out_after image.now (list_call out.old work.old) }
     ensures open_volume { OpenVolume (unpacked volume.now) image.now work.new }
     ensures wrote { Wrote work.old work.new 0 (work_need (length image.now)) }
 {

@@ -2,7 +2,7 @@
 #![tactic(auto)]
 
 ghost use Rattle.std.specs.Prelude.{◌≡◌, ◌≤◌, ◌<◌, length};
-ghost use Rattle.format.specs.Layout.Entry.{kind as kind_of, colour as colourOf, left as left_of, right as right_of, child as child_of, name};
+ghost use Rattle.format.specs.Layout.Entry.{kind as kind_of, colour as colour_of, left as left_of, right as right_of, child as child_of, name};
 ghost use Rattle.format.specs.Rules.Trees.{is_object};
 ghost use Rattle.kinds.specs.Ordering.{ordering};
 ghost use Rattle.directory.specs.Listed.{count_of, entries_of, place_of, DirectoryListed, Placed, NamedIn};
@@ -57,7 +57,7 @@ pub fn type_of(img: &[u8], work: &[u32], d: Directory, x: EntryId) -> EntryType
 pub fn colour_of(img: &[u8], work: &[u32], d: Directory, x: EntryId) -> u8
     requires directory_listed { DirectoryListed d img.now work.now }
     requires x_bound { x.0 < (entries_of d img.now).count }
-    ensures { result ≡ colourOf ((entries_of d img.now).entry x.0) }
+    ensures { result ≡ colour_of ((entries_of d img.now).entry x.0) }
 {
     colour(img, place(work, d, x))
 }

@@ -24,7 +24,7 @@ use Rattle.format.specs.Calls.Answer.{first_of, beyond, target, target_answer, a
 use Rattle.format.specs.Calls.Buffers.{edited}
 use Rattle.theory.proofs.Chains.{chain_linked, linked_below}
 use Rattle.theory.proofs.RoundUp.{round_enough}
-use Rattle.frame.specs.Good.{space_of as sideSpace}
+use Rattle.frame.specs.Good.{space_of as side_space}
 use Rattle.kinds.specs.Numbers.{refusal_number}
 use Rattle.kinds.specs.declared.Refusal.{Refusal}
 use Rattle.kinds.specs.declared.Refusal.TheVariants.{Beyond}
@@ -124,4 +124,4 @@ module _ {v : Opened} {img : Bytes} {w : List ℕ} (o : Open v img w) {e : Objec
         ∙ ap₂ (λ sp us. put_chain sp us img offset bytes) space_is (l ∙ own.1)
       where
         space_is : space_at v img (kind_for e.size) ≡ space_for (volume_in v img) (stream_size (volume_in v img) e.id.0)
-        space_is = kind_side (volume_in v img) e.size ∙ ap (λ z. sideSpace (volume_in v img) (ltb z cutoff)) s.sized
+        space_is = kind_side (volume_in v img) e.size ∙ ap (λ z. side_space (volume_in v img) (ltb z cutoff)) s.sized

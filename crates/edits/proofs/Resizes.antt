@@ -28,7 +28,7 @@ use Rattle.theory.proofs.Chains.{chain_linked, linked_below, length_units}
 use Rattle.theory.proofs.FreeUnits.{resized_from, pool_short}
 use Rattle.theory.proofs.RoundUp.{round_zero, round_enough}
 use Rattle.theory.proofs.Loops.{said_no, said_yes}
-use Rattle.frame.specs.Good.{space_of as sideSpace}
+use Rattle.frame.specs.Good.{space_of as side_space}
 use Rattle.frame.proofs.LengthUnits.{sides_uncrossed}
 use Rattle.kinds.specs.Sizes.{geometry_of}
 use Rattle.directory.specs.Listed.{place_of}
@@ -73,7 +73,7 @@ module _ {v : Opened} {img : Bytes} {w : List ℕ} (o : Open v img w) {e : Objec
 
   space_is : sp ≡ edit_space vol e.id.0 new
   unfolding edit_space space_for
-  space_is = kind_side vol (max e.size new) ∙ ap (λ n. sideSpace vol (ltb (max n new) cutoff)) s.sized
+  space_is = kind_side vol (max e.size new) ∙ ap (λ n. side_space vol (ltb (max n new) cutoff)) s.sized
 
   -- ---- the answer
 
@@ -106,7 +106,7 @@ module _ {v : Opened} {img : Bytes} {w : List ℕ} (o : Open v img w) {e : Objec
   looked_none : new ≡ 0 → cells_looked (searches_for sp old need) ≡ cells_looked (length_searches vol e.id.0 new)
   unfolding length_searches space_for
   looked_none z =
-      let to = sideSpace vol (ltb new cutoff) in
+      let to = side_space vol (ltb new cutoff) in
       let a : need ≡ 0 = wanted ∙ ap (λ n. round_up n sp.unit) z ∙ round_zero sp.unit (units_stand o.ready k).some in
       let b : round_up new to.unit ≡ 0 = ap (λ n. round_up n to.unit) z ∙ round_zero to.unit ((good o).unit (ltb new cutoff)) in
       sym (own_looked sp old need (omega arith)) ∙ own_looked to (length (kept_units vol e.id.0 new)) (round_up new to.unit) (omega arith)
@@ -114,7 +114,7 @@ module _ {v : Opened} {img : Bytes} {w : List ℕ} (o : Open v img w) {e : Objec
   looked_here : ltb new cutoff ≡ ltb (max e.size new) cutoff → cells_looked (searches_for sp old need) ≡ cells_looked (length_searches vol e.id.0 new)
   unfolding space_for
   looked_here h =
-      let here : sp ≡ sideSpace vol (ltb new cutoff) = kind_side vol (max e.size new) ∙ ap (sideSpace vol) (sym h) in
+      let here : sp ≡ side_space vol (ltb new cutoff) = kind_side vol (max e.size new) ∙ ap (side_space vol) (sym h) in
       let long : length (stream_units vol e.id.0) ≡ old = sym (ap length own.1) ∙ length_units sp.cell old (start (vol.directory.entry e.id.0)) in
       ap (λ n. cells_looked (searches_for sp old n)) wanted
       ∙ ap (λ z. cells_looked (searches_for z old (round_up new z.unit))) here

@@ -15,7 +15,7 @@ use Rattle.format.specs.Layout.Volume.{Volume}
 use Rattle.format.specs.Layout.Stream.{space_for, stream_units, stream_size}
 use Rattle.format.specs.Calls.SetLength.{small, crosses}
 use Rattle.theory.proofs.Chains.{linked_chain}
-use Rattle.frame.specs.Good.{Good, space_of as sideSpace}
+use Rattle.frame.specs.Good.{Good, space_of as side_space}
 use Rattle.frame.proofs.Good.{groups_good}
 use Rattle.frame.proofs.LengthUnits.{old_units_linked, old_units_length}
 use Rattle.kinds.specs.Sizes.{geometry_of}
@@ -27,7 +27,7 @@ use Rattle.queries.specs.declared.find.Object.{Object}
 use Rattle.queries.specs.Streams.{StreamAt}
 
 -- the kind of a length and the side of the cutoff that it lies on
-pub kind_side : (vol : Volume) (n : ℕ) → space_in vol (kind_for n) ≡ sideSpace vol (ltb n cutoff)
+pub kind_side : (vol : Volume) (n : ℕ) → space_in vol (kind_for n) ≡ side_space vol (ltb n cutoff)
 unfolding space_for
 kind_side vol n = kind_space vol n
 
@@ -67,7 +67,7 @@ module _ {v : Opened} {img : Bytes} {w : List ℕ} (o : Open v img w) where
         (chain sp.cell sp.limit (round_up e.size sp.unit) (start (vol.directory.entry e.id.0)) ≡ true)
         × (units sp.cell (round_up e.size sp.unit) (start (vol.directory.entry e.id.0)) ≡ stream_units vol e.id.0)
     stream_chain_lem =
-        let sp = sideSpace vol (ltb (max (stream_size vol e.id.0) new) cutoff) in
+        let sp = side_space vol (ltb (max (stream_size vol e.id.0) new) cutoff) in
         rw (kind_side vol (max e.size new), s.sized)
         (linked_chain sp.cell sp.limit (round_up (stream_size vol e.id.0) sp.unit) (start (vol.directory.entry e.id.0)) (stream_units vol e.id.0)
         (old_units_linked vol good e.id.0 new s.inside s.stream within) (old_units_length vol good e.id.0 new s.inside s.stream within) (good.chains e.id.0 s.inside s.stream).head)

@@ -1,6 +1,6 @@
 // Overwrites: bytes put into the stream that a path leads to.
 ghost use Rattle.std.specs.Prelude.{◌≡◌, [], ◌+◌, ◌≤◌, ltb, length};
-ghost use Rattle.format.specs.Calls.Call.{overwrite as overwriteCall};
+ghost use Rattle.format.specs.Calls.Call.{overwrite as overwrite_call};
 ghost use Rattle.format.specs.Calls.Overwrite.{overwritten};
 ghost use Rattle.format.specs.Calls.Answer.{answer_in};
 ghost use Rattle.kinds.specs.Sizes.{geometry_of};
@@ -62,10 +62,10 @@ pub fn overwrite_in(
 ) -> Answer
     requires { Open v img.old work.old }
     ensures result_value { number_of result
-        ≡ answer_in (geometry_of v.tables.geometry) (volume_in v img.old) (overwriteCall path.now offset bytes.now []) }
+        ≡ answer_in (geometry_of v.tables.geometry) (volume_in v img.old) (overwrite_call path.now offset bytes.now []) }
     ensures img_after { img.new
         ≡ image_in (geometry_of v.tables.geometry) (volume_in v img.old) img.old
-        (overwriteCall path.now offset bytes.now []) }
+        (overwrite_call path.now offset bytes.now []) }
     ensures wrote { Wrote work.old work.new 0 v.stream }
 {
     let f = find_in(path, img, work, v);

@@ -3,7 +3,7 @@
 
 ghost use Rattle.std.specs.Prelude.{◌≡◌, ◌+◌, ◌≤◌, length};
 ghost use Rattle.format.specs.Basics.Bytes.{byte_at, u16at, u32at, part, all_zero};
-ghost use Rattle.format.specs.Layout.Entry.{name_bytes, kind as kind_of, colour as colourOf, start as start_of, size as sizeAsRead};
+ghost use Rattle.format.specs.Layout.Entry.{name_bytes, kind as kind_of, colour as colour_of, start as start_of, size as size_as_read};
 ghost use Rattle.format.specs.Layout.Geometry.{size_width};
 ghost use Rattle.format.specs.Layout.Entry.{left as left_of, right as right_of, child as child_of};
 ghost use Rattle.kinds.specs.Sizes.{geometry_of};
@@ -55,7 +55,7 @@ pub fn entry_type(img: &[u8], p: usize) -> EntryType
 
 pub fn colour(img: &[u8], p: usize) -> u8
     requires { p + 128 ≤ length img.now }
-    ensures { result ≡ colourOf (entry_at img.now p) }
+    ensures { result ≡ colour_of (entry_at img.now p) }
 {
     byte(img, p, 67)
 }
@@ -99,7 +99,7 @@ pub fn start_mini(img: &[u8], p: usize) -> MiniSector
 // The size as read: in version 3 only its lower half counts.
 pub fn size(img: &[u8], p: usize, g: Geometry) -> u64
     requires { p + 128 ≤ length img.now }
-    ensures { result ≡ sizeAsRead (size_width (geometry_of g)) (entry_at img.now p) }
+    ensures { result ≡ size_as_read (size_width (geometry_of g)) (entry_at img.now p) }
 {
     if g.major == 3 {
         return word(img, p, 120) as u64;

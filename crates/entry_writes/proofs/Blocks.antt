@@ -10,7 +10,7 @@ use Rattle.format.specs.Basics.Lists.{fit}
 use Rattle.format.specs.Basics.Bytes.{Bytes, le16, le32, le64, put_bytes, put16, put32, put64}
 use Rattle.format.specs.Layout.Name.{Name}
 use Rattle.format.specs.Layout.Entry.{Field, left_field, child_field, right_field, field_byte}
-use Rattle.format.specs.Layout.NewEntry.{no_links, blank_entry, utf16Bytes, entry_rest, new_entry}
+use Rattle.format.specs.Layout.NewEntry.{no_links, blank_entry, utf16_bytes, entry_rest, new_entry}
 use Rattle.theory.proofs.Sets.{sets_append_left, sets_append_right, lent_back}
 use Rattle.theory.proofs.Fits.{length_fit}
 use Rattle.frame.proofs.MadeEntries.{units_long, blank_long}
@@ -63,14 +63,14 @@ blank_lent b p x h e =
 
 pub record Units (b₀ : Bytes) (p : ℕ) (n : Name) (b : Bytes) (i : ℕ) : Type 0 where
   pub long : length b ≡ length b₀
-  pub rest : put_bytes b₀ p (utf16Bytes n) ≡ put_bytes b (p + 2 * i) (utf16Bytes (drop i n))
+  pub rest : put_bytes b₀ p (utf16_bytes n) ≡ put_bytes b (p + 2 * i) (utf16_bytes (drop i n))
 
 pub units_start : (b : Bytes) (p : ℕ) (n : Name) → Units b p n b 0
 units_start b p n = record { long = refl; rest = let e : p + 2 * 0 ≡ p = omega arith in rw e }
 
 module _ {b₀ : Bytes} {p : ℕ} {n : Name} {b : Bytes} {i : ℕ} (u : Units b₀ p n b i) where
   pub units_step : i < length n → Units b₀ p n (put16 b (p + 2 * i) (get_or n i 0)) (i + 1)
-  unfolding put_bytes put16 utf16Bytes le16
+  unfolding put_bytes put16 utf16_bytes le16
   units_step h = record {
     long = length-sets b (p + 2 * i) (le16 (get_or n i 0)) ∙ u.long;
     rest =
@@ -78,8 +78,8 @@ module _ {b₀ : Bytes} {p : ℕ} {n : Name} {b : Bytes} {i : ℕ} (u : Units b�
         u.rest ∙ rw (e, add-one, drop-cons n i 0 h);
   }
 
-  pub units_end : length n ≤ i → b ≡ put_bytes b₀ p (utf16Bytes n)
-  unfolding put_bytes utf16Bytes
+  pub units_end : length n ≤ i → b ≡ put_bytes b₀ p (utf16_bytes n)
+  unfolding put_bytes utf16_bytes
   units_end h = sym (u.rest ∙ rw (drop_of_length-le n {i = i} h))
 
 -- ---- a new entry
@@ -90,11 +90,11 @@ drop_zeros zero (suc k) = let e : 0 - suc k ≡ 0 = omega arith in rw e
 drop_zeros (suc m) (suc k) = let e : suc m - suc k ≡ m - k = omega arith in rw e (drop_zeros m k)
 
 -- the 64 bytes of the name
-name_built : (n : Name) → length n ≤ 31 → sets (replicate 64 0) 0 (utf16Bytes n) ≡ fit 64 (utf16Bytes n)
+name_built : (n : Name) → length n ≤ 31 → sets (replicate 64 0) 0 (utf16_bytes n) ≡ fit 64 (utf16_bytes n)
 unfolding fit
 name_built n h =
     let l = units_long n in
-    let u = utf16Bytes n in
+    let u = utf16_bytes n in
     let z : Bytes = replicate 64 0 in
     let k : 0 + length u ≡ length u = omega arith in
     sets-eq u z 0 (omega (arith, l, length-replicate {A = ℕ} 64 0))
@@ -132,11 +132,11 @@ rest_put a m k s z q =
 
 -- the blank entry with all of it
 entry_built : (n : Name) (k s z : ℕ) → length n ≤ 31
-    → sets (sets (sets (sets (sets (sets blank_entry 0 (utf16Bytes n)) 64 (le16 (2 * length n + 2))) 66 (k ∷ [])) 67 (1 ∷ [])) 116 (le32 s)) 120 (le64 z)
+    → sets (sets (sets (sets (sets (sets blank_entry 0 (utf16_bytes n)) 64 (le16 (2 * length n + 2))) 66 (k ∷ [])) 67 (1 ∷ [])) 116 (le32 s)) 120 (le64 z)
     ≡ new_entry n k s z
 unfolding new_entry
 entry_built n k s z h =
-    let u = utf16Bytes n in
+    let u = utf16_bytes n in
     let m = 2 * length n + 2 in
     let f : Bytes → Bytes = λ c. sets (sets (sets (sets (sets c 64 (le16 m)) 66 (k ∷ [])) 67 (1 ∷ [])) 116 (le32 s)) 120 (le64 z) in
     ap (λ (c : Bytes). f (sets c 0 u)) blank_parts
@@ -148,12 +148,12 @@ entry_built n k s z h =
 -- so it is built up where it stands
 pub new_built : (b : Bytes) (p : ℕ) (n : Name) (k s z : ℕ) → p + 128 ≤ length b → length n ≤ 31
     → put64
-    (put32 (put_bytes (put_bytes (put16 (put_bytes (put_bytes b p blank_entry) p (utf16Bytes n)) (p + 64) (2 * length n + 2)) (p + 66) (k ∷ [])) (p + 67) (1 ∷ [])) (p + 116) s)
+    (put32 (put_bytes (put_bytes (put16 (put_bytes (put_bytes b p blank_entry) p (utf16_bytes n)) (p + 64) (2 * length n + 2)) (p + 66) (k ∷ [])) (p + 67) (1 ∷ [])) (p + 116) s)
     (p + 120) z
     ≡ put_bytes b p (new_entry n k s z)
 unfolding put_bytes put16 put32 put64 le16 le32 le64
 new_built b p n k s z h l =
-    let u = utf16Bytes n in
+    let u = utf16_bytes n in
     let m = 2 * length n + 2 in
     let e1 = sets blank_entry 0 u in
     let e2 = sets e1 64 (le16 m) in

@@ -4,7 +4,7 @@
 ghost use Rattle.std.specs.Prelude.{◌≡◌, [], ◌∷◌, ◌+◌, ◌*◌, ◌≤◌, length};
 ghost use Rattle.format.specs.Basics.Bytes.{put_bytes, put32};
 ghost use Rattle.format.specs.Layout.Entry.{colour_byte, black, field_byte};
-ghost use Rattle.format.specs.Layout.NewEntry.{no_links, blank_entry, utf16Bytes, new_entry};
+ghost use Rattle.format.specs.Layout.NewEntry.{no_links, blank_entry, utf16_bytes, new_entry};
 ghost use Rattle.kinds.specs.Links.{link_field};
 
 use kinds::{EntryId, EntryType, Link};
@@ -50,7 +50,7 @@ fn put_no_links(img: &mut [u8], p: usize)
 // The units of a name, two bytes each.
 fn put_units(img: &mut [u8], p: usize, name: &[u16])
     requires { p + 2 * length name.now ≤ length img.old }
-    ensures { img.new ≡ put_bytes img.old p (utf16Bytes name.now) }
+    ensures { img.new ≡ put_bytes img.old p (utf16_bytes name.now) }
 {
     let mut i = 0;
     while i < name.len() {

@@ -11,12 +11,12 @@ use Rattle.format.specs.Layout.Tables.{difat_sector as Layout·Tables·difatSect
 use Rattle.format.specs.Layout.Name.{illegal as Layout·Name·illegal, legal_unit as Layout·Name·legalUnit, legal_name as Layout·Name·legalName, small_by20 as Layout·Name·smallBy20, small_by50 as Layout·Name·smallBy50, fold as Layout·Name·fold, units_less as Layout·Name·unitsLess, name_less as Layout·Name·nameLess, name_equal as Layout·Name·nameEqual}
 use Rattle.format.specs.Layout.PathOrder.{same_path as Layout·PathOrder·samePath, path_less as Layout·PathOrder·pathLess, is_below as Layout·PathOrder·isBelow, insert as Layout·PathOrder·insert}
 use Rattle.format.specs.Layout.Entry.{name_bytes as Layout·Entry·nameBytes, name_unit as Layout·Entry·nameUnit, name as Layout·Entry·name, kind as Layout·Entry·kind, colour as Layout·Entry·colour, left as Layout·Entry·left, right as Layout·Entry·right, child as Layout·Entry·child, clsid as Layout·Entry·clsid, created as Layout·Entry·created, modified as Layout·Entry·modified, start as Layout·Entry·start, size as Layout·Entry·size}
-use Rattle.format.specs.Layout.NewEntry.{no_links as Layout·NewEntry·noLinks, blank_entry as Layout·NewEntry·blankEntry, utf16Bytes as Layout·NewEntry·utf16Bytes, entry_rest as Layout·NewEntry·entryRest, new_entry as Layout·NewEntry·newEntry}
+use Rattle.format.specs.Layout.NewEntry.{no_links as Layout·NewEntry·noLinks, blank_entry as Layout·NewEntry·blankEntry, utf16_bytes as Layout·NewEntry·utf16_bytes, entry_rest as Layout·NewEntry·entryRest, new_entry as Layout·NewEntry·newEntry}
 use Rattle.format.specs.Layout.Directory.{directory_sectors as Layout·Directory·directorySectors, entry_place as Layout·Directory·entryPlace, entry_count as Layout·Directory·entryCount, entry_in as Layout·Directory·entryIn, directory_of as Layout·Directory·directoryOf, size_of as Layout·Directory·sizeOf, blank_at as Layout·Directory·blankAt, blanks as Layout·Directory·blanks}
 use Rattle.format.specs.Layout.Tree.{tree_of as Layout·Tree·treeOf, grow as Layout·Tree·grow, forest as Layout·Tree·forest, entries as Layout·Tree·entries, siblings as Layout·Tree·siblings, is_empty as Layout·Tree·isEmpty}
 use Rattle.format.specs.Layout.Siblings.{goes_left as Layout·Siblings·goesLeft, slot_in as Layout·Siblings·slotIn, greatest as Layout·Siblings·greatest, without_greatest as Layout·Siblings·withoutGreatest, below_greatest as Layout·Siblings·belowGreatest, sides_joined as Layout·Siblings·sidesJoined, without_node as Layout·Siblings·withoutNode}
 use Rattle.format.specs.Layout.Volume.{directory_sectors_of as Layout·Volume·directorySectorsOf, directory as Layout·Volume·directory, mini_fat_sectors as Layout·Volume·miniFatSectors, mini_stream_sectors as Layout·Volume·miniStreamSectors, mini_cells as Layout·Volume·miniCells, mini_space as Layout·Volume·miniSpace, volume as Layout·Volume·volume, root as Layout·Volume·root, root_size as Layout·Volume·rootSize, system_sectors as Layout·Volume·systemSectors, fixed_number as Layout·Volume·fixedNumber}
-use Rattle.format.specs.Layout.Objects.{object_at as Layout·Objects·objectAt, objects_in as Layout·Objects·objectsIn, objects_of as Layout·Objects·objectsOf, path_of as Layout·Objects·pathOf}
+use Rattle.format.specs.Layout.Objects.{object_at as Layout·Objects·objectAt, objects_in as Layout·Objects·objectsIn, objects_of as Layout·Objects·objectsOf, path_of as Layout·Objects·path_of}
 use Rattle.format.specs.Layout.Stream.{space_for as Layout·Stream·spaceFor, stream_size as Layout·Stream·streamSize, stream_units as Layout·Stream·streamUnits, contents as Layout·Stream·contents}
 use Rattle.format.specs.Rules.Length.{least_image as Rules·Length·leastImage, greatest_image as Rules·Length·greatestImage, length_allowed as Rules·Length·lengthAllowed, work_need as Rules·Length·workNeed}
 use Rattle.format.specs.Rules.Version.{version_of as Rules·Version·versionOf}
@@ -64,7 +64,7 @@ use Rattle.format.specs.History.Step.{change as History·Step·change, put_into 
 use Rattle.format.specs.History.Event.{image_step as History·Event·imageStep, after as History·Event·after, event_step as History·Event·eventStep, state_after as History·Event·stateAfter}
 use Rattle.format.specs.History.Claim.{is_edit as History·Claim·isEdit}
 use Rattle.format.specs.Claims.Folding.{former_fold as Claims·Folding·formerFold, former_less as Claims·Folding·formerLess, former_before as Claims·Folding·formerBefore, former_after as Claims·Folding·formerAfter, former_sides as Claims·Folding·formerSides, former_trees as Claims·Folding·formerTrees, former_late as Claims·Folding·formerLate, former_verdict as Claims·Folding·formerVerdict, steady_unit as Claims·Folding·steadyUnit, steady_name as Claims·Folding·steadyName, steady_names as Claims·Folding·steadyNames, plain_unit as Claims·Folding·plainUnit, plain_name as Claims·Folding·plainName, plain_names as Claims·Folding·plainNames}
-use Rattle.format.specs.Claims.FoldingPaths.{former_equal as Claims·FoldingPaths·formerEqual, former_child as Claims·FoldingPaths·formerChild, former_enter as Claims·FoldingPaths·formerEnter, former_descend as Claims·FoldingPaths·formerDescend, former_resolve as Claims·FoldingPaths·formerResolve, former_parent as Claims·FoldingPaths·formerParent, former_stream as Claims·FoldingPaths·formerStream, former_answer_in as Claims·FoldingPaths·formerAnswerIn, former_done as Claims·FoldingPaths·formerDone, former_answer as Claims·FoldingPaths·formerAnswer, former_reply as Claims·FoldingPaths·formerReply, path_of as Claims·FoldingPaths·pathOf}
+use Rattle.format.specs.Claims.FoldingPaths.{former_equal as Claims·FoldingPaths·formerEqual, former_child as Claims·FoldingPaths·formerChild, former_enter as Claims·FoldingPaths·formerEnter, former_descend as Claims·FoldingPaths·formerDescend, former_resolve as Claims·FoldingPaths·formerResolve, former_parent as Claims·FoldingPaths·formerParent, former_stream as Claims·FoldingPaths·formerStream, former_answer_in as Claims·FoldingPaths·formerAnswerIn, former_done as Claims·FoldingPaths·formerDone, former_answer as Claims·FoldingPaths·formerAnswer, former_reply as Claims·FoldingPaths·formerReply, path_of as Claims·FoldingPaths·path_of}
 use Rattle.format.specs.Claims.Search.{free_beside as Claims·Search·freeBeside, InTurns as Claims·Search·InTurns}
 use Rattle.format.specs.Claims.PathOrder.{rising as Claims·PathOrder·rising, other_path as Claims·PathOrder·otherPath, none_twice as Claims·PathOrder·noneTwice}
 use Rattle.format.specs.Claims.ListingText.{lines_of as Claims·ListingText·linesOf, first_word as Claims·ListingText·firstWord, other_words as Claims·ListingText·otherWords, decimal_value as Claims·ListingText·decimalValue, hex_value as Claims·ListingText·hexValue, read_units as Claims·ListingText·readUnits, read_name as Claims·ListingText·readName, type_of as Claims·ListingText·typeOf, read_line as Claims·ListingText·readLine, announced as Claims·ListingText·announced, read_listing as Claims·ListingText·readListing}
@@ -74,5 +74,5 @@ use Rattle.format.specs.Claims.Fresh.{fresh_fixed as Claims·Fresh·freshFixed, 
 use Rattle.format.specs.Claims.Repair.{is_red as Claims·Repair·isRed, red_entries as Claims·Repair·redEntries}
 
 unfoldable pub opened : Unit {0}
-unfolding Basics·Lists·allBelow Basics·Lists·all Basics·Lists·any Basics·Lists·listBelow Basics·Lists·joinBelow Basics·Lists·member Basics·Lists·distinct Basics·Lists·equal Basics·Lists·sum Basics·Lists·fit Basics·Lists·without Basics·Bytes·byteAt Basics·Bytes·part Basics·Bytes·number Basics·Bytes·u16at Basics·Bytes·u32at Basics·Bytes·u64at Basics·Bytes·isZero Basics·Bytes·allZero Basics·Bytes·le16 Basics·Bytes·le32 Basics·Bytes·le64 Basics·Bytes·putBytes Basics·Bytes·put16 Basics·Bytes·put32 Basics·Bytes·put64 Layout·Geometry·version3 Layout·Geometry·version4 Layout·Geometry·miniBytes Layout·Geometry·entryBytes Layout·Geometry·headerBytes Layout·Geometry·headerDifat Layout·Geometry·sizeWidth Layout·Geometry·countsDirectory Layout·Geometry·sectorCount Layout·Geometry·sectorPlace Layout·Geometry·placeIn Layout·Geometry·cellsIn Layout·Geometry·difatIn Layout·Geometry·entriesIn Layout·Need·cutoff Layout·Need·roundUp Layout·Need·miniNeed Layout·Need·sectorNeed Layout·Chain·chain Layout·Chain·units Layout·Chain·follow Layout·Space·freeUnits Layout·Space·allocated Layout·Space·chainFor Layout·Space·unitsFor Layout·Space·block Layout·Header·majorVersion Layout·Header·directoryCount Layout·Header·fatCount Layout·Header·directoryStart Layout·Header·miniFatStart Layout·Header·miniFatCount Layout·Header·difatStart Layout·Header·difatCount Layout·Header·difatPlace Layout·Tables·difatSector Layout·Tables·difatSectors Layout·Tables·difatEntry Layout·Tables·fatSectors Layout·Tables·cellPlaceIn Layout·Tables·cellIn Layout·Tables·fatCells Layout·Tables·fatCell Layout·Tables·sectorSpace Layout·Name·illegal Layout·Name·legalUnit Layout·Name·legalName Layout·Name·smallBy20 Layout·Name·smallBy50 Layout·Name·fold Layout·Name·unitsLess Layout·Name·nameLess Layout·Name·nameEqual Layout·PathOrder·samePath Layout·PathOrder·pathLess Layout·PathOrder·isBelow Layout·PathOrder·insert Layout·Entry·nameBytes Layout·Entry·nameUnit Layout·Entry·name Layout·Entry·kind Layout·Entry·colour Layout·Entry·left Layout·Entry·right Layout·Entry·child Layout·Entry·clsid Layout·Entry·created Layout·Entry·modified Layout·Entry·start Layout·Entry·size Layout·NewEntry·noLinks Layout·NewEntry·blankEntry Layout·NewEntry·utf16Bytes Layout·NewEntry·entryRest Layout·NewEntry·newEntry Layout·Directory·directorySectors Layout·Directory·entryPlace Layout·Directory·entryCount Layout·Directory·entryIn Layout·Directory·directoryOf Layout·Directory·sizeOf Layout·Directory·blankAt Layout·Directory·blanks Layout·Tree·treeOf Layout·Tree·grow Layout·Tree·forest Layout·Tree·entries Layout·Tree·siblings Layout·Tree·isEmpty Layout·Siblings·goesLeft Layout·Siblings·slotIn Layout·Siblings·greatest Layout·Siblings·withoutGreatest Layout·Siblings·belowGreatest Layout·Siblings·sidesJoined Layout·Siblings·withoutNode Layout·Volume·directorySectorsOf Layout·Volume·directory Layout·Volume·miniFatSectors Layout·Volume·miniStreamSectors Layout·Volume·miniCells Layout·Volume·miniSpace Layout·Volume·volume Layout·Volume·root Layout·Volume·rootSize Layout·Volume·systemSectors Layout·Volume·fixedNumber Layout·Objects·objectAt Layout·Objects·objectsIn Layout·Objects·objectsOf Layout·Objects·pathOf Layout·Stream·spaceFor Layout·Stream·streamSize Layout·Stream·streamUnits Layout·Stream·contents Rules·Length·leastImage Rules·Length·greatestImage Rules·Length·lengthAllowed Rules·Length·workNeed Rules·Version·versionOf Rules·Header·signature Rules·Header·byteOrder Rules·Header·miniShift Rules·Header·headerRules Rules·Tables·difatNeed Rules·Tables·tableCounts Rules·Tables·difatEnds Rules·Tables·spareEntryFree Rules·Tables·difatRest Rules·Tables·isSector Rules·Tables·tableSectors Rules·Tables·markRight Rules·Tables·tableMarks Rules·Tables·tableRules Rules·Cells·plainCell Rules·Cells·spareCellFree Rules·Cells·restFree Rules·Cells·tableMark Rules·Cells·fatCellRight Rules·Cells·cellRules Rules·Directory·someChain Rules·Directory·countRight Rules·Directory·directoryRules Rules·Entries·blankFields Rules·Entries·nameFields Rules·Entries·streamFields Rules·Entries·storageFields Rules·Entries·rootFields Rules·Entries·commonFields Rules·Entries·entryFields Rules·Entries·entryRight Rules·Entries·entryRules Rules·Trees·sound Rules·Trees·reachedRight Rules·Trees·reachedOnce Rules·Trees·everyNode Rules·Trees·less Rules·Trees·greater Rules·Trees·sidesOrdered Rules·Trees·red Rules·Trees·topBlack Rules·Trees·coloured Rules·Trees·treeRules Rules·Mini·miniCellRight Rules·Mini·miniFatChain Rules·Mini·miniStreamChain Rules·Mini·miniRules Rules·Streams·streamChain Rules·Streams·streamRight Rules·Streams·streamRules Rules·Owners·ownSectors Rules·Owners·ownMinis Rules·Owners·ownedSectors Rules·Owners·ownedMinis Rules·Owners·ownerRule Rules·Owners·ownerRight Rules·Owners·ownersIn Rules·Owners·ownerRules Rules·Verdict·check Rules·Verdict·volumeGroups Rules·Verdict·groups Rules·Verdict·verdict Calls·Paths·pushFront Calls·Paths·split Calls·Paths·names Calls·Paths·joined Calls·Paths·wellFormed Calls·Paths·namesBefore Calls·Paths·lastName Calls·Find·orElse Calls·Find·childNamed Calls·Find·foundChild Calls·Find·enter Calls·Find·descend Calls·Find·resolve Calls·Find·needStream Calls·Find·resolveStream Calls·Find·answerOf Calls·Find·entryOf Calls·Find·needParent Calls·Find·resolveParent Calls·Find·belowOf Calls·Read·readCount Calls·Read·readBytes Calls·Read·over Calls·Overwrite·bytePlace Calls·Overwrite·putChain Calls·Overwrite·overwritten Calls·SetLength·small Calls·SetLength·crosses Calls·SetLength·tooFew Calls·SetLength·putCell Calls·SetLength·release Calls·SetLength·link Calls·SetLength·relinked Calls·SetLength·editSpace Calls·SetLength·newUnits Calls·SetLength·zeroed Calls·SetLength·tailZeroed Calls·SetLength·entryWritten Calls·SetLength·resized Calls·Move·moved Calls·Move·lengthChanged Calls·Search·freeFrom Calls·Search·lowestFree Calls·Search·search Calls·Search·searches Calls·Search·growthSearches Calls·Search·unitsFound Calls·Search·cellsLooked Calls·Search·searchesFor Calls·Search·keptUnits Calls·Search·lengthSearches Calls·Create·kindFor Calls·Create·startFor Calls·Create·lowestBlank Calls·Create·slotFor Calls·Create·entryCreated Calls·Create·objectCreated Calls·Remove·siblingsWritten Calls·Remove·entryRemovedAt Calls·Remove·entryRemoved Calls·Remove·cutToZero Calls·Remove·objectRemoved Calls·Text·digits Calls·Text·decimal Calls·Text·hexDigit Calls·Text·printUnit Calls·Text·printName Calls·Listing·line Calls·Listing·lines Calls·Listing·firstLine Calls·Listing·listing Calls·Cursor·streamAnswer Calls·Cursor·movedBy Calls·Call·workOf Calls·Call·outOf Calls·Answer·firstOf Calls·Answer·target Calls·Answer·targetAnswer Calls·Answer·beyond Calls·Answer·lengthAnswer Calls·Answer·createAnswer Calls·Answer·removeAnswer Calls·Answer·answerIn Calls·Answer·answer Calls·Reply·plain Calls·Reply·foundReply Calls·Reply·counted Calls·Reply·done Calls·Reply·onZero Calls·Reply·replyBy Calls·Buffers·edited Calls·Buffers·imageAfterBy Calls·Buffers·handedOut Calls·Buffers·outAfterBy Calls·Buffers·workCleared Calls·Buffers·workAfterBy Calls·RepairSteps·tablesHold Calls·RepairSteps·directoryHolds Calls·RepairSteps·entriesHold Calls·RepairSteps·streamsHold Calls·RepairSteps·restUnit Calls·RepairSteps·restUnits Calls·RepairSteps·restFreed Calls·RepairSteps·hasColour Calls·RepairSteps·blackenEntry Calls·RepairSteps·blackenBelow Calls·RepairSteps·blackened Calls·RepairSteps·isUnowned Calls·RepairSteps·unownedFreedIn Calls·RepairSteps·unownedFreed Calls·RepairSteps·fourthStep Calls·RepairSteps·thirdStep Calls·RepairSteps·secondStep Calls·RepairSteps·repaired Calls·Repair·repairAnswer Calls·Repair·cellDiffers Calls·Repair·colourDiffers Calls·Repair·differences Calls·Repair·repairReplyBy Calls·Repair·imageRepairedBy Calls·Repair·repairShort Calls·Repair·workRepairedBy Calls·Repair·spareRepairedBy Calls·CursorMoves·cursorCall Calls·CursorMoves·cursorAfter Calls·Program·programCapacity Calls·Program·refusedLine Calls·Program·programCall Calls·Program·programOutputBy Fresh·Plan·planned Fresh·Plan·fatPart Fresh·Plan·difatPart Fresh·Plan·miniStreamBytes Fresh·Plan·miniStreamPart Fresh·Plan·difatFrom Fresh·Plan·directoryFrom Fresh·Plan·miniFatFrom Fresh·Plan·miniStreamFrom Fresh·Plan·spareFrom Fresh·Plan·startFrom Fresh·Plan·knownVersion Fresh·Plan·partsFit Fresh·Cells·linkIn Fresh·Cells·freshCell Fresh·Cells·freshDifat Fresh·Cells·difatNumber Fresh·Header·minorVersion Fresh·Header·directoryField Fresh·Header·numbersBelow Fresh·Header·headerFront Fresh·Header·headerFields Fresh·Header·freshHeader Fresh·Image·rootName Fresh·Image·rootEntry Fresh·Image·freshEntry Fresh·Image·fatNumber Fresh·Image·fatBlock Fresh·Image·difatBlock Fresh·Image·directoryEntry Fresh·Image·directoryBlock Fresh·Image·miniNumber Fresh·Image·miniFatBlock Fresh·Image·freshSector Fresh·Image·freshImage Fresh·Answer·bufferFits Fresh·Answer·formatAnswer Fresh·Answer·formatted History·Rows·rowsIn History·Rows·rowsOf History·Rows·means History·Rows·hasRow History·Rows·rowLength History·Rows·needOf History·Rows·total History·Setting·settingOf History·Setting·freeSectors History·Setting·freeMinis History·Storages·storagesIn History·Storages·storagesOf History·Storages·blankCountOf History·Storages·hasStorage History·Storages·spelled History·Storages·isStorageOrRoot History·State·stateIn History·State·stateOf History·State·withRows History·Accepts·reachesRow History·Accepts·lacksRoom History·Accepts·mayCreate History·Accepts·rowBelow History·Accepts·someBelow History·Accepts·mayRemove History·Accepts·accepts History·Accepts·acceptsRepair History·Accepts·answers26 History·Step·change History·Step·putInto History·Step·newPath History·Step·withObject History·Step·withoutObject History·Step·changed History·Step·stateStep History·Event·imageStep History·Event·after History·Event·eventStep History·Event·stateAfter History·Claim·isEdit Claims·Folding·formerFold Claims·Folding·formerLess Claims·Folding·formerBefore Claims·Folding·formerAfter Claims·Folding·formerSides Claims·Folding·formerTrees Claims·Folding·formerLate Claims·Folding·formerVerdict Claims·Folding·steadyUnit Claims·Folding·steadyName Claims·Folding·steadyNames Claims·Folding·plainUnit Claims·Folding·plainName Claims·Folding·plainNames Claims·FoldingPaths·formerEqual Claims·FoldingPaths·formerChild Claims·FoldingPaths·formerEnter Claims·FoldingPaths·formerDescend Claims·FoldingPaths·formerResolve Claims·FoldingPaths·formerParent Claims·FoldingPaths·formerStream Claims·FoldingPaths·formerAnswerIn Claims·FoldingPaths·formerDone Claims·FoldingPaths·formerAnswer Claims·FoldingPaths·formerReply Claims·FoldingPaths·pathOf Claims·Search·freeBeside Claims·Search·InTurns Claims·PathOrder·rising Claims·PathOrder·otherPath Claims·PathOrder·noneTwice Claims·ListingText·linesOf Claims·ListingText·firstWord Claims·ListingText·otherWords Claims·ListingText·decimalValue Claims·ListingText·hexValue Claims·ListingText·readUnits Claims·ListingText·readName Claims·ListingText·typeOf Claims·ListingText·readLine Claims·ListingText·announced Claims·ListingText·readListing Claims·Listing·listed Claims·Listing·entryFound Claims·Listing·isNamed Claims·Listing·isKnown Claims·Listing·agrees Claims·Cursor·workFits Claims·Cursor·takesByte Claims·Cursor·room Claims·Cursor·restAt Claims·Cursor·handedAt Claims·Cursor·handedAll Claims·Cursor·cursorAtEnd Claims·Cursor·numbersAt Claims·Fresh·freshFixed Claims·Fresh·freshSetting Claims·Fresh·freshState Claims·Repair·isRed Claims·Repair·redEntries
+unfolding Basics·Lists·allBelow Basics·Lists·all Basics·Lists·any Basics·Lists·listBelow Basics·Lists·joinBelow Basics·Lists·member Basics·Lists·distinct Basics·Lists·equal Basics·Lists·sum Basics·Lists·fit Basics·Lists·without Basics·Bytes·byteAt Basics·Bytes·part Basics·Bytes·number Basics·Bytes·u16at Basics·Bytes·u32at Basics·Bytes·u64at Basics·Bytes·isZero Basics·Bytes·allZero Basics·Bytes·le16 Basics·Bytes·le32 Basics·Bytes·le64 Basics·Bytes·putBytes Basics·Bytes·put16 Basics·Bytes·put32 Basics·Bytes·put64 Layout·Geometry·version3 Layout·Geometry·version4 Layout·Geometry·miniBytes Layout·Geometry·entryBytes Layout·Geometry·headerBytes Layout·Geometry·headerDifat Layout·Geometry·sizeWidth Layout·Geometry·countsDirectory Layout·Geometry·sectorCount Layout·Geometry·sectorPlace Layout·Geometry·placeIn Layout·Geometry·cellsIn Layout·Geometry·difatIn Layout·Geometry·entriesIn Layout·Need·cutoff Layout·Need·roundUp Layout·Need·miniNeed Layout·Need·sectorNeed Layout·Chain·chain Layout·Chain·units Layout·Chain·follow Layout·Space·freeUnits Layout·Space·allocated Layout·Space·chainFor Layout·Space·unitsFor Layout·Space·block Layout·Header·majorVersion Layout·Header·directoryCount Layout·Header·fatCount Layout·Header·directoryStart Layout·Header·miniFatStart Layout·Header·miniFatCount Layout·Header·difatStart Layout·Header·difatCount Layout·Header·difatPlace Layout·Tables·difatSector Layout·Tables·difatSectors Layout·Tables·difatEntry Layout·Tables·fatSectors Layout·Tables·cellPlaceIn Layout·Tables·cellIn Layout·Tables·fatCells Layout·Tables·fatCell Layout·Tables·sectorSpace Layout·Name·illegal Layout·Name·legalUnit Layout·Name·legalName Layout·Name·smallBy20 Layout·Name·smallBy50 Layout·Name·fold Layout·Name·unitsLess Layout·Name·nameLess Layout·Name·nameEqual Layout·PathOrder·samePath Layout·PathOrder·pathLess Layout·PathOrder·isBelow Layout·PathOrder·insert Layout·Entry·nameBytes Layout·Entry·nameUnit Layout·Entry·name Layout·Entry·kind Layout·Entry·colour Layout·Entry·left Layout·Entry·right Layout·Entry·child Layout·Entry·clsid Layout·Entry·created Layout·Entry·modified Layout·Entry·start Layout·Entry·size Layout·NewEntry·noLinks Layout·NewEntry·blankEntry Layout·NewEntry·utf16_bytes Layout·NewEntry·entryRest Layout·NewEntry·newEntry Layout·Directory·directorySectors Layout·Directory·entryPlace Layout·Directory·entryCount Layout·Directory·entryIn Layout·Directory·directoryOf Layout·Directory·sizeOf Layout·Directory·blankAt Layout·Directory·blanks Layout·Tree·treeOf Layout·Tree·grow Layout·Tree·forest Layout·Tree·entries Layout·Tree·siblings Layout·Tree·isEmpty Layout·Siblings·goesLeft Layout·Siblings·slotIn Layout·Siblings·greatest Layout·Siblings·withoutGreatest Layout·Siblings·belowGreatest Layout·Siblings·sidesJoined Layout·Siblings·withoutNode Layout·Volume·directorySectorsOf Layout·Volume·directory Layout·Volume·miniFatSectors Layout·Volume·miniStreamSectors Layout·Volume·miniCells Layout·Volume·miniSpace Layout·Volume·volume Layout·Volume·root Layout·Volume·rootSize Layout·Volume·systemSectors Layout·Volume·fixedNumber Layout·Objects·objectAt Layout·Objects·objectsIn Layout·Objects·objectsOf Layout·Objects·path_of Layout·Stream·spaceFor Layout·Stream·streamSize Layout·Stream·streamUnits Layout·Stream·contents Rules·Length·leastImage Rules·Length·greatestImage Rules·Length·lengthAllowed Rules·Length·workNeed Rules·Version·versionOf Rules·Header·signature Rules·Header·byteOrder Rules·Header·miniShift Rules·Header·headerRules Rules·Tables·difatNeed Rules·Tables·tableCounts Rules·Tables·difatEnds Rules·Tables·spareEntryFree Rules·Tables·difatRest Rules·Tables·isSector Rules·Tables·tableSectors Rules·Tables·markRight Rules·Tables·tableMarks Rules·Tables·tableRules Rules·Cells·plainCell Rules·Cells·spareCellFree Rules·Cells·restFree Rules·Cells·tableMark Rules·Cells·fatCellRight Rules·Cells·cellRules Rules·Directory·someChain Rules·Directory·countRight Rules·Directory·directoryRules Rules·Entries·blankFields Rules·Entries·nameFields Rules·Entries·streamFields Rules·Entries·storageFields Rules·Entries·rootFields Rules·Entries·commonFields Rules·Entries·entryFields Rules·Entries·entryRight Rules·Entries·entryRules Rules·Trees·sound Rules·Trees·reachedRight Rules·Trees·reachedOnce Rules·Trees·everyNode Rules·Trees·less Rules·Trees·greater Rules·Trees·sidesOrdered Rules·Trees·red Rules·Trees·topBlack Rules·Trees·coloured Rules·Trees·treeRules Rules·Mini·miniCellRight Rules·Mini·miniFatChain Rules·Mini·miniStreamChain Rules·Mini·miniRules Rules·Streams·streamChain Rules·Streams·streamRight Rules·Streams·streamRules Rules·Owners·ownSectors Rules·Owners·ownMinis Rules·Owners·ownedSectors Rules·Owners·ownedMinis Rules·Owners·ownerRule Rules·Owners·ownerRight Rules·Owners·ownersIn Rules·Owners·ownerRules Rules·Verdict·check Rules·Verdict·volumeGroups Rules·Verdict·groups Rules·Verdict·verdict Calls·Paths·pushFront Calls·Paths·split Calls·Paths·names Calls·Paths·joined Calls·Paths·wellFormed Calls·Paths·namesBefore Calls·Paths·lastName Calls·Find·orElse Calls·Find·childNamed Calls·Find·foundChild Calls·Find·enter Calls·Find·descend Calls·Find·resolve Calls·Find·needStream Calls·Find·resolveStream Calls·Find·answerOf Calls·Find·entryOf Calls·Find·needParent Calls·Find·resolveParent Calls·Find·belowOf Calls·Read·readCount Calls·Read·readBytes Calls·Read·over Calls·Overwrite·bytePlace Calls·Overwrite·putChain Calls·Overwrite·overwritten Calls·SetLength·small Calls·SetLength·crosses Calls·SetLength·tooFew Calls·SetLength·putCell Calls·SetLength·release Calls·SetLength·link Calls·SetLength·relinked Calls·SetLength·editSpace Calls·SetLength·newUnits Calls·SetLength·zeroed Calls·SetLength·tailZeroed Calls·SetLength·entryWritten Calls·SetLength·resized Calls·Move·moved Calls·Move·lengthChanged Calls·Search·freeFrom Calls·Search·lowestFree Calls·Search·search Calls·Search·searches Calls·Search·growthSearches Calls·Search·unitsFound Calls·Search·cellsLooked Calls·Search·searchesFor Calls·Search·keptUnits Calls·Search·lengthSearches Calls·Create·kindFor Calls·Create·startFor Calls·Create·lowestBlank Calls·Create·slotFor Calls·Create·entryCreated Calls·Create·objectCreated Calls·Remove·siblingsWritten Calls·Remove·entryRemovedAt Calls·Remove·entryRemoved Calls·Remove·cutToZero Calls·Remove·objectRemoved Calls·Text·digits Calls·Text·decimal Calls·Text·hexDigit Calls·Text·printUnit Calls·Text·printName Calls·Listing·line Calls·Listing·lines Calls·Listing·firstLine Calls·Listing·listing Calls·Cursor·streamAnswer Calls·Cursor·movedBy Calls·Call·workOf Calls·Call·outOf Calls·Answer·firstOf Calls·Answer·target Calls·Answer·targetAnswer Calls·Answer·beyond Calls·Answer·lengthAnswer Calls·Answer·createAnswer Calls·Answer·removeAnswer Calls·Answer·answerIn Calls·Answer·answer Calls·Reply·plain Calls·Reply·foundReply Calls·Reply·counted Calls·Reply·done Calls·Reply·onZero Calls·Reply·replyBy Calls·Buffers·edited Calls·Buffers·imageAfterBy Calls·Buffers·handedOut Calls·Buffers·outAfterBy Calls·Buffers·workCleared Calls·Buffers·workAfterBy Calls·RepairSteps·tablesHold Calls·RepairSteps·directoryHolds Calls·RepairSteps·entriesHold Calls·RepairSteps·streamsHold Calls·RepairSteps·restUnit Calls·RepairSteps·restUnits Calls·RepairSteps·restFreed Calls·RepairSteps·hasColour Calls·RepairSteps·blackenEntry Calls·RepairSteps·blackenBelow Calls·RepairSteps·blackened Calls·RepairSteps·isUnowned Calls·RepairSteps·unownedFreedIn Calls·RepairSteps·unownedFreed Calls·RepairSteps·fourthStep Calls·RepairSteps·thirdStep Calls·RepairSteps·secondStep Calls·RepairSteps·repaired Calls·Repair·repairAnswer Calls·Repair·cellDiffers Calls·Repair·colourDiffers Calls·Repair·differences Calls·Repair·repairReplyBy Calls·Repair·imageRepairedBy Calls·Repair·repairShort Calls·Repair·workRepairedBy Calls·Repair·spareRepairedBy Calls·CursorMoves·cursorCall Calls·CursorMoves·cursorAfter Calls·Program·programCapacity Calls·Program·refusedLine Calls·Program·programCall Calls·Program·programOutputBy Fresh·Plan·planned Fresh·Plan·fatPart Fresh·Plan·difatPart Fresh·Plan·miniStreamBytes Fresh·Plan·miniStreamPart Fresh·Plan·difatFrom Fresh·Plan·directoryFrom Fresh·Plan·miniFatFrom Fresh·Plan·miniStreamFrom Fresh·Plan·spareFrom Fresh·Plan·startFrom Fresh·Plan·knownVersion Fresh·Plan·partsFit Fresh·Cells·linkIn Fresh·Cells·freshCell Fresh·Cells·freshDifat Fresh·Cells·difatNumber Fresh·Header·minorVersion Fresh·Header·directoryField Fresh·Header·numbersBelow Fresh·Header·headerFront Fresh·Header·headerFields Fresh·Header·freshHeader Fresh·Image·rootName Fresh·Image·rootEntry Fresh·Image·freshEntry Fresh·Image·fatNumber Fresh·Image·fatBlock Fresh·Image·difatBlock Fresh·Image·directoryEntry Fresh·Image·directoryBlock Fresh·Image·miniNumber Fresh·Image·miniFatBlock Fresh·Image·freshSector Fresh·Image·freshImage Fresh·Answer·bufferFits Fresh·Answer·formatAnswer Fresh·Answer·formatted History·Rows·rowsIn History·Rows·rowsOf History·Rows·means History·Rows·hasRow History·Rows·rowLength History·Rows·needOf History·Rows·total History·Setting·settingOf History·Setting·freeSectors History·Setting·freeMinis History·Storages·storagesIn History·Storages·storagesOf History·Storages·blankCountOf History·Storages·hasStorage History·Storages·spelled History·Storages·isStorageOrRoot History·State·stateIn History·State·stateOf History·State·withRows History·Accepts·reachesRow History·Accepts·lacksRoom History·Accepts·mayCreate History·Accepts·rowBelow History·Accepts·someBelow History·Accepts·mayRemove History·Accepts·accepts History·Accepts·acceptsRepair History·Accepts·answers26 History·Step·change History·Step·putInto History·Step·newPath History·Step·withObject History·Step·withoutObject History·Step·changed History·Step·stateStep History·Event·imageStep History·Event·after History·Event·eventStep History·Event·stateAfter History·Claim·isEdit Claims·Folding·formerFold Claims·Folding·formerLess Claims·Folding·formerBefore Claims·Folding·formerAfter Claims·Folding·formerSides Claims·Folding·formerTrees Claims·Folding·formerLate Claims·Folding·formerVerdict Claims·Folding·steadyUnit Claims·Folding·steadyName Claims·Folding·steadyNames Claims·Folding·plainUnit Claims·Folding·plainName Claims·Folding·plainNames Claims·FoldingPaths·formerEqual Claims·FoldingPaths·formerChild Claims·FoldingPaths·formerEnter Claims·FoldingPaths·formerDescend Claims·FoldingPaths·formerResolve Claims·FoldingPaths·formerParent Claims·FoldingPaths·formerStream Claims·FoldingPaths·formerAnswerIn Claims·FoldingPaths·formerDone Claims·FoldingPaths·formerAnswer Claims·FoldingPaths·formerReply Claims·FoldingPaths·path_of Claims·Search·freeBeside Claims·Search·InTurns Claims·PathOrder·rising Claims·PathOrder·otherPath Claims·PathOrder·noneTwice Claims·ListingText·linesOf Claims·ListingText·firstWord Claims·ListingText·otherWords Claims·ListingText·decimalValue Claims·ListingText·hexValue Claims·ListingText·readUnits Claims·ListingText·readName Claims·ListingText·typeOf Claims·ListingText·readLine Claims·ListingText·announced Claims·ListingText·readListing Claims·Listing·listed Claims·Listing·entryFound Claims·Listing·isNamed Claims·Listing·isKnown Claims·Listing·agrees Claims·Cursor·workFits Claims·Cursor·takesByte Claims·Cursor·room Claims·Cursor·restAt Claims·Cursor·handedAt Claims·Cursor·handedAll Claims·Cursor·cursorAtEnd Claims·Cursor·numbersAt Claims·Fresh·freshFixed Claims·Fresh·freshSetting Claims·Fresh·freshState Claims·Repair·isRed Claims·Repair·redEntries
 opened = tt

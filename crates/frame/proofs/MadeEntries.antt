@@ -15,7 +15,7 @@ use Rattle.format.specs.Basics.Lists.{fit, all, list_below}
 use Rattle.format.specs.Basics.Bytes.{Bytes, byte_at, part, number, u16at, u32at, le16, le32, le64, is_zero, all_zero}
 use Rattle.format.specs.Layout.Name.{Name, illegal, legal_name, legal_unit}
 use Rattle.format.specs.Layout.Entry.{NOSTREAM, name_bytes, name_unit, name, kind, colour, left, right, child, clsid, created, modified, start, size, size_field}
-use Rattle.format.specs.Layout.NewEntry.{new_entry, blank_entry, entry_rest, no_links, utf16Bytes}
+use Rattle.format.specs.Layout.NewEntry.{new_entry, blank_entry, entry_rest, no_links, utf16_bytes}
 use Rattle.format.specs.Rules.Entries.{blank_fields, name_fields, stream_fields, storage_fields, common_fields, entry_fields}
 use Rattle.theory.proofs.Sets.{get_or_sets_in}
 use Rattle.theory.proofs.Bytes.{u16_bytes, number_le32}
@@ -39,7 +39,7 @@ rest_long n k s c = refl
 pub new_long : (n : Name) (k s c : ℕ) → length (new_entry n k s c) ≡ 128
 unfolding new_entry
 new_long n k s c =
-    omega (arith, length-append (fit 64 (utf16Bytes n)) (entry_rest (2 * length n + 2) k s c), fit_long 64 (utf16Bytes n), rest_long (2 * length n + 2) k s c)
+    omega (arith, length-append (fit 64 (utf16_bytes n)) (entry_rest (2 * length n + 2) k s c), fit_long 64 (utf16_bytes n), rest_long (2 * length n + 2) k s c)
 
 pub blank_long : length blank_entry ≡ 128
 unfolding blank_entry no_links le32 le16
@@ -79,20 +79,20 @@ take_all (suc m) (x ∷ xs) h = ap (λ (l : Bytes). x ∷ l) (take_all m xs (ome
 
 -- ---- the units of a name
 
-pub units_long : (n : Name) → length (utf16Bytes n) ≡ 2 * length n
-unfolding utf16Bytes le16
+pub units_long : (n : Name) → length (utf16_bytes n) ≡ 2 * length n
+unfolding utf16_bytes le16
 units_long [] = refl
 units_long (u ∷ us) = omega (arith, units_long us)
 
-unit_low : (n : Name) (r : Bytes) (i : ℕ) → i < length n → (get_or (utf16Bytes n ++ r) (2 * i) 0 ≡ get_or n i 0 % 256) × (get_or (utf16Bytes n ++ r) (2 * i + 1) 0 ≡ get_or n i 0 / 256 % 256)
-unfolding utf16Bytes le16
+unit_low : (n : Name) (r : Bytes) (i : ℕ) → i < length n → (get_or (utf16_bytes n ++ r) (2 * i) 0 ≡ get_or n i 0 % 256) × (get_or (utf16_bytes n ++ r) (2 * i + 1) 0 ≡ get_or n i 0 / 256 % 256)
+unfolding utf16_bytes le16
 unit_low [] r i h = absurd (omega arith)
 unit_low (u ∷ us) r zero h = (refl, refl)
 unit_low (u ∷ us) r (suc i) h =
     let k = unit_low us r i (omega arith) in
     let a : 2 * suc i ≡ suc (suc (2 * i)) = omega arith in
     let b : 2 * suc i + 1 ≡ suc (suc (2 * i + 1)) = omega arith in
-    let l = u % 256 ∷ u / 256 % 256 ∷ (utf16Bytes us ++ r) in (
+    let l = u % 256 ∷ u / 256 % 256 ∷ (utf16_bytes us ++ r) in (
       ap (λ (j : ℕ). get_or l j 0) a ∙ k.0,
       ap (λ (j : ℕ). get_or l j 0) b ∙ k.1,
     )
@@ -108,7 +108,7 @@ unit_small (u ∷ us) h (suc i) l = unit_small us (both (legal_unit u) (all lega
 
 module _ (n : Name) (k s : ℕ) (legal : legal_name n ≡ true) where
   abbrev front : Bytes
-  front = fit 64 (utf16Bytes n)
+  front = fit 64 (utf16_bytes n)
 
   abbrev rest : Bytes
   rest = entry_rest (2 * length n + 2) k s 0
@@ -129,11 +129,11 @@ module _ (n : Name) (k s : ℕ) (legal : legal_name n ≡ true) where
 
   e_part : (j m : ℕ) → part e (64 + j) m ≡ part rest j m
   unfolding new_entry
-  e_part j m = part_behind front rest j m (fit_long 64 (utf16Bytes n))
+  e_part j m = part_behind front rest j m (fit_long 64 (utf16_bytes n))
 
   e_byte : (j : ℕ) → get_or e (64 + j) 0 ≡ get_or rest j 0
   unfolding new_entry
-  e_byte j = byte_behind front rest j (fit_long 64 (utf16Bytes n))
+  e_byte j = byte_behind front rest j (fit_long 64 (utf16_bytes n))
 
   pub kind_new : kind e ≡ k
   unfolding kind byte_at entry_rest le16
@@ -172,18 +172,18 @@ module _ (n : Name) (k s : ℕ) (legal : legal_name n ≡ true) where
       two v h = omega arith
 
   -- the name's units, and zeros behind them
-  e_units : e ≡ utf16Bytes n ++ (replicate (64 - 2 * length n) 0 ++ rest)
+  e_units : e ≡ utf16_bytes n ++ (replicate (64 - 2 * length n) 0 ++ rest)
   unfolding new_entry fit
   e_units =
       let l = units_long n in
-      rw (take_all 64 (utf16Bytes n) (omega (arith, lengths.1)), l) (append_assoc (utf16Bytes n) (replicate (64 - 2 * length n) 0) rest)
+      rw (take_all 64 (utf16_bytes n) (omega (arith, lengths.1)), l) (append_assoc (utf16_bytes n) (replicate (64 - 2 * length n) 0) rest)
 
   unit_new : (i : ℕ) → i < length n → name_unit e i ≡ get_or n i 0
   unfolding name_unit
   unit_new i h =
       let r = replicate (64 - 2 * length n) 0 ++ rest in
       let u = unit_low n r i h in
-      ap (λ (b : Bytes). u16at b (2 * i)) e_units ∙ u16_bytes (utf16Bytes n ++ r) (2 * i) ∙ ap₂ (λ (a b : ℕ). a + 256 * b) u.0 u.1 ∙ whole (get_or n i 0) (unit_small n legal_all i h)
+      ap (λ (b : Bytes). u16at b (2 * i)) e_units ∙ u16_bytes (utf16_bytes n ++ r) (2 * i) ∙ ap₂ (λ (a b : ℕ). a + 256 * b) u.0 u.1 ∙ whole (get_or n i 0) (unit_small n legal_all i h)
     where
       whole : (v : ℕ) → v < 65536 → v % 256 + 256 * (v / 256 % 256) ≡ v
       whole v h = omega arith
@@ -201,8 +201,8 @@ module _ (n : Name) (k s : ℕ) (legal : legal_name n ≡ true) where
       let l = units_long n in
       let z : Bytes = replicate (64 - 2 * length n) 0 in
       ap (λ (b : Bytes). get_or b (2 * length n + i) 0) e_units
-      ∙ ap (λ (j : ℕ). get_or (utf16Bytes n ++ (z ++ rest)) (j + i) 0) (sym l)
-      ∙ get_past (utf16Bytes n) (z ++ rest) i
+      ∙ ap (λ (j : ℕ). get_or (utf16_bytes n ++ (z ++ rest)) (j + i) 0) (sym l)
+      ∙ get_past (utf16_bytes n) (z ++ rest) i
       ∙ get_or-append z rest 0 i (omega (arith, length-replicate {A = ℕ} (64 - 2 * length n) 0, lengths.1))
       ∙ get_or-replicate {A = ℕ} (64 - 2 * length n) i 0 0 (omega (arith, lengths.1))
 

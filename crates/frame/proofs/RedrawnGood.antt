@@ -172,7 +172,7 @@ module _ {v w : Volume} (o : Good v) (p : SameParts v w) (cs : (u : ℕ) → w.s
       ]
 
   module _ (entries : entry_rules w.directory ≡ true) (trees : tree_rules w.directory ≡ true)
-      (root_start : start (root w) ≡ start (root v)) (rootBytes : root_size w ≡ root_size v) where
+      (root_start : start (root w) ≡ start (root v)) (root_bytes : root_size w ≡ root_size v) where
     counted_same : count_right w ≡ true
     unfolding count_right
     counted_same = rw (p.geometry, p.directory_count, p.directory_sectors) o.directory_counted
@@ -194,9 +194,9 @@ module _ {v w : Volume} (o : Good v) (p : SameParts v w) (cs : (u : ℕ) → w.s
               record {
                 linked = subst (λ (us : List ℕ). Linked w.sectors.cell w.sectors.limit us) (sym p.mini_stream) k.linked;
                 head = ap start_of p.mini_stream ∙ k.head ∙ sym root_start;
-                long = ap length p.mini_stream ∙ k.long ∙ sym (ap₂ round_up rootBytes p.sector_unit);
+                long = ap length p.mini_stream ∙ k.long ∙ sym (ap₂ round_up root_bytes p.sector_unit);
               };
-          root_size = rw rootBytes o.root_size;
+          root_size = rw root_bytes o.root_size;
           mini_table = rw (p.mini_limit, p.mini_cells) o.mini_table;
           mini_cells = λ m h. rw (plain_same true (w.minis.cell m), cm m) (o.mini_cells m (omega (arith, p.mini_limit)));
           mini_rest = rest_same true ∙ o.mini_rest;

@@ -15,7 +15,7 @@ use Rattle.format.specs.Layout.Header.{directory_start}
 use Rattle.format.specs.Layout.Tables.{fat_cell, sector_space}
 use Rattle.format.specs.Layout.Entry.{NOSTREAM, kind, colour, left, right, child, created, size, start, is_stream}
 use Rattle.format.specs.Layout.Directory.{Directory, directory_sectors, entry_count, entry_in, directory_of, size_of}
-use Rattle.format.specs.Layout.NewEntry.{new_entry, entry_rest, utf16Bytes, no_links}
+use Rattle.format.specs.Layout.NewEntry.{new_entry, entry_rest, utf16_bytes, no_links}
 use Rattle.format.specs.Layout.Tree.{empty, forest, grow, tree_of, entries}
 use Rattle.format.specs.Layout.Volume.{directory_sectors_of, directory}
 use Rattle.format.specs.Rules.Entries.{root_fields, common_fields, entry_fields, entry_right, entry_rules}
@@ -50,24 +50,24 @@ module _ (s n : ℕ) (hs : s < 0x1_0000_0000) (hn : n < 0x1_0000_0000) where
   root₀ = root_entry s n
 
   pub root_kind : kind root₀ ≡ 5
-  unfolding root_entry root_name new_entry fit utf16Bytes entry_rest no_links kind byte_at le16 le32 le64
+  unfolding root_entry root_name new_entry fit utf16_bytes entry_rest no_links kind byte_at le16 le32 le64
   root_kind = refl
 
   pub root_child : child root₀ ≡ NOSTREAM
-  unfolding root_entry root_name new_entry fit utf16Bytes entry_rest no_links child u32at number part le16 le32 le64
+  unfolding root_entry root_name new_entry fit utf16_bytes entry_rest no_links child u32at number part le16 le32 le64
   root_child = refl
 
   pub root_start_lem : start root₀ ≡ s
-  unfolding root_entry root_name new_entry fit utf16Bytes entry_rest no_links start u32at part le16 le32 le64
+  unfolding root_entry root_name new_entry fit utf16_bytes entry_rest no_links start u32at part le16 le32 le64
   root_start_lem = number_le32 s ∙ mod-eq_of_lt hs
 
   -- both ways of reading a size
   root_size_4 : size 4 root₀ ≡ n
-  unfolding root_entry root_name new_entry fit utf16Bytes entry_rest no_links size part le16 le32 le64
+  unfolding root_entry root_name new_entry fit utf16_bytes entry_rest no_links size part le16 le32 le64
   root_size_4 = number_le32 n ∙ mod-eq_of_lt hn
 
   root_size_8 : size 8 root₀ ≡ n
-  unfolding root_entry root_name new_entry fit utf16Bytes entry_rest no_links size part le16 le32 le64
+  unfolding root_entry root_name new_entry fit utf16_bytes entry_rest no_links size part le16 le32 le64
   root_size_8 = number_le64 n (omega arith)
 
   pub root_size_lem : (g : Geometry) → size (size_width g) root₀ ≡ n
@@ -79,7 +79,7 @@ module _ (s n : ℕ) (hs : s < 0x1_0000_0000) (hn : n < 0x1_0000_0000) where
       go false = root_size_8
 
   pub root_fields_lem : entry_fields zero root₀ ≡ true
-  unfolding entry_fields root_entry root_name new_entry fit utf16Bytes entry_rest no_links root_fields common_fields kind colour left right created byte_at u32at number part all_zero all is_zero le16 le32 le64
+  unfolding entry_fields root_entry root_name new_entry fit utf16_bytes entry_rest no_links root_fields common_fields kind colour left right created byte_at u32at number part all_zero all is_zero le16 le32 le64
   root_fields_lem = refl
 
 -- ---- a part whose cells are links is a chain

@@ -74,9 +74,9 @@ module _ (g : Geometry) (pos : 0 < g.sector_bytes) (img img' : Bytes) (acc : Acc
       ∙ ap₂ (λ a b. setting g a v.sectors.limit v.minis.limit b) k.length (ap length (system_same good k.parts r.sector_cells r.mini_cells streams))
 
   module _ (entries : entry_rules w.directory ≡ true) (trees : tree_rules w.directory ≡ true)
-      (root_start : start (root w) ≡ start (root v)) (rootBytes : root_size w ≡ root_size v) where
+      (root_start : start (root w) ≡ start (root v)) (root_bytes : root_size w ≡ root_size v) where
     stays_good : Good w
-    stays_good = redrawn_good good r.kept.parts r.sector_cells r.mini_cells streams entries trees root_start rootBytes
+    stays_good = redrawn_good good r.kept.parts r.sector_cells r.mini_cells streams entries trees root_start root_bytes
 
     pub stays_accepted : Accepted g img'
     stays_accepted = redrawn_accepted g img img' acc r stays_good

@@ -118,7 +118,7 @@ rows_meant v img p before (node l y b r) =
 -- ---- an edit of the stream e changes its row alone
 
 module _ (v w : Volume) (img img' : Bytes) (e : ℕ) (p : Path) (f : Bytes → Bytes) (alike : Alike v.directory w.directory)
-    (mineIs : contents w img' e ≡ f (contents v img e))
+    (mine_is : contents w img' e ≡ f (contents v img e))
     (others : (i : ℕ) → i < v.directory.count → i ≢ e → is_stream (v.directory.entry i) ≡ true → contents w img' i ≡ contents v img i) where
   one_row : (before : List Name) (y : ℕ) → y < v.directory.count →
       ((x : ℕ) → 0 < count x (own_hit v.directory (strip (names p) before) y) → x ≡ e) →
@@ -131,7 +131,7 @@ module _ (v w : Volume) (img img' : Bytes) (e : ℕ) (p : Path) (f : Bytes → B
   one_row before y inside only must true z =
       rw (row_means p before (name (v.directory.entry y)) (contents v img y))
       (elim (ℕ_discrete y e) [
-        | yes q ↦ rw (hit y e q z (must z q)) (ap (λ x. bytes_row x ∷ []) (ap (contents w img') q ∙ mineIs ∙ ap (λ x. f (contents v img x)) (sym q)))
+        | yes q ↦ rw (hit y e q z (must z q)) (ap (λ x. bytes_row x ∷ []) (ap (contents w img') q ∙ mine_is ∙ ap (λ x. f (contents v img x)) (sym q)))
         | no q ↦ rw (no_hit y z (only y) q) (ap (λ x. bytes_row x ∷ []) (others y inside q z))
       ])
     where

@@ -20,7 +20,7 @@ use Rattle.format.specs.Calls.Overwrite.{put_chain, overwritten}
 use Rattle.format.specs.Calls.Move.{moved}
 use Rattle.theory.proofs.RoundUp.{round_zero}
 use Rattle.frame.specs.Frame.{Frame}
-use Rattle.frame.specs.Good.{space_of as sideSpace}
+use Rattle.frame.specs.Good.{space_of as side_space}
 use Rattle.frame.proofs.LengthUnits.{no_units}
 use Rattle.history.proofs.Moving.{grow_within, cut_kept, cut_accepted, cut_size, cut_inside, cut_stream, cut_free, grow_kept, grow_accepted, grow_size, grow_inside, grow_stream, grow_units}
 use Rattle.kinds.specs.Sizes.{geometry_of}
@@ -62,7 +62,7 @@ module _ {v : Opened} {img : Bytes} {w : List ℕ} (o : Open v img w) {e : Objec
     abbrev x : ℕ
     x = e.id.0
 
-    enough : let sp = sideSpace (volume g img) (ltb new cutoff) in round_up new sp.unit ≤ length (free_units sp)
+    enough : let sp = side_space (volume g img) (ltb new cutoff) in round_up new sp.unit ≤ length (free_units sp)
     enough = subst (λ sp. round_up new sp.unit ≤ length (free_units sp)) (kind_side (volume_in v img) new) (omega (arith, t.wanted, t.enough))
 
     abbrev cut : Bytes
@@ -116,11 +116,11 @@ module _ {v : Opened} {img : Bytes} {w : List ℕ} (o : Open v img w) {e : Objec
       empty : stream_units v₁ x ≡ []
       empty = no_units v₁ (good (cut_opened y)) x new cut_at.inside cut_at.stream (rw (← cut_at.sized) (grow_within new)) (sym cut_at.sized)
 
-      new_free : new_units v₁ x new ≡ take (round_up new (sideSpace v₁ (ltb new cutoff)).unit) (free_units (sideSpace v₁ (ltb new cutoff)))
+      new_free : new_units v₁ x new ≡ take (round_up new (side_space v₁ (ltb new cutoff)).unit) (free_units (side_space v₁ (ltb new cutoff)))
       unfolding new_units edit_space space_for
       new_free = let m : max 0 new ≡ new = omega arith in rw (empty, ← cut_at.sized, m)
 
-      free_same : free_units (sideSpace v₁ (ltb new cutoff)) ≡ free_units (space_at v img (kind_for new))
+      free_same : free_units (side_space v₁ (ltb new cutoff)) ≡ free_units (space_at v img (kind_for new))
       free_same = cut_free g pos fr img acc x new s.inside s.stream over enough ∙ ap free_units (sym (kind_side (volume g img) new))
 
       unit_still : (space_at v cut (kind_for new)).unit ≡ (space_at v img (kind_for new)).unit

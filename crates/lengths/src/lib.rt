@@ -2,7 +2,7 @@
 #![tactic(auto)]
 
 ghost use Rattle.std.specs.Prelude.{◌≡◌, []};
-ghost use Rattle.format.specs.Calls.Call.{set_length as lengthCall};
+ghost use Rattle.format.specs.Calls.Call.{set_length as length_call};
 ghost use Rattle.format.specs.Calls.SetLength.{crosses};
 ghost use Rattle.format.specs.Calls.Answer.{answer_in};
 ghost use Rattle.kinds.specs.Sizes.{geometry_of};
@@ -37,9 +37,9 @@ pub fn set_length_in(
 ) -> Answer
     requires { Open v img.old work.old }
     ensures result_value { number_of result
-        ≡ answer_in (geometry_of v.tables.geometry) (volume_in v img.old) (lengthCall path.now new_len []) }
+        ≡ answer_in (geometry_of v.tables.geometry) (volume_in v img.old) (length_call path.now new_len []) }
     ensures img_after { img.new
-        ≡ image_in (geometry_of v.tables.geometry) (volume_in v img.old) img.old (lengthCall path.now new_len []) }
+        ≡ image_in (geometry_of v.tables.geometry) (volume_in v img.old) img.old (length_call path.now new_len []) }
     ensures wrote { Wrote work.old work.new 0 v.stream }
 {
     let f = find_in(path, img, work, v);

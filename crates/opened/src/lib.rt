@@ -3,8 +3,8 @@
 
 ghost use Rattle.std.specs.Prelude.{◌≡◌, length};
 ghost use Rattle.format.specs.Rules.Length.{work_need};
-ghost use Rattle.format.specs.Calls.Call.{find as findCall, read as readCall, overwrite as overwriteCall, set_length as lengthCall};
-ghost use Rattle.format.specs.Calls.Call.{create as createCall, remove as removeCall, list as listCall, read_at as readAtCall};
+ghost use Rattle.format.specs.Calls.Call.{find as find_call, read as read_call, overwrite as overwrite_call, set_length as length_call};
+ghost use Rattle.format.specs.Calls.Call.{create as create_call, remove as remove_call, list as list_call, read_at as read_at_call};
 ghost use Rattle.format.specs.Calls.Reply.{plain, reply};
 ghost use Rattle.format.specs.Calls.Buffers.{work_cleared, image_after, out_after};
 ghost use Rattle.kinds.specs.Numbers.{number_of};
@@ -44,7 +44,7 @@ pub fn close(image: &[u8], work: &mut [u32], v: Volume)
 // The entry that a path leads to: its number, its type and its size.
 pub fn find_opened(image: &[u8], work: &[u32], v: Volume, path: &[u16]) -> Find
     requires { OpenVolume v image.now work.now }
-    ensures { find_reply result ≡ reply image.now (findCall path.now work.now) }
+    ensures { find_reply result ≡ reply image.now (find_call path.now work.now) }
 {
     find_in(path, image, work, v)
 }
@@ -59,8 +59,8 @@ pub fn read_opened(
     out: &mut [u8],
 ) -> Read
     requires { OpenVolume v image.now work.now }
-    ensures result_value { read_reply result ≡ reply image.now (readCall path.now offset out.old work.now) }
-    ensures out_after { out.new ≡ out_after image.now (readCall path.now offset out.old work.now) }
+    ensures result_value { read_reply result ≡ reply image.now (read_call path.now offset out.old work.now) }
+    ensures out_after { out.new ≡ out_after image.now (read_call path.now offset out.old work.now) }
 {
     read_in(path, image, work, v, offset, out)
 }
@@ -75,8 +75,8 @@ pub fn read_at_opened(
     out: &mut [u8],
 ) -> Read
     requires { OpenVolume v image.now work.now }
-    ensures result_value { read_reply result ≡ reply image.now (readAtCall entry.0 position out.old work.now) }
-    ensures out_after { out.new ≡ out_after image.now (readAtCall entry.0 position out.old work.now) }
+    ensures result_value { read_reply result ≡ reply image.now (read_at_call entry.0 position out.old work.now) }
+    ensures out_after { out.new ≡ out_after image.now (read_at_call entry.0 position out.old work.now) }
 {
     read_at_in(image, work, v, entry, position, out)
 }
@@ -92,9 +92,9 @@ pub fn overwrite_opened(
 ) -> Answer
     requires { OpenVolume v image.old work.old }
     ensures result_value { plain (number_of result)
-        ≡ reply image.old (overwriteCall path.now offset bytes.now work.old) }
+        ≡ reply image.old (overwrite_call path.now offset bytes.now work.old) }
     ensures image_after { image.new
-        ≡ image_after image.old (overwriteCall path.now offset bytes.now work.old) }
+        ≡ image_after image.old (overwrite_call path.now offset bytes.now work.old) }
     ensures open_volume { OpenVolume v image.new work.new }
     ensures wrote { Wrote work.old work.new 0 (work_need (length image.old)) }
 {
@@ -110,8 +110,8 @@ pub fn set_length_opened(
     new_len: u64,
 ) -> Answer
     requires { OpenVolume v image.old work.old }
-    ensures result_value { plain (number_of result) ≡ reply image.old (lengthCall path.now new_len work.old) }
-    ensures image_after { image.new ≡ image_after image.old (lengthCall path.now new_len work.old) }
+    ensures result_value { plain (number_of result) ≡ reply image.old (length_call path.now new_len work.old) }
+    ensures image_after { image.new ≡ image_after image.old (length_call path.now new_len work.old) }
     ensures open_volume { OpenVolume v image.new work.new }
     ensures wrote { Wrote work.old work.new 0 (work_need (length image.old)) }
 {
@@ -127,8 +127,8 @@ pub fn create_opened(
     kind: NewKind,
 ) -> Answer
     requires { OpenVolume v image.old work.now }
-    ensures result_value { plain (number_of result) ≡ reply image.old (createCall (new_kind_of kind) path.now work.now) }
-    ensures image_after { image.new ≡ image_after image.old (createCall (new_kind_of kind) path.now work.now) }
+    ensures result_value { plain (number_of result) ≡ reply image.old (create_call (new_kind_of kind) path.now work.now) }
+    ensures image_after { image.new ≡ image_after image.old (create_call (new_kind_of kind) path.now work.now) }
     ensures open_volume { OpenVolume v image.new work.now }
 {
     create_in(path, image, work, v, kind)
@@ -137,8 +137,8 @@ pub fn create_opened(
 // Removes the object that a path leads to: a stream, or a storage with nothing in it.
 pub fn remove_opened(image: &mut [u8], work: &mut [u32], v: Volume, path: &[u16]) -> Answer
     requires { OpenVolume v image.old work.old }
-    ensures result_value { plain (number_of result) ≡ reply image.old (removeCall path.now work.old) }
-    ensures image_after { image.new ≡ image_after image.old (removeCall path.now work.old) }
+    ensures result_value { plain (number_of result) ≡ reply image.old (remove_call path.now work.old) }
+    ensures image_after { image.new ≡ image_after image.old (remove_call path.now work.old) }
     ensures open_volume { OpenVolume v image.new work.new }
     ensures wrote { Wrote work.old work.new 0 (work_need (length image.old)) }
 {
@@ -148,8 +148,8 @@ pub fn remove_opened(image: &mut [u8], work: &mut [u32], v: Volume, path: &[u16]
 // A line for each object, in an out buffer that has room for all of them.
 pub fn list_opened(image: &[u8], work: &mut [u32], v: Volume, out: &mut [u8]) -> List
     requires { OpenVolume v image.now work.old }
-    ensures result_value { list_reply result ≡ reply image.now (listCall out.old work.old) }
-    ensures out_after { out.new ≡ out_after image.now (listCall out.old work.old) }
+    ensures result_value { list_reply result ≡ reply image.now (list_call out.old work.old) }
+    ensures out_after { out.new ≡ out_after image.now (list_call out.old work.old) }
     ensures open_volume { OpenVolume v image.now work.new }
     ensures wrote { Wrote work.old work.new 0 (work_need (length image.now)) }
 {

@@ -1,6 +1,6 @@
 // A view: the image that it was opened on. Each call is the plain one on that image, refusals included.
 ghost use Rattle.std.specs.Prelude.{◌≡◌};
-ghost use Rattle.format.specs.Calls.Call.{find as findCall, read as readCall};
+ghost use Rattle.format.specs.Calls.Call.{find as find_call, read as read_call};
 ghost use Rattle.format.specs.Calls.Reply.{reply};
 ghost use Rattle.format.specs.Calls.Buffers.{out_after, work_after};
 ghost use Rattle.format.specs.Calls.CursorMoves.{cursor_call, cursor_after};
@@ -25,8 +25,8 @@ pub fn open<'a>(image: &'a [u8]) -> View<'a>
 
 // The entry that a path leads to.
 pub fn find<'a>(view: View<'a>, work: &mut [u32], path: &[u16]) -> Find
-    ensures result_value { find_reply result ≡ reply view.entry.image.now (findCall path.now work.old) }
-    ensures work_after { work.new ≡ work_after view.entry.image.now (findCall path.now work.old) }
+    ensures result_value { find_reply result ≡ reply view.entry.image.now (find_call path.now work.old) }
+    ensures work_after { work.new ≡ work_after view.entry.image.now (find_call path.now work.old) }
 {
     cfb::find(view.image, work, path)
 }
@@ -34,11 +34,11 @@ pub fn find<'a>(view: View<'a>, work: &mut [u32], path: &[u16]) -> Find
 // Bytes of the stream that a path leads to, from an offset on.
 pub fn read<'a>(view: View<'a>, work: &mut [u32], path: &[u16], offset: u64, out: &mut [u8]) -> Read
     ensures result_value { read_reply result
-        ≡ reply view.entry.image.now (readCall path.now offset out.old work.old) }
+        ≡ reply view.entry.image.now (read_call path.now offset out.old work.old) }
     ensures out_after { out.new
-        ≡ out_after view.entry.image.now (readCall path.now offset out.old work.old) }
+        ≡ out_after view.entry.image.now (read_call path.now offset out.old work.old) }
     ensures work_after { work.new
-        ≡ work_after view.entry.image.now (readCall path.now offset out.old work.old) }
+        ≡ work_after view.entry.image.now (read_call path.now offset out.old work.old) }
 {
     cfb::read(view.image, work, path, offset, out)
 }

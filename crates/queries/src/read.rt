@@ -2,7 +2,7 @@
 ghost use Rattle.std.specs.Prelude.{◌≡◌, [], ◌+◌, ◌≤◌, length};
 ghost use Rattle.format.specs.Basics.Bytes.{part};
 ghost use Rattle.format.specs.Layout.Stream.{contents};
-ghost use Rattle.format.specs.Calls.Call.{read as readCall, read_at as readAtCall};
+ghost use Rattle.format.specs.Calls.Call.{read as read_call, read_at as read_at_call};
 ghost use Rattle.kinds.specs.Sizes.{geometry_of};
 ghost use Rattle.spaces.specs.Spaces.{volume_in};
 ghost use Rattle.queries.specs.Inside.{Open, reply_in, out_in};
@@ -46,10 +46,10 @@ pub fn read_object(
     requires fact { Open v img.now work.now }
     requires stream_at { StreamAt (volume_in v img.now) e }
     ensures result_value { read_reply result
-        ≡ reply_in (geometry_of v.tables.geometry) (volume_in v img.now) (readAtCall e.id.0 offset out.old []) }
+        ≡ reply_in (geometry_of v.tables.geometry) (volume_in v img.now) (read_at_call e.id.0 offset out.old []) }
     ensures out_after { out.new
         ≡ out_in (geometry_of v.tables.geometry) (volume_in v img.now) img.now
-        (readAtCall e.id.0 offset out.old []) }
+        (read_at_call e.id.0 offset out.old []) }
 {
     if e.size < offset {
         return Read::Refused(Refusal::Beyond);
@@ -70,10 +70,10 @@ pub fn read_in(
 ) -> Read
     requires { Open v img.now work.now }
     ensures result_value { read_reply result
-        ≡ reply_in (geometry_of v.tables.geometry) (volume_in v img.now) (readCall path.now offset out.old []) }
+        ≡ reply_in (geometry_of v.tables.geometry) (volume_in v img.now) (read_call path.now offset out.old []) }
     ensures out_after { out.new
         ≡ out_in (geometry_of v.tables.geometry) (volume_in v img.now) img.now
-        (readCall path.now offset out.old []) }
+        (read_call path.now offset out.old []) }
 {
     let f = find_in(path, img, work, v);
     let Find::Entry(e) = f else {
@@ -96,10 +96,10 @@ pub fn read_at_in(
 ) -> Read
     requires { Open v img.now work.now }
     ensures result_value { read_reply result
-        ≡ reply_in (geometry_of v.tables.geometry) (volume_in v img.now) (readAtCall entry.0 position out.old []) }
+        ≡ reply_in (geometry_of v.tables.geometry) (volume_in v img.now) (read_at_call entry.0 position out.old []) }
     ensures out_after { out.new
         ≡ out_in (geometry_of v.tables.geometry) (volume_in v img.now) img.now
-        (readAtCall entry.0 position out.old []) }
+        (read_at_call entry.0 position out.old []) }
 {
     let d = v.directory;
     if !entry.below(d.count()) {

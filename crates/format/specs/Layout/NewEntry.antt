@@ -13,9 +13,9 @@ unfoldable pub blank_entry : Bytes
 blank_entry = replicate 68 0 ++ (no_links ++ replicate 48 0)
 
 -- the units of a name, two bytes each
-unfoldable pub utf16Bytes : Name → Bytes
-utf16Bytes [] = []
-utf16Bytes (u ∷ us) = le16 u ++ utf16Bytes us
+unfoldable pub utf16_bytes : Name → Bytes
+utf16_bytes [] = []
+utf16_bytes (u ∷ us) = le16 u ++ utf16_bytes us
 
 -- after the 64 bytes of the name: its length in bytes with the zero unit; black, with nothing beside it or below it
 unfoldable pub entry_rest : (name_bytes kind start size : ℕ) → Bytes
@@ -24,4 +24,4 @@ entry_rest n kind start size =
 
 -- what is not given is zero
 unfoldable pub new_entry : Name → (kind start size : ℕ) → Bytes
-new_entry n kind start size = fit 64 (utf16Bytes n) ++ entry_rest (2 * length n + 2) kind start size
+new_entry n kind start size = fit 64 (utf16_bytes n) ++ entry_rest (2 * length n + 2) kind start size

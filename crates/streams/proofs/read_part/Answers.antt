@@ -14,7 +14,7 @@ use Rattle.streams.proofs.read_part.Goals.{After-kind_for-kind, After-unit_bytes
 room : (c : After-unit_place) → c.unit_place.result + c.unit_bytes-bytes.result ≤ length c.args.image.now
 room c =
     let q = (let asked' : let a = c.args in Asked a.v a.image.now a.work.now c.kind_for-kind.result a.offset a.out.now a.e = record { listed = c.requires.open_stream; kind_is = c.kind_for-kind.ensures; within = c.requires.out_bound } in asked') in
-    unit_room_lem q.listed q.kind-is c.unit_bytes-bytes.ensures _ (omega (arith, q.within, c.loop-i-test.true)) c.of.ensures c.unit_place.ensures
+    unit_room_lem q.listed q.kind_is c.unit_bytes-bytes.ensures _ (omega (arith, q.within, c.loop-i-test.true)) c.of.ensures c.unit_place.ensures
 
 some : (c : After-unit_bytes-bytes) → 0 < c.unit_bytes-bytes.result
 some c = bytes_some ((let asked' : let a = c.args in Asked a.v a.image.now a.work.now c.kind_for-kind.result a.offset a.out.now a.e = record { listed = c.requires.open_stream; kind_is = c.kind_for-kind.ensures; within = c.requires.out_bound } in asked')).listed c.kind_for-kind.ensures c.unit_bytes-bytes.ensures
@@ -38,18 +38,18 @@ nonzero_div-at c = some (goal.at.nonzero_div-at c).After-unit_bytes-bytes
 pub offset_bounds-work-at : goal.offset_bounds-work-at
 offset_bounds-work-at c =
     let q = asked (goal.at.offset_bounds-work-at c).After-kind_for-kind in
-    index_fits q.listed q.kind-is c.unit_bytes-bytes.ensures _ (omega (arith, q.within, c.loop-i-test.true))
+    index_fits q.listed q.kind_is c.unit_bytes-bytes.ensures _ (omega (arith, q.within, c.loop-i-test.true))
 
 pub bounds-work-at : goal.bounds-work-at
 bounds-work-at c =
     let q = asked (goal.at.bounds-work-at c).After-kind_for-kind in
-    index_listed q.listed q.kind-is c.unit_bytes-bytes.ensures _ (omega (arith, q.within, c.loop-i-test.true))
+    index_listed q.listed q.kind_is c.unit_bytes-bytes.ensures _ (omega (arith, q.within, c.loop-i-test.true))
 
 pub unit_place-requires : goal.unit_place-requires
 unit_place-requires c =
     let q = asked (goal.at.unit_place-requires c).After-kind_for-kind in
     let u = unit_as c.kind_for-kind.result _ c.of.ensures in
-    rw (u.0, u.1) (byte_listed q.listed q.kind-is c.unit_bytes-bytes.ensures _ (omega (arith, q.within, c.loop-i-test.true)))
+    rw (u.0, u.1) (byte_listed q.listed q.kind_is c.unit_bytes-bytes.ensures _ (omega (arith, q.within, c.loop-i-test.true)))
 
 pub overflow_add-p : goal.overflow_add-p
 overflow_add-p c =
