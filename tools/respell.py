@@ -1,5 +1,6 @@
 #!/usr/bin/env python3
-"""Spells the names that our own .antt texts declare as Rattle does: words in snake case, `siteListing` and `site-listing` as `site_listing`.
+"""Spells the names that our own .antt texts declare, or that an import gives, as Rattle does: words in snake case, `siteListing` and
+`site-listing` as `site_listing`.
 
 usage: respell.py [--check]
 
@@ -33,7 +34,7 @@ def files(*ends):
 def respelled(name):
     words = []
     for part in name.replace("getD", "get_or").split("-"):
-        if not re.search(r"[a-z][A-Z]", part) or part[:1].isupper():
+        if not re.search(r"[a-z0-9][A-Z]", part) or part[:1].isupper():
             words.append(part)
             continue
         words += [w if w.isupper() and len(w) <= 2 else w[0].lower() + w[1:] for w in re.findall(r"[A-Z]+(?![a-z])|[A-Z]?[^A-Z]+", part)]
@@ -45,6 +46,9 @@ def declared():
     for path in files(".antt"):
         with open(path, encoding="utf-8") as lines:
             names |= {m[1] for m in map(DECLARED.match, lines) if m}
+    for path in files(".antt", ".rt"):
+        with open(path, encoding="utf-8") as text:
+            names |= set(re.findall(r"\bas ([a-z][a-z0-9]*[A-Z][A-Za-z0-9]*)(?=[,}])", text.read()))
     new = {n: respelled(n) for n in sorted(names) if n[:1].isalpha()}
     taken = {s for n, s in new.items() if "-" not in n}
     new |= {n: f"{s}_lem" for n, s in new.items() if "-" in n and s in taken}

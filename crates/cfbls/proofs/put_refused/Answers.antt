@@ -11,3 +11,9 @@ overflow_cast-refusal_number c = search rules
 pub put_number_line-requires : goal.put_number_line-requires
 unfolding refused_line
 put_number_line-requires c = omega (arith, refused_most c.refusal_number.result, c.requires)
+
+pub returns : goal.returns
+unfolding refused_line
+returns c =
+    let s = c.put_number_line.ensures in
+    rw (← c.refusal_number.ensures) (record { count = s.count; written = s.written })

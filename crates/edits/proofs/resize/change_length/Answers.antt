@@ -80,7 +80,7 @@ returns-then-not-g c =
     let first : let a = c.args in (kind_of c.start_unit-first.result ≡ kind_for (max a.e.size a.new)) × (number_in c.start_unit-first.result ≡ start ((volume_in a.v a.img.now).directory.entry a.e.id.0)) = let f = stream_start c.requires.fact c.requires.stream_at _ c.kind_for-kind.result c.place.ensures c.start_unit-first.ensures in (f.0 ∙ kind_is (goal.at.returns-then-not-g c).After-kind_for-kind, f.1) in
     let answered : let a = c.args in let sp = space_at a.v a.img.now (kind_for (max a.e.size a.new)) in let old = c.units_for-old.result in let need = c.units_for-need.result in c.gather-g.result.enough ≡ not (ltb (old + length (free_units sp)) need) = rw first.0 at (growth_enough _ _ _ c.gather-g.ensures.value_2) in
     let looked' : let a = c.args in let vol = volume_in a.v a.img.now in (c.gather-g.result.looked ≡ cells_looked (length_searches vol a.e.id.0 a.new)) × (c.gather-g.result.looked ≤ (space_for vol a.new).limit) = let n = (rw first.0 at (growth_looked _ _ _ c.gather-g.ensures.value_2)) ∙ looked_is c.requires.fact c.requires.stream_at c.args.new c.requires.value _ _ (many (goal.at.returns-then-not-g c).After-units_for-old) wanted in (n, omega (arith, n, length_most (volume_in c.args.v c.args.img.now) c.args.e.id.0 c.args.new)) in
-    record { answer_value = too_few c.requires.fact c.requires.stream_at c.args.new c.requires.value _ _ (many (goal.at.returns-then-not-g c).After-units_for-old) wanted (ap not c.if-not-g.true) answered; img_after = refl; wrote = c.gather-g.ensures.wrote; looked_value = looked'.0; looked_bound = looked'.1 }
+    record { answer_value = too_few c.requires.fact c.requires.stream_at c.args.new c.requires.value _ _ (many (goal.at.returns-then-not-g c).After-units_for-old) wanted c.if-not-g.true answered; img_after = refl; wrote = c.gather-g.ensures.wrote; looked_value = looked'.0; looked_bound = looked'.1 }
 
 pub resize-requires : goal.resize-requires
 unfolding on_zero
@@ -90,8 +90,8 @@ resize-requires c =
     let first : let a = c.args in (kind_of c.start_unit-first.result ≡ kind_for (max a.e.size a.new)) × (number_in c.start_unit-first.result ≡ start ((volume_in a.v a.img.now).directory.entry a.e.id.0)) = let f = stream_start c.requires.fact c.requires.stream_at _ c.kind_for-kind.result c.place.ensures c.start_unit-first.ensures in (f.0 ∙ kind_is (goal.at.resize-requires c).After-kind_for-kind, f.1) in
     let mine : let a = c.args in let sp = space_at a.v a.img.now (kind_for (max a.e.size a.new)) in take c.units_for-old.result c.gather-g.new.work ≡ units sp.cell c.units_for-old.result (start ((volume_in a.v a.img.now).directory.entry a.e.id.0)) = let f = first in rw (f.0, f.1) at c.gather-g.ensures.work_after in
     let answered : let a = c.args in let sp = space_at a.v a.img.now (kind_for (max a.e.size a.new)) in let old = c.units_for-old.result in let need = c.units_for-need.result in c.gather-g.result.enough ≡ not (ltb (old + length (free_units sp)) need) = rw first.0 at (growth_enough _ _ _ c.gather-g.ensures.value_2) in
-    let all : let a = c.args in let sp = space_at a.v a.img.now (kind_for (max a.e.size a.new)) in take c.units_for-need.result c.gather-g.new.work ≡ take c.units_for-need.result (units sp.cell c.units_for-old.result (start ((volume_in a.v a.img.now).directory.entry a.e.id.0)) ++ free_units sp) = let f = first in rw (f.0, f.1) at (c.gather-g.ensures.work_after_2 (c.if-not-g.false)) in
-    let enough : let a = c.args in let sp = space_at a.v a.img.now (kind_for (max a.e.size a.new)) in (ltb (c.units_for-old.result + length (free_units sp)) c.units_for-need.result ≡ false) × (0 ≡ length_answer (geometry_of a.v.tables.geometry) (volume_in a.v a.img.now) a.e.size a.new) = enough_free c.requires.fact c.requires.stream_at c.args.new c.requires.value _ _ (many (goal.at.resize-requires c).After-units_for-old) wanted (ap not c.if-not-g.false) answered in
+    let all : let a = c.args in let sp = space_at a.v a.img.now (kind_for (max a.e.size a.new)) in take c.units_for-need.result c.gather-g.new.work ≡ take c.units_for-need.result (units sp.cell c.units_for-old.result (start ((volume_in a.v a.img.now).directory.entry a.e.id.0)) ++ free_units sp) = let f = first in rw (f.0, f.1) at (c.gather-g.ensures.work_after_2 (not-false _ c.if-not-g.false)) in
+    let enough : let a = c.args in let sp = space_at a.v a.img.now (kind_for (max a.e.size a.new)) in (ltb (c.units_for-old.result + length (free_units sp)) c.units_for-need.result ≡ false) × (0 ≡ length_answer (geometry_of a.v.tables.geometry) (volume_in a.v a.img.now) a.e.size a.new) = enough_free c.requires.fact c.requires.stream_at c.args.new c.requires.value _ _ (many (goal.at.resize-requires c).After-units_for-old) wanted c.if-not-g.false answered in
     record { fact = record { ready = listed; groups = c.requires.fact.groups }; stream_at = c.requires.stream_at; value = c.requires.value; size_nonzero = c.requires.size_nonzero; gathered = gathered c.requires.fact c.requires.stream_at c.args.new c.requires.value _ _ (many (goal.at.resize-requires c).After-units_for-old) wanted mine all enough.0 }
 
 pub returns : goal.returns
@@ -100,6 +100,6 @@ returns c =
     let wanted : let a = c.args in c.units_for-need.result ≡ round_up a.new (space_at a.v a.img.now (kind_for (max a.e.size a.new))).unit = c.units_for-need.ensures ∙ ap (round_up c.args.new) (bytes_are (goal.at.returns c).After-unit_bytes-bytes) in
     let first : let a = c.args in (kind_of c.start_unit-first.result ≡ kind_for (max a.e.size a.new)) × (number_in c.start_unit-first.result ≡ start ((volume_in a.v a.img.now).directory.entry a.e.id.0)) = let f = stream_start c.requires.fact c.requires.stream_at _ c.kind_for-kind.result c.place.ensures c.start_unit-first.ensures in (f.0 ∙ kind_is (goal.at.returns c).After-kind_for-kind, f.1) in
     let answered : let a = c.args in let sp = space_at a.v a.img.now (kind_for (max a.e.size a.new)) in let old = c.units_for-old.result in let need = c.units_for-need.result in c.gather-g.result.enough ≡ not (ltb (old + length (free_units sp)) need) = rw first.0 at (growth_enough _ _ _ c.gather-g.ensures.value_2) in
-    let enough : let a = c.args in let sp = space_at a.v a.img.now (kind_for (max a.e.size a.new)) in (ltb (c.units_for-old.result + length (free_units sp)) c.units_for-need.result ≡ false) × (0 ≡ length_answer (geometry_of a.v.tables.geometry) (volume_in a.v a.img.now) a.e.size a.new) = enough_free c.requires.fact c.requires.stream_at c.args.new c.requires.value _ _ (many (goal.at.returns c).After-units_for-old) wanted (ap not c.if-not-g.false) answered in
+    let enough : let a = c.args in let sp = space_at a.v a.img.now (kind_for (max a.e.size a.new)) in (ltb (c.units_for-old.result + length (free_units sp)) c.units_for-need.result ≡ false) × (0 ≡ length_answer (geometry_of a.v.tables.geometry) (volume_in a.v a.img.now) a.e.size a.new) = enough_free c.requires.fact c.requires.stream_at c.args.new c.requires.value _ _ (many (goal.at.returns c).After-units_for-old) wanted c.if-not-g.false answered in
     let looked' : let a = c.args in let vol = volume_in a.v a.img.now in (c.gather-g.result.looked ≡ cells_looked (length_searches vol a.e.id.0 a.new)) × (c.gather-g.result.looked ≤ (space_for vol a.new).limit) = let n = (rw first.0 at (growth_looked _ _ _ c.gather-g.ensures.value_2)) ∙ looked_is c.requires.fact c.requires.stream_at c.args.new c.requires.value _ _ (many (goal.at.returns c).After-units_for-old) wanted in (n, omega (arith, n, length_most (volume_in c.args.v c.args.img.now) c.args.e.id.0 c.args.new)) in
     record { answer_value = enough.1; img_after = c.resize.ensures; wrote = c.gather-g.ensures.wrote; looked_value = looked'.0; looked_bound = looked'.1 }

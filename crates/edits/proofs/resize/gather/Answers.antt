@@ -43,4 +43,4 @@ returns c =
     let g = chain_long c.requires.readied k _ _ c.requires.value in
     let n = filled_count _ _ _ (rw c.kind-kind.ensures at c.list_free-l.ensures.value) o in
     let u = filled_list _ _ _ (rw c.kind-kind.ensures at c.list_free-l.ensures.value) o _ _ (ap length c.list_units.ensures.work_after ∙ g) (rw c.kind-kind.ensures at c.list_free-l.ensures.work_after) in
-    let e = growth_is _ _ _ (free_enough _ _ _ _ _ _ _ g c.list_units.ensures.work_after o n u) (free_looked _ _ _ m (filled_looked _ _ _ (rw c.kind-kind.ensures at c.list_free-l.ensures.value))) in record { value_2 = e; work_after = own_still _ _ _ _ _ _ _ g c.list_units.ensures.work_after o n u; work_after_2 = all_listed _ _ _ _ _ _ _ g c.list_units.ensures.work_after o n u; wrote = wrote_two t (gathered_wrote c.requires.readied k _ m (rw c.kind-kind.ensures at c.list_free-l.ensures.wrote)); looked_bound = growth_most _ _ _ e }
+    let e = growth_is _ _ _ (free_enough _ _ _ _ _ _ _ g c.list_units.ensures.work_after o n u) (free_looked _ _ _ m (filled_looked _ _ _ (rw c.kind-kind.ensures at c.list_free-l.ensures.value))) in record { value_2 = e; work_after = own_still _ _ _ _ _ _ _ g c.list_units.ensures.work_after o n u; work_after_2 = all_listed _ _ _ _ _ _ _ g c.list_units.ensures.work_after o n u; wrote = wrote_two t (gathered_wrote c.requires.readied k _ m c.list_free-l.ensures.wrote); looked_bound = growth_most _ _ _ e }

@@ -33,7 +33,7 @@ enough : (c : Else-not-g) → let a = c.args in
     (c.units_for-need.result ≤ length (free_units (space_at a.v a.img.now (kind_for a.new))))
     × (0 ≡ length_answer (geometry_of a.v.tables.geometry) (volume_in a.v a.img.now) a.e.size a.new)
 enough c =
-    enough_free c.requires.fact c.requires.stream_at c.args.new c.requires.value _ ((let wanted' : let a = c.args in c.units_for-need.result ≡ round_up a.new (space_at a.v a.img.now (kind_for a.new)).unit = c.units_for-need.ensures ∙ ap (round_up c.args.new) (c.unit_bytes-2.ensures ∙ ap (unit_bytes c.args.v) c.kind_for-to.ensures ∙ unit_same c.requires.fact.ready (kind_for c.args.new)) in wanted')) ((let answered' : let a = c.args in c.gather_across-g.result.enough ≡ not (ltb (length (free_units (space_at a.v a.img.now (kind_for a.new)))) c.units_for-need.result) = (rw c.kind_for-to.ensures at (growth_enough _ _ _ c.gather_across-g.ensures.answer)) ∙ sym (none_before (length (free_units (space_at c.args.v c.args.img.now (kind_for c.args.new)))) c.units_for-need.result) in answered')) (ap not c.if-not-g.false)
+    enough_free c.requires.fact c.requires.stream_at c.args.new c.requires.value _ ((let wanted' : let a = c.args in c.units_for-need.result ≡ round_up a.new (space_at a.v a.img.now (kind_for a.new)).unit = c.units_for-need.ensures ∙ ap (round_up c.args.new) (c.unit_bytes-2.ensures ∙ ap (unit_bytes c.args.v) c.kind_for-to.ensures ∙ unit_same c.requires.fact.ready (kind_for c.args.new)) in wanted')) ((let answered' : let a = c.args in c.gather_across-g.result.enough ≡ not (ltb (length (free_units (space_at a.v a.img.now (kind_for a.new)))) c.units_for-need.result) = (rw c.kind_for-to.ensures at (growth_enough _ _ _ c.gather_across-g.ensures.answer)) ∙ sym (none_before (length (free_units (space_at c.args.v c.args.img.now (kind_for c.args.new)))) c.units_for-need.result) in answered')) c.if-not-g.false
 
 -- how many units there are and shall be, and the first
 many : (c : After-units_for-old) → let a = c.args in c.units_for-old.result ≡ round_up a.e.size (space_at a.v a.img.now (kind_for a.e.size)).unit
@@ -51,7 +51,7 @@ listed c =
       many = m;
       wanted = (let wanted' : let a = c.args in c.units_for-need.result ≡ round_up a.new (space_at a.v a.img.now (kind_for a.new)).unit = c.units_for-need.ensures ∙ ap (round_up c.args.new) (c.unit_bytes-2.ensures ∙ ap (unit_bytes c.args.v) c.kind_for-to.ensures ∙ unit_same c.requires.fact.ready (kind_for c.args.new)) in wanted');
       own = (rw (f.0, f.1) at c.gather_across-g.ensures.own) ∙ over_units c.requires.fact c.requires.stream_at _ m;
-      free = rw c.kind_for-to.ensures at (c.gather_across-g.ensures.free (c.if-not-g.false));
+      free = rw c.kind_for-to.ensures at (c.gather_across-g.ensures.free (not-false _ c.if-not-g.false));
       enough = (enough c).0;
     }
 
@@ -99,7 +99,7 @@ returns-then-not-g c =
     let wanted : let a = c.args in c.units_for-need.result ≡ round_up a.new (space_at a.v a.img.now (kind_for a.new)).unit = c.units_for-need.ensures ∙ ap (round_up c.args.new) (c.unit_bytes-2.ensures ∙ ap (unit_bytes c.args.v) c.kind_for-to.ensures ∙ unit_same c.requires.fact.ready (kind_for c.args.new)) in
     let answered : let a = c.args in c.gather_across-g.result.enough ≡ not (ltb (length (free_units (space_at a.v a.img.now (kind_for a.new)))) c.units_for-need.result) = (rw c.kind_for-to.ensures at (growth_enough _ _ _ c.gather_across-g.ensures.answer)) ∙ sym (none_before (length (free_units (space_at c.args.v c.args.img.now (kind_for c.args.new)))) c.units_for-need.result) in
     let looked' : let a = c.args in let vol = volume_in a.v a.img.now in (c.gather_across-g.result.looked ≡ cells_looked (length_searches vol a.e.id.0 a.new)) × (c.gather_across-g.result.looked ≤ (space_for vol a.new).limit) = let n = (rw c.kind_for-to.ensures at (growth_looked _ _ _ c.gather_across-g.ensures.answer)) ∙ move_looked c.requires.fact c.requires.stream_at c.args.new c.requires.value _ wanted in (n, omega (arith, n, length_most (volume_in c.args.v c.args.img.now) c.args.e.id.0 c.args.new)) in
-    record { answer_value = too_few c.requires.fact c.requires.stream_at c.args.new c.requires.value _ wanted answered (ap not c.if-not-g.true); img_after = refl; wrote = c.gather_across-g.ensures.wrote; looked_value = looked'.0; looked_bound = looked'.1 }
+    record { answer_value = too_few c.requires.fact c.requires.stream_at c.args.new c.requires.value _ wanted answered c.if-not-g.true; img_after = refl; wrote = c.gather_across-g.ensures.wrote; looked_value = looked'.0; looked_bound = looked'.1 }
 
 pub kept_bytes-n-requires : goal.kept_bytes-n-requires
 unfolding on_zero
