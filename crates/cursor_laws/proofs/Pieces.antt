@@ -25,16 +25,13 @@ use Rattle.format.specs.Calls.Cursor.{Cursor, moved_by, stream_answer}
 use Rattle.format.specs.Calls.CursorMoves.{cursor_call, cursor_after}
 use Rattle.format.specs.Claims.Cursor.{Lent, work_fits, takes_byte, room, rest_at, handed_at, handed_all, cursor_at_end, numbers_at, ReadsOn, CursorReads}
 use Rattle.theory.proofs.Tests.{both}
+use Rattle.cursor_laws.proofs.OneRead.{read_length, zero_is, moves, handed_is, within}
 use Rattle.frame.proofs.Final.{frame, own_sized}
 use Rattle.frame.proofs.Good.{accepted_good}
 use Rattle.history.proofs.Filled.{frame_sized, length_contents}
 use Rattle.frame.proofs.Accepted.{verdict_accepted}
 
 -- ---- on lists of bytes
-
-pub read_length : (s : Bytes) (p n : ℕ) → length (read_bytes s p n) ≡ read_count (length s) p n
-unfolding read_bytes read_count part
-read_length s p n = length-take (min (length s - p) n) (drop p s) ∙ omega (arith, length-drop p s)
 
 -- what is read, and what is left behind it
 pub read_on : (s : Bytes) (p n : ℕ) → read_bytes s p n ++ drop (p + read_count (length s) p n) s ≡ drop p s
@@ -56,7 +53,7 @@ room_enough (l ∷ ls) f =
     let u = both (leb 1 (length l.out)) (all takes_byte ls) f in
     omega (arith, leb-true 1 (length l.out) u.0, room_enough ls u.1)
 
--- ---- one read of an accepted image, at a stream and within it
+-- ---- reads one after the other
 
 module _ (img : Bytes) (acc : Accepted (version_of img) img) (e : ℕ) (inside : e < (own_volume img).directory.count)
     (st : is_stream ((own_volume img).directory.entry e) ≡ true) (long : length (contents (own_volume img) img e) ≡ stream_size (own_volume img) e) where
@@ -69,44 +66,6 @@ module _ (img : Bytes) (acc : Accepted (version_of img) img) (e : ℕ) (inside :
   abbrev at : ℕ → Cursor
   at p = record { entry = e; position = p }
 
-  read_number : (p : ℕ) (out : Bytes) (work : List ℕ) → p ≤ stream_size v e → leb (work_need (length img)) (length work) ≡ true → answer (version_of img) img (read_at e p out work) ≡ 0
-  unfolding answer answer_in work_of stream_answer beyond first_of
-  read_number p out work h w = rw (verdict_accepted (version_of img) img (length work) acc, w, lt-ltb e v.directory.count inside, st, le-ltb (stream_size v e) p h)
-
-  module _ (p : ℕ) (l : Lent) (h : p ≤ stream_size v e) (f : work_fits img l ≡ true) where
-    abbrev k : ℕ
-    k = read_count (length s) p (length l.out)
-
-    number_is : answer (version_of img) img (read_at e p l.out l.work) ≡ 0
-    unfolding work_fits
-    number_is = read_number p l.out l.work h f
-
-    zero_is : (reply img (cursor_call (at p) l.out l.work)).number ≡ 0
-    unfolding cursor_call reply_by on_zero done counted
-    zero_is = rw number_is
-
-    count_is : (reply img (read_at e p l.out l.work)).count ≡ k
-    unfolding reply_by on_zero done counted
-    count_is = rw (number_is, long)
-
-    out_is : out_after img (read_at e p l.out l.work) ≡ over (read_bytes s p (length l.out)) l.out
-    unfolding out_after_by on_zero handed_out
-    out_is = rw number_is
-
-    handed_is : handed_at img (at p) l ≡ read_bytes s p (length l.out)
-    unfolding handed_at cursor_call over
-    handed_is = ap₂ take count_is out_is ∙ take_at (read_bytes s p (length l.out)) _ k (read_length s p (length l.out))
-
-    moves : cursor_after img (at p) l.out l.work ≡ at (p + k)
-    unfolding cursor_after cursor_call moved_by
-    moves = ap (λ n. at (p + n)) count_is
-
-    within : p + k ≤ stream_size v e
-    unfolding read_count
-    within = omega (arith, long)
-
-  -- ---- reads one after the other
-
   rest_long : (p : ℕ) → length (rest_at img (at p)) ≡ stream_size v e - p
   unfolding rest_at
   rest_long p = length-drop p s ∙ omega (arith, long)
@@ -116,7 +75,7 @@ module _ (img : Bytes) (acc : Accepted (version_of img) img) (e : ℕ) (inside :
   answers_are p [] h f = refl
   answers_are p (l ∷ ls) h f =
       let u = both (work_fits img l) (all (work_fits img) ls) f in
-      ap₂ ◌∷◌ (zero_is p l h u.0) (ap (λ (c : Cursor). numbers_at img c ls) (moves p l h u.0) ∙ answers_are (p + read_count (length s) p (length l.out)) ls (within p l h u.0) u.1)
+      ap₂ ◌∷◌ (zero_is img acc e inside st long p l h u.0) (ap (λ (c : Cursor). numbers_at img c ls) (moves img acc e inside st long p l h u.0) ∙ answers_are (p + read_count (length s) p (length l.out)) ls (within img acc e inside st long p l h u.0) u.1)
 
   bytes_are : (p : ℕ) (ls : List Lent) → p ≤ stream_size v e → all (work_fits img) ls ≡ true →
       handed_all img (at p) ls ++ rest_at img (cursor_at_end img (at p) ls) ≡ rest_at img (at p)
@@ -125,9 +84,9 @@ module _ (img : Bytes) (acc : Accepted (version_of img) img) (e : ℕ) (inside :
   bytes_are p (l ∷ ls) h f =
       let u = both (work_fits img l) (all (work_fits img) ls) f in
       let n = p + read_count (length s) p (length l.out) in
-      let m = moves p l h u.0 in
+      let m = moves img acc e inside st long p l h u.0 in
       append_assoc (handed_at img (at p) l) _ _
-      ∙ ap₂ ◌++◌ (handed_is p l h u.0) (ap (λ (c : Cursor). handed_all img c ls ++ rest_at img (cursor_at_end img c ls)) m ∙ bytes_are n ls (within p l h u.0) u.1)
+      ∙ ap₂ ◌++◌ (handed_is img acc e inside st long p l h u.0) (ap (λ (c : Cursor). handed_all img c ls ++ rest_at img (cursor_at_end img c ls)) m ∙ bytes_are n ls (within img acc e inside st long p l h u.0) u.1)
       ∙ read_on s p (length l.out)
 
   cursor_is : (p : ℕ) (ls : List Lent) → p ≤ stream_size v e → all (work_fits img) ls ≡ true →
@@ -137,8 +96,8 @@ module _ (img : Bytes) (acc : Accepted (version_of img) img) (e : ℕ) (inside :
   cursor_is p (l ∷ ls) h f =
       let u = both (work_fits img l) (all (work_fits img) ls) f in
       let n = p + read_count (length s) p (length l.out) in
-      ap (λ (c : Cursor). cursor_at_end img c ls) (moves p l h u.0)
-      ∙ cursor_is n ls (within p l h u.0) u.1
+      ap (λ (c : Cursor). cursor_at_end img c ls) (moves img acc e inside st long p l h u.0)
+      ∙ cursor_is n ls (within img acc e inside st long p l h u.0) u.1
       ∙ ap at (reads_add p (length l.out) (room ls) (length s) (stream_size v e) long)
 
   whole_is : (p : ℕ) (ls : List Lent) → p ≤ stream_size v e → all (work_fits img) ls ≡ true → length (rest_at img (at p)) ≤ room ls →
