@@ -23,7 +23,7 @@ from .pulses import NO_RECORDS, Pulse, Pulses, Totals
 from .refusals import AlreadyThere, NotAStream, NotFound, Refusal, StreamOnTheWay
 from .stream import Stream
 
-__version__ = "1.0.0"
+__version__ = "0.1.0"
 
 __all__ = [
     "AlreadyThere",

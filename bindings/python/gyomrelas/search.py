@@ -9,7 +9,7 @@ from pathlib import Path
 from typing import Iterator
 
 #: The name by which the system's loader knows the library.
-SONAME = "libcfb.so.1"
+SONAME = "libcfb.so.0"
 
 
 def load() -> ctypes.CDLL:

@@ -52,9 +52,9 @@ class Search(Case):
         built = self.folder / "target" / "shared" / "libcfb.so"
         system = self.folder / "system"
         system.mkdir()
-        shutil.copy(self.loaded, system / "libcfb.so.1")
+        shutil.copy(self.loaded, system / "libcfb.so.0")
         where = {"LD_LIBRARY_PATH": str(system)}
-        self.assertEqual(self.run_import(package, **where), (0, "libcfb.so.1"))
+        self.assertEqual(self.run_import(package, **where), (0, "libcfb.so.0"))
         built.parent.mkdir(parents=True)
         shutil.copy(self.loaded, built)
         self.assertEqual(self.run_import(package, **where), (0, str(built)))

@@ -4,7 +4,7 @@ expect "help" is_status 0
 expect "help lists the words" grep -q "^  extract " "$dir/out"
 expect "help has the statuses" grep -q "^  3  the system" "$dir/out"
 run --version
-expect "version" gives "cfb $version"
+expect "version" gives "cfb 0.1.0"
 for word in check ls info map cat extract put append resize mk mkdir rm new repair pulses pulse; do
     run $word --help
     expect "help of $word" is_status 0
