@@ -9,4 +9,4 @@ pub loop-i-smaller : goal.loop-i-smaller
 loop-i-smaller c = simp length-set (omega arith)
 
 pub loop-i-preserved : goal.loop-i-preserved
-loop-i-preserved c = simp length-set (omega arith, (omega arith, omega (arith, c.read_full.auto.1.0, c.loop-i.invariant)))
+loop-i-preserved c = simp length-set (omega arith, (omega arith, omega (arith, c.read_full.auto.buf, c.loop-i.invariant)))
