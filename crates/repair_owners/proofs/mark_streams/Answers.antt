@@ -6,4 +6,4 @@ pub mark_streams-requires : goal.mark_streams-requires
 mark_streams-requires c = c.requires.streams
 
 pub returns : goal.returns
-returns c = streams_left c.args.s c.args.img.now c.requires c.mark_streams.ensures _ c.is_broken.ensures
+returns c = search (rules, streams_left c.args.s c.args.img.now c.requires c.mark_streams.ensures)
