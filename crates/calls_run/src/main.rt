@@ -9,15 +9,13 @@ use cfb::{
     create_storage, create_stream, find, format_image, list, overwrite, read, read_at, remove,
     repair, set_length, validate,
 };
-use kinds::{EntryId, number, refusal_number};
+use kinds::{EntryId, Refusal, number};
 use le::{u16_at, u32_at, u64_at};
-use pulse::answers::{Added, Record, Summary, pulse_number};
+use pulse::answers::{PulseRefusal, Totals};
 use pulse::{add, record, summary};
-use pulse_records::{Records, Ticks, Valve};
-use queries::find::Find;
-use queries::list::List;
-use queries::read::Read;
-use repair::Repair;
+use pulse_records::{Pulse, Records, Ticks, Valve};
+use queries::find::Object;
+use run_output::{digest, print_next, zeros};
 
 // ---- what a call gives
 
@@ -42,106 +40,72 @@ fn plain(n: u32) -> Values {
 
 fn counted(n: u64) -> Values {
     Values {
-        number: 0,
-        entry: 0,
-        kind: 0,
-        size: 0,
         count: n,
+        ..plain(0)
     }
 }
 
-fn found(f: Find) -> Values {
-    match f {
-        Find::Entry(e) => {
-            let x = e.id;
-            let t = e.entry_type;
-            Values {
-                number: 0,
-                entry: x.0,
-                kind: t.0,
-                size: e.size,
-                count: 0,
-            }
-        }
-        Find::Refused(a) => plain(refusal_number(a)),
-    }
-}
-
-fn copied(r: Read) -> Values {
+fn found(r: Result<Object, Refusal>) -> Values {
     match r {
-        Read::Done(n) => counted(n as u64),
-        Read::Refused(a) => plain(refusal_number(a)),
+        Ok(e) => Values {
+            entry: e.id.0,
+            kind: e.entry_type.0,
+            size: e.size,
+            ..plain(0)
+        },
+        Err(a) => plain(u32::from(a)),
     }
 }
 
-fn listed(r: List) -> Values {
+fn copied(r: Result<usize, Refusal>) -> Values {
     match r {
-        List::Done(n) => counted(n as u64),
-        List::Refused(a) => plain(refusal_number(a)),
+        Ok(n) => counted(n as u64),
+        Err(a) => plain(u32::from(a)),
     }
 }
 
-fn repaired(r: Repair) -> Values {
+fn repaired(r: Result<u64, Refusal>) -> Values {
     match r {
-        Repair::Done(n) => counted(n),
-        Repair::Refused(a) => plain(refusal_number(a)),
+        Ok(n) => counted(n),
+        Err(a) => plain(u32::from(a)),
     }
 }
 
 // The total of a summary stands with the sizes.
-fn summed(r: Summary) -> Values {
+fn summed(r: Result<Totals, PulseRefusal>) -> Values {
     match r {
-        Summary::Done(t) => {
-            let count = t.count;
-            let total = t.total;
-            Values {
-                number: 0,
-                entry: 0,
-                kind: 0,
-                size: total.0,
-                count: count.0 as u64,
-            }
-        }
-        Summary::Refused(a) => plain(pulse_number(a)),
+        Ok(t) => Values {
+            size: t.total.0,
+            count: t.count.0 as u64,
+            ..plain(0)
+        },
+        Err(a) => plain(u32::from(a)),
     }
 }
 
 // The valve of a record stands with the entries, its ticks with the sizes.
-fn recorded(r: Record) -> Values {
+fn recorded(r: Result<Pulse, PulseRefusal>) -> Values {
     match r {
-        Record::Done(p) => {
-            let valve = p.valve;
-            let ticks = p.ticks;
-            Values {
-                number: 0,
-                entry: valve.0 as u32,
-                kind: 0,
-                size: ticks.0 as u64,
-                count: 0,
-            }
-        }
-        Record::Refused(a) => plain(pulse_number(a)),
+        Ok(p) => Values {
+            entry: p.valve.0 as u32,
+            size: p.ticks.0 as u64,
+            ..plain(0)
+        },
+        Err(a) => plain(u32::from(a)),
     }
 }
 
-fn added(r: Added) -> Values {
+fn added(r: Result<(), PulseRefusal>) -> Values {
     match r {
-        Added::Done => plain(0),
-        Added::Refused(a) => plain(pulse_number(a)),
+        Ok(()) => plain(0),
+        Err(a) => plain(u32::from(a)),
     }
 }
 
-// What came of a call. A kind that there is not, and a fresh image with too little of a plan, is no call.
-#[derive(Clone, Copy)]
-enum Outcome {
-    Made(Values),
-    Unknown,
-}
-
-// A fresh image, by the plan that stands in the bytes: version, N, the sectors of directory and mini FAT, and K.
-fn fresh(image: &mut [u8], bytes: &[u8]) -> Outcome {
+// A fresh image, by the plan that stands in the bytes, if there are as many as a plan has: version, N, the sectors of directory and mini FAT, and K.
+fn fresh(image: &mut [u8], bytes: &[u8]) -> Option<Values> {
     if bytes.len() < 36 {
-        return Outcome::Unknown;
+        return None;
     }
     let version = u32_at(bytes, 0);
     let sectors = u64_at(bytes, 4);
@@ -149,7 +113,7 @@ fn fresh(image: &mut [u8], bytes: &[u8]) -> Outcome {
     let minifat = u64_at(bytes, 20);
     let minis = u64_at(bytes, 28);
     let a = format_image(image, version, sectors, directory, minifat, minis);
-    Outcome::Made(plain(number(a)))
+    Some(plain(number(a)))
 }
 
 // The call of a kind: 0 validates, 1 finds, 2 reads, 3 lists, 4 overwrites, 5 sets a length, 6 creates a
@@ -163,63 +127,34 @@ fn make(
     place: u64,
     last: u32,
     bytes: &mut [u8],
-) -> Outcome {
+) -> Option<Values> {
     match kind {
-        0 => Outcome::Made(plain(number(validate(image, work)))),
-        1 => Outcome::Made(found(find(image, work, path))),
-        2 => Outcome::Made(copied(read(image, work, path, place, bytes))),
-        3 => Outcome::Made(listed(list(image, work, bytes))),
-        4 => Outcome::Made(plain(number(overwrite(image, work, path, place, bytes)))),
-        5 => Outcome::Made(plain(number(set_length(image, work, path, place)))),
-        6 => Outcome::Made(plain(number(create_stream(image, work, path)))),
-        7 => Outcome::Made(plain(number(create_storage(image, work, path)))),
-        8 => Outcome::Made(plain(number(remove(image, work, path)))),
+        0 => Some(plain(number(validate(image, work)))),
+        1 => Some(found(find(image, work, path))),
+        2 => Some(copied(read(image, work, path, place, bytes))),
+        3 => Some(copied(list(image, work, bytes))),
+        4 => Some(plain(number(overwrite(image, work, path, place, bytes)))),
+        5 => Some(plain(number(set_length(image, work, path, place)))),
+        6 => Some(plain(number(create_stream(image, work, path)))),
+        7 => Some(plain(number(create_storage(image, work, path)))),
+        8 => Some(plain(number(remove(image, work, path)))),
         9 => fresh(image, bytes),
-        10 => Outcome::Made(repaired(repair(image, work, bytes))),
-        11 => Outcome::Made(copied(read_at(image, work, EntryId(last), place, bytes))),
-        12 => Outcome::Made(summed(summary(image, work, path))),
-        13 => Outcome::Made(recorded(record(image, work, path, Records(last)))),
-        14 => Outcome::Made(added(add(
+        10 => Some(repaired(repair(image, work, bytes))),
+        11 => Some(copied(read_at(image, work, EntryId(last), place, bytes))),
+        12 => Some(summed(summary(image, work, path))),
+        13 => Some(recorded(record(image, work, path, Records(last)))),
+        14 => Some(added(add(
             image,
             work,
             path,
             Valve((place % 65536) as u16),
             Ticks(last),
         ))),
-        _ => Outcome::Unknown,
+        _ => None,
     }
 }
 
 // ---- printing
-
-// A number that each byte has a part in.
-fn digest(b: &[u8]) -> u64 {
-    let mut h: u64 = 1;
-    let mut i = 0;
-    while i < b.len() {
-        h = (h * 16777619 + b[i] as u64) % 4294967296;
-        i += 1;
-    }
-    h
-}
-
-// How many numbers are 0.
-fn zeros(work: &[u32]) -> usize {
-    let mut n = 0;
-    let mut i = 0;
-    while i < work.len() {
-        if work[i] == 0 {
-            n += 1;
-        }
-        i += 1;
-    }
-    n
-}
-
-fn print_next(n: u64) {
-    io::write_all(1, b" ");
-    io::print_decimal(1, n);
-}
 
 fn print_values(v: Values) {
     io::print_decimal(1, v.number as u64);
@@ -235,23 +170,17 @@ fn print_values(v: Values) {
 fn within(n: u32, most: usize) -> usize
     ensures { result ≤ most }
 {
-    let k = n as usize;
-    if k < most {
-        return k;
-    }
-    most
+    (n as usize).min(most)
 }
 
 // Reads the units of a path; says whether they were there.
 fn read_path(path: &mut [u16]) -> bool {
-    let mut unit = [0u8; 2];
-    let mut i = 0;
-    while i < path.len() {
+    for to in path.iter_mut() {
+        let mut unit = [0u8; 2];
         if io::read_full(0, &mut unit) < 2 {
             return false;
         }
-        path[i] = u16_at(&unit, 0);
-        i += 1;
+        *to = u16_at(&unit, 0);
     }
     true
 }
@@ -269,7 +198,7 @@ fn run(
     let kind = u32_at(head, 0);
     let place = u64_at(head, 20);
     let last = u32_at(head, 28);
-    let Outcome::Made(v) = make(kind, image, work, path, place, last, bytes) else {
+    let Some(v) = make(kind, image, work, path, place, last, bytes) else {
         io::write_all(1, b"unknown\n");
         return false;
     };
@@ -317,12 +246,10 @@ fn calls(image: &mut [u8], count: u32) -> bool {
     if io::read_full(0, image) < image.len() {
         return false;
     }
-    let mut i = 0;
-    while i < count {
+    for _ in 0..count {
         if !call(image) {
             return false;
         }
-        i += 1;
     }
     true
 }
@@ -340,8 +267,9 @@ fn group() -> bool {
 
 // A proved loop has to end: no run uses up the turns.
 fn main() {
-    let mut turns: u32 = 1000000;
-    while 0 < turns && group() {
-        turns -= 1;
+    for _ in 0..1000000 {
+        if !group() {
+            return;
+        }
     }
 }

@@ -1,3 +1,2 @@
 -- Laws for the loops over cells.
 pub mod Turns
-pub mod Copies

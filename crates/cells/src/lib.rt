@@ -16,14 +16,11 @@ pub fn copy_cells(to: &mut [u32], from: &[u8], limit: u32, special: u32) -> bool
     ensures answer { result ≡ all_below (length to.old) (cell_right limit special (cell_of from.now)) }
     ensures copied { to.new ≡ list_below (length to.old) (cell_of from.now) }
 {
-    let n = to.len();
     let mut ok = true;
-    let mut i = 0;
-    while i < n {
+    for (i, cell) in to.iter_mut().enumerate() {
         let v = u32_at(from, 4 * i);
-        to[i] = v;
-        ok = ok & ((v < limit) | (special <= v));
-        i += 1;
+        *cell = v;
+        ok &= (v < limit) | (special <= v);
     }
     ok
 }
@@ -32,12 +29,9 @@ pub fn copy_cells(to: &mut [u32], from: &[u8], limit: u32, special: u32) -> bool
 pub fn all_free(from: &[u8]) -> bool
     ensures { result ≡ all_below (length from.now / 4) (is_free (cell_of from.now)) }
 {
-    let n = from.len() / 4;
     let mut ok = true;
-    let mut i = 0;
-    while i < n {
-        ok = ok & (u32_at(from, 4 * i) == Sector::FREE.0);
-        i += 1;
+    for i in 0..from.len() / 4 {
+        ok &= u32_at(from, 4 * i) == Sector::FREE.0;
     }
     ok
 }
@@ -47,14 +41,11 @@ pub fn marks_agree(from: &[u8], marked: &[u32]) -> bool
     requires { 4 * length marked.now ≤ length from.now }
     ensures { result ≡ all_below (length marked.now) (mark_agrees (cell_of from.now) (marks marked.now)) }
 {
-    let n = marked.len();
     let mut ok = true;
-    let mut i = 0;
-    while i < n {
+    for (i, mark) in marked.iter().enumerate() {
         let v = u32_at(from, 4 * i);
-        let m = marked[i];
-        ok = ok & (((v == Sector::FATSECT.0) == (m == 1)) & ((v == Sector::DIFSECT.0) == (m == 2)));
-        i += 1;
+        ok &= ((v == Sector::FATSECT.0) == (*mark == 1))
+            & ((v == Sector::DIFSECT.0) == (*mark == 2));
     }
     ok
 }
@@ -63,13 +54,8 @@ pub fn marks_agree(from: &[u8], marked: &[u32]) -> bool
 pub fn all_covered(next: &[u32]) -> bool
     ensures { result ≡ all_below (length next.now) (covered_at next.now) }
 {
-    let n = next.len();
-    let mut ok = true;
-    let mut i = 0;
-    while i < n {
-        let v = next[i];
-        ok = ok & ((0x8000_0000 <= v) & (v != Sector::END.0));
-        i += 1;
-    }
-    ok
+    next.iter().fold(
+        true,
+        |ok, v| ok & ((0x8000_0000 <= *v) & (*v != Sector::END.0)),
+    )
 }

@@ -1,6 +1,6 @@
 -- A volume written as numbers, and read again.
 use Prim.Native.Nat.{ℕ}
-use mathlib.Core.Path.{◌≡◌, sym, ◌∙◌, ap, subst}
+use mathlib.Core.Path.{◌≡◌, sym, ◌∙◌, ap}
 use mathlib.Core.Logic.{◌⊎◌, inl, inr}
 use mathlib.Core.List.{List, [], ◌∷◌}
 use Rattle.format.specs.Basics.Bytes.{Bytes}
@@ -34,10 +34,3 @@ opened_sizes {v} {img} s =
 pub packed : (v : Volume) → Known v
     → unpacked (v.tables.geometry.major ∷ v.tables.sectors ∷ v.tables.list ∷ v.directory.sectors ∷ v.directory.list ∷ v.minis.units ∷ v.minis.sectors ∷ v.minis.list ∷ v.stream ∷ []) ≡ v
 packed v k = rw (k.directory, k.minis, ← k.version)
-
--- what is known of the volume that was unpacked, and of the numbers
-pub numbers_open : {v u : Volume} {img : Bytes} {w : List ℕ} → v ≡ u → OpenVolume u img w → OpenVolume v img w
-numbers_open {img = img} {w = w} e o = subst (λ x. OpenVolume x img w) (sym e) o
-
-pub open_numbers : {v u : Volume} {img : Bytes} {w : List ℕ} → v ≡ u → OpenVolume v img w → OpenVolume u img w
-open_numbers {img = img} {w = w} e o = subst (λ x. OpenVolume x img w) e o

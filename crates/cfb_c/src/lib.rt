@@ -9,21 +9,58 @@ ghost use Rattle.format.specs.Calls.Reply.{plain, reply};
 ghost use Rattle.format.specs.Calls.Buffers.{image_after, out_after, work_after};
 ghost use Rattle.format.specs.Calls.Repair.{repair_reply, image_repaired, work_repaired, spare_repaired};
 ghost use Rattle.format.specs.Fresh.Answer.{format_answer, formatted};
-ghost use Rattle.kinds.specs.Numbers.{refusal_number};
+ghost use Rattle.queries.specs.Replies.{find_reply, read_reply};
 ghost use Rattle.formatting.specs.Plans.{plan_for};
 
 use cfb::{
     create_storage, create_stream, find, format_image, list, overwrite, read, read_at, remove,
     repair, set_length, validate,
 };
-use kinds::{EntryId, Refusal, number, refusal_number};
-use queries::find::Find;
-use queries::list::List;
-use queries::read::Read;
-use repair::Repair;
+use kinds::{EntryId, Refusal, number};
+use queries::find::Object;
 
 pub mod opened_calls;
 pub mod pulse_calls;
+
+// ---- answers as C gets them
+
+// An object's number, type and size; a refusal gives none of them.
+fn found(answer: Result<Object, Refusal>, entry: &mut u32, kind: &mut u32, size: &mut u64) -> u32
+    ensures { record { number = result; entry = entry.new; type = kind.new; size = size.new; count = 0 } ≡ find_reply answer }
+{
+    match answer {
+        Ok(e) => {
+            *entry = e.id.0;
+            *kind = e.entry_type.0 as u32;
+            *size = e.size;
+            0
+        }
+        Err(a) => {
+            *entry = 0;
+            *kind = 0;
+            *size = 0;
+            u32::from(a)
+        }
+    }
+}
+
+// How many bytes were handed over; a refusal hands over none.
+fn counted(answer: Result<usize, Refusal>, count: &mut u64) -> u32
+    ensures { record { number = result; entry = 0; type = 0; size = 0; count = count.new } ≡ read_reply answer }
+{
+    match answer {
+        Ok(n) => {
+            *count = n as u64;
+            0
+        }
+        Err(a) => {
+            *count = 0;
+            u32::from(a)
+        }
+    }
+}
+
+// ---- calls
 
 #[unsafe(no_mangle)]
 pub extern "C" fn cfb_validate(image: &[u8], work: &mut [u32]) -> u32
@@ -46,30 +83,7 @@ pub extern "C" fn cfb_find(
         ≡ reply image.now (find_call path.now work.old) }
     ensures work_after { work.new ≡ work_after image.now (find_call path.now work.old) }
 {
-    match find(image, work, path) {
-        Find::Entry(e) => {
-            *entry = e.id.0;
-            let t = e.entry_type;
-            *kind = t.0 as u32;
-            *size = e.size;
-            0
-        }
-        Find::Refused(a) => {
-            *entry = 0;
-            *kind = 0;
-            *size = 0;
-            refusal_number(a)
-        }
-    }
-}
-
-// A refusal's count is 0.
-fn refused(count: &mut u64, a: Refusal) -> u32
-    ensures value { result ≡ refusal_number a }
-    ensures count_after { count.new ≡ 0 }
-{
-    *count = 0;
-    refusal_number(a)
+    found(find(image, work, path), entry, kind, size)
 }
 
 #[unsafe(no_mangle)]
@@ -86,13 +100,7 @@ pub extern "C" fn cfb_read(
     ensures out_after { out.new ≡ out_after image.now (read_call path.now offset out.old work.old) }
     ensures work_after { work.new ≡ work_after image.now (read_call path.now offset out.old work.old) }
 {
-    match read(image, work, path, offset, out) {
-        Read::Done(n) => {
-            *count = n as u64;
-            0
-        }
-        Read::Refused(a) => refused(count, a),
-    }
+    counted(read(image, work, path, offset, out), count)
 }
 
 #[unsafe(no_mangle)]
@@ -109,13 +117,7 @@ pub extern "C" fn cfb_read_at(
     ensures out_after { out.new ≡ out_after image.now (read_at_call entry position out.old work.old) }
     ensures work_after { work.new ≡ work_after image.now (read_at_call entry position out.old work.old) }
 {
-    match read_at(image, work, EntryId(entry), position, out) {
-        Read::Done(n) => {
-            *count = n as u64;
-            0
-        }
-        Read::Refused(a) => refused(count, a),
-    }
+    counted(read_at(image, work, EntryId(entry), position, out), count)
 }
 
 #[unsafe(no_mangle)]
@@ -178,13 +180,7 @@ pub extern "C" fn cfb_list(image: &[u8], work: &mut [u32], out: &mut [u8], count
     ensures out_after { out.new ≡ out_after image.now (list_call out.old work.old) }
     ensures work_after { work.new ≡ work_after image.now (list_call out.old work.old) }
 {
-    match list(image, work, out) {
-        List::Done(n) => {
-            *count = n as u64;
-            0
-        }
-        List::Refused(a) => refused(count, a),
-    }
+    counted(list(image, work, out), count)
 }
 
 #[unsafe(no_mangle)]
@@ -225,10 +221,13 @@ pub extern "C" fn cfb_repair(
     ensures spare_after { spare.new ≡ spare_repaired image.old spare.old work.old }
 {
     match repair(image, work, spare) {
-        Repair::Done(n) => {
+        Ok(n) => {
             *changed = n;
             0
         }
-        Repair::Refused(a) => refused(changed, a),
+        Err(a) => {
+            *changed = 0;
+            u32::from(a)
+        }
     }
 }

@@ -11,19 +11,16 @@ ghost use Rattle.tables.specs.Work.{Wrote};
 ghost use Rattle.opened.specs.OpenVolume.{OpenVolume};
 ghost use Rattle.cfb_c.specs.Packed.{sizes_for, Known, unpacked};
 
-use super::refused;
+use super::{counted, found};
 use directory::Directory;
-use kinds::{EntryId, Geometry, NewKind, number, refusal_number};
+use kinds::{EntryId, Geometry, NewKind, number};
 use minis::Minis;
 use opened::{
     close, create_opened, find_opened, list_opened, open_image, overwrite_opened, read_at_opened,
     read_opened, remove_opened, set_length_opened,
 };
-use queries::find::Find;
-use queries::list::List;
-use queries::read::Read;
 use tables::Tables;
-use volume::{Opened, Volume};
+use volume::Volume;
 
 // ---- a volume as numbers
 
@@ -49,28 +46,29 @@ fn sizes_for(major: u64) -> Geometry
     ensures { result ≡ sizes_for major }
 {
     if major == 4 {
-        return Geometry::V4;
+        Geometry::V4
+    } else {
+        Geometry::V3
     }
-    Geometry::V3
 }
 
 fn unpack(volume: &[u64; 9]) -> Volume
     ensures { result ≡ unpacked volume.now }
 {
-    let g = sizes_for(volume[0]);
+    let geometry = sizes_for(volume[0]);
     Volume {
         tables: Tables {
-            geometry: g,
+            geometry,
             sectors: volume[1] as usize,
             list: volume[2] as usize,
         },
         directory: Directory {
-            geometry: g,
+            geometry,
             sectors: volume[3] as usize,
             list: volume[4] as usize,
         },
         minis: Minis {
-            geometry: g,
+            geometry,
             units: volume[5] as usize,
             sectors: volume[6] as usize,
             list: volume[7] as usize,
@@ -90,8 +88,8 @@ pub extern "C" fn cfb_open(image: &[u8], work: &mut [u32], volume: &mut [u64; 9]
     ensures volume_unchanged { result ≢ 0 → volume.new ≡ volume.old }
 {
     match open_image(image, work) {
-        Opened::Refused(a) => refusal_number(a),
-        Opened::Ready(v) => {
+        Err(a) => u32::from(a),
+        Ok(v) => {
             pack(v, volume);
             0
         }
@@ -122,21 +120,12 @@ pub extern "C" fn cfb_opened_find(
     ensures { record { number = result; entry = entry.new; type = kind.new; size = size.new; count = 0 }
         ≡ reply image.now (find_call path.now work.now) }
 {
-    match find_opened(image, work, unpack(volume), path) {
-        Find::Entry(e) => {
-            *entry = e.id.0;
-            let t = e.entry_type;
-            *kind = t.0 as u32;
-            *size = e.size;
-            0
-        }
-        Find::Refused(a) => {
-            *entry = 0;
-            *kind = 0;
-            *size = 0;
-            refusal_number(a)
-        }
-    }
+    found(
+        find_opened(image, work, unpack(volume), path),
+        entry,
+        kind,
+        size,
+    )
 }
 
 #[unsafe(no_mangle)]
@@ -155,13 +144,10 @@ pub extern "C" fn cfb_opened_read(
     ensures out_after { out.new
         ≡ out_after image.now (read_call path.now offset out.old work.now) }
 {
-    match read_opened(image, work, unpack(volume), path, offset, out) {
-        Read::Done(n) => {
-            *count = n as u64;
-            0
-        }
-        Read::Refused(a) => refused(count, a),
-    }
+    counted(
+        read_opened(image, work, unpack(volume), path, offset, out),
+        count,
+    )
 }
 
 #[unsafe(no_mangle)]
@@ -179,13 +165,10 @@ pub extern "C" fn cfb_opened_read_at(
         ≡ reply image.now (read_at_call entry position out.old work.now) }
     ensures out_after { out.new ≡ out_after image.now (read_at_call entry position out.old work.now) }
 {
-    match read_at_opened(image, work, unpack(volume), EntryId(entry), position, out) {
-        Read::Done(n) => {
-            *count = n as u64;
-            0
-        }
-        Read::Refused(a) => refused(count, a),
-    }
+    counted(
+        read_at_opened(image, work, unpack(volume), EntryId(entry), position, out),
+        count,
+    )
 }
 
 #[unsafe(no_mangle)]
@@ -287,11 +270,5 @@ pub extern "C" fn cfb_opened_list(
     ensures open_volume { OpenVolume (unpacked volume.now) image.now work.new }
     ensures wrote { Wrote work.old work.new 0 (work_need (length image.now)) }
 {
-    match list_opened(image, work, unpack(volume), out) {
-        List::Done(n) => {
-            *count = n as u64;
-            0
-        }
-        List::Refused(a) => refused(count, a),
-    }
+    counted(list_opened(image, work, unpack(volume), out), count)
 }

@@ -4,7 +4,6 @@ ghost use Rattle.pulse_laws.specs.Calls.{summary_answer, record_answer, add_answ
 ghost use Rattle.pulse_laws.specs.Calls.{number_alone, image_added, work_after_pulse};
 ghost use Rattle.pulse_laws.specs.Pulse.{Pulse};
 
-use pulse::answers::{Added, Record, Summary, pulse_number};
 use pulse::{add, record, summary};
 use pulse_records::{Records, Ticks, Valve};
 
@@ -22,15 +21,15 @@ pub extern "C" fn pulse_summary(
         ≡ work_after_pulse image.now (summary_answer image.now path.now work.old) work.old }
 {
     match summary(image, work, path) {
-        Summary::Done(t) => {
+        Ok(t) => {
             *count = t.count.0;
             *total = t.total.0;
             0
         }
-        Summary::Refused(a) => {
+        Err(a) => {
             *count = 0;
             *total = 0;
-            pulse_number(a)
+            u32::from(a)
         }
     }
 }
@@ -50,15 +49,15 @@ pub extern "C" fn pulse_record(
         ≡ work_after_pulse image.now (record_answer image.now path.now number work.old) work.old }
 {
     match record(image, work, path, Records(number)) {
-        Record::Done(p) => {
+        Ok(p) => {
             *valve = p.valve.0;
             *ticks = p.ticks.0;
             0
         }
-        Record::Refused(a) => {
+        Err(a) => {
             *valve = 0;
             *ticks = 0;
-            pulse_number(a)
+            u32::from(a)
         }
     }
 }
@@ -80,7 +79,7 @@ pub extern "C" fn pulse_add(
         (add_answer image.old path.now (record { valve = valve; ticks = ticks }) work.old) work.old }
 {
     match add(image, work, path, Valve(valve), Ticks(ticks)) {
-        Added::Done => 0,
-        Added::Refused(a) => pulse_number(a),
+        Ok(()) => 0,
+        Err(a) => u32::from(a),
     }
 }

@@ -8,8 +8,7 @@ ghost use Rattle.format.specs.Calls.Program.{program_capacity, refused_line, pro
 ghost use Rattle.kinds.specs.Numbers.{refusal_number};
 
 use cfb::list;
-use kinds::{Refusal, refusal_number};
-use queries::list::List;
+use kinds::Refusal;
 use text::put_number_line;
 
 // Writes the line of a refusal, and returns how many bytes it takes.
@@ -18,7 +17,7 @@ fn put_refused(out: &mut [u8], a: Refusal) -> usize
     ensures count { result ≡ length (refused_line (refusal_number a)) }
     ensures written { out.new ≡ over (refused_line (refusal_number a)) out.old }
 {
-    put_number_line(out, b"refused ", refusal_number(a) as u64)
+    put_number_line(out, b"refused ", u32::from(a) as u64)
 }
 
 // Puts what the program writes for an input at the front of the out buffer, and returns how many bytes it is.
@@ -32,8 +31,8 @@ fn report(input: &[u8], work: &mut [u32], out: &mut [u8]) -> usize
         return put_refused(out, Refusal::BadLength);
     }
     match list(input, work, out) {
-        List::Done(n) => n,
-        List::Refused(a) => put_refused(out, a),
+        Ok(n) => n,
+        Err(a) => put_refused(out, a),
     }
 }
 

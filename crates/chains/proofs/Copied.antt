@@ -1,13 +1,12 @@
 -- Cells that have been copied into the work buffer: no unit has a mark.
 use Prim.Native.Nat.{ℕ, ◌<◌}
-use mathlib.Core.Path.{◌≡◌, refl, ap, ◌∙◌}
+use mathlib.Core.Path.{◌≡◌, ap, ◌∙◌}
 use mathlib.Core.Logic.{inl, inr}
-use mathlib.Core.Bool.{true, false, ◌&&◌, ◌||◌, or-true, or-false}
+use mathlib.Core.Bool.{true, false, ◌||◌, or-true, or-false}
 use mathlib.Core.List.{List}
 use native.Mathlib.Omega.{arith}
 use lib.Dec.{eqb, ltb}
 use borrow.Author.Tests.{ltb-true, le-ltb}
-use Rattle.format.specs.Basics.Lists.{all_below}
 use Rattle.format.specs.Basics.Bytes.{Bytes}
 use Rattle.format.specs.Layout.Geometry.{Geometry, sector_count}
 use Rattle.format.specs.Layout.Chain.{END, FREE, FATSECT, DIFSECT}

@@ -1,7 +1,7 @@
 -- Groups 12 and 13 as the code goes through them.
 use Prim.Native.Nat.{ℕ, zero, suc, ◌+◌, ◌-◌, ◌*◌, ◌≤◌, ◌<◌}
-use mathlib.Core.Path.{◌≡◌, refl, sym, ◌∙◌}
-use mathlib.Core.Logic.{◌⊎◌, inl, inr}
+use mathlib.Core.Path.{◌≡◌, refl, ◌∙◌}
+use mathlib.Core.Logic.{◌⊎◌, inl, inr, ⊎_elim}
 use mathlib.Core.Bool.{not, ◌&&◌, ◌||◌}
 use mathlib.Core.List.{List}
 use native.Mathlib.Nat.{zero-add, add-zero}
@@ -49,12 +49,12 @@ cell_is g img s = refl
 pub cells_short : {g : Geometry} {img : Bytes} {w : List ℕ} {n list : ℕ} → FatListedAt g img w n list → 4 * (cells_in g * F img) ≤ length img
 cells_short {g} {img} l = short l.sized (F img) (omega (arith, l.few))
 
--- ---- group 13: with m steps left of the limit the walk is at s
+-- ---- group 13: after k steps the walk is at s
 
-pub record Following (cell : ℕ → ℕ) (limit s₀ m s : ℕ) : Type 0 where
-  pub some : m ≤ limit
-  pub rest : (n : ℕ) → chain cell limit ((limit - m) + n) s₀ ≡ chain cell limit n s
-  pub size : length (follow cell limit limit s₀) ≡ (limit - m) + length (follow cell limit m s)
+pub record Following (cell : ℕ → ℕ) (limit s₀ k s : ℕ) : Type 0 where
+  pub some : k ≤ limit
+  pub rest : (n : ℕ) → chain cell limit (k + n) s₀ ≡ chain cell limit n s
+  pub size : length (follow cell limit limit s₀) ≡ k + length (follow cell limit (limit - k) s)
 
 follow_none : (cell : ℕ → ℕ) (limit m s : ℕ) → (limit ≤ s) ⊎ (m ≡ 0) → length (follow cell limit m s) ≡ 0
 unfolding follow
@@ -63,33 +63,27 @@ follow_none cell limit (suc m) s (inl l) = rw (le-ltb s limit l)
 follow_none cell limit (suc m) s (inr z) = absurd (omega arith)
 
 module _ {cell : ℕ → ℕ} {limit s₀ : ℕ} where
-  pub following_start : Following cell limit s₀ limit s₀
-  following_start =
-      let z : limit - limit ≡ 0 = omega arith in
-      record { some = omega arith; rest = λ n. rw (z, zero-add); size = rw (z, zero-add) }
-
-  following_step : {m s : ℕ} → Following cell limit s₀ m s → 0 < m → s < limit → Following cell limit s₀ (m - 1) (cell s)
+  following_step : {k s : ℕ} → Following cell limit s₀ k s → k < limit → s < limit → Following cell limit s₀ (k + 1) (cell s)
   unfolding follow
-  following_step {m = zero} w p l = absurd (omega arith)
-  following_step {m = suc m} {s} w p l =
-      let e : suc m - 1 ≡ m = omega arith in
-      rw e record {
-        some = omega (arith, w.some);
-        rest = λ n. let z : limit - m + n ≡ limit - suc m + suc n = omega (arith, w.some) in rw z (w.rest (suc n) ∙ chain_step cell limit n s l);
-        size = w.size ∙ rw (lt-ltb s limit l) (omega (arith, w.some));
+  following_step {k} {s} w p l =
+      let e : limit - k ≡ suc (limit - (k + 1)) = omega arith in
+      record {
+        some = omega arith;
+        rest = λ n. let z : k + 1 + n ≡ k + suc n = omega arith in rw z (w.rest (suc n) ∙ chain_step cell limit n s l);
+        size = (rw e at w.size) ∙ rw (lt-ltb s limit l) (omega arith);
       }
 
   -- the next unit, read where the cells stand
-  pub following_read : {w : List ℕ} {m s i : ℕ} → Holds w 0 limit cell → Following cell limit s₀ m s → 0 < m → s < limit → i ≡ s → Following cell limit s₀ (m - 1) (get_or w i 0)
+  pub following_read : {w : List ℕ} {k s i : ℕ} → Holds w 0 limit cell → Following cell limit s₀ k s → k < limit → s < limit → i ≡ s → Following cell limit s₀ (k + 1) (get_or w i 0)
   following_read {w} {s = s} h f p l e =
       let z : get_or w s 0 ≡ cell s = rw zero-add at (h.here s l) in
       rw (e, z) (following_step f p l)
 
   -- the walk stops at what is no unit, or after as many steps as there are units
-  pub following_end : {m s : ℕ} → Following cell limit s₀ m s → (limit ≤ s) ⊎ (m ≡ 0) → (k : ℕ) → k ≡ limit - m
-      → (length (follow cell limit limit s₀) ≡ k) × (chain cell limit k s₀ ≡ eqb s END)
-  following_end {m} {s} w h k e =
-      (w.size ∙ rw (follow_none cell limit m s h, add-zero) (sym e), rw e (rw add-zero at (w.rest 0) ∙ chain_end cell limit s))
+  pub following_end : {k s : ℕ} → Following cell limit s₀ k s → (limit ≤ s) ⊎ (k ≡ limit) → (length (follow cell limit limit s₀) ≡ k) × (chain cell limit k s₀ ≡ eqb s END)
+  following_end {k} {s} w h =
+      let n = follow_none cell limit (limit - k) s (⊎_elim (λ l. inl l) (λ e. inr (omega arith)) h) in
+      (w.size ∙ rw (n, add-zero), rw add-zero at (w.rest 0) ∙ chain_end cell limit s)
 
 pub directory_is : (g : Geometry) (img : Bytes) (k s : ℕ)
     → (length (follow (fat_cell g img) (sector_count g img) (sector_count g img) (directory_start img)) ≡ k) × (chain (fat_cell g img) (sector_count g img) k (directory_start img) ≡ eqb s END)

@@ -1,5 +1,6 @@
 -- What marking a further chain says of the owners, by the walk's answer.
 use Prim.Native.Nat.{ℕ, ◌+◌, ◌≤◌, ◌<◌}
+use Rattle.std.specs.Prelude.{Option, Some, None}
 use native.Mathlib.Omega.{arith}
 use mathlib.Core.Path.{◌≡◌, refl, sym, ◌∙◌, ap}
 use mathlib.Core.Bool.{Bool, true, false, not, cond, ◌||◌, or-true, or-false, or_assoc}
@@ -15,20 +16,18 @@ use Rattle.tables.specs.Work.{Wrote}
 use Rattle.tables.proofs.WorkLaws.{wrote_two}
 use Rattle.theory.proofs.Tests.{clash}
 use Rattle.theory.proofs.OwnerMarks.{owning_fresh, owning_shared, owning_same}
-use Rattle.chains.specs.Answers.{mark_answer, is_broken, is_shared, and_then, Markable, ChainWalked, ChainsMarked}
-use Rattle.chains.specs.declared.Marked.{Marked}
-use Rattle.chains.specs.declared.Marked.TheVariants.{Broken, Fresh, Shared}
+use Rattle.chains.specs.Answers.{mark_answer, is_broken, is_shared, Markable, ChainWalked, ChainsMarked}
 
-broken_by : (a b : Bool) → is_broken (cond a (cond b Fresh Shared) Broken) ≡ not a
+broken_by : (a b : Bool) → is_broken (cond a (cond b (Some false) (Some true)) None) ≡ not a
 broken_by true true = refl
 broken_by true false = refl
 broken_by false b = refl
 
-shared_by : (b : Bool) → is_shared (cond b Fresh Shared) ≡ not b
+shared_by : (b : Bool) → is_shared (cond b (Some false) (Some true)) ≡ not b
 shared_by true = refl
 shared_by false = refl
 
-module _ {sp : Space} {at n s : ℕ} {w w' : List ℕ} {a : Marked} (r : ChainWalked sp at n s w w' a) where
+module _ {sp : Space} {at n s : ℕ} {w w' : List ℕ} {a : Option Bool} (r : ChainWalked sp at n s w w' a) where
   abbrev right : Bool
   right = chain sp.cell sp.limit n s
 
@@ -55,50 +54,31 @@ module _ {sp : Space} {at n s : ℕ} {w w' : List ℕ} {a : Marked} (r : ChainWa
 -- ---- chains, one after the other
 
 -- a walk along one chain
-pub marked_chain : {sp : Space} {at : ℕ} (n s : ℕ) {w w' : List ℕ} {a : Marked} → Markable sp at w → ChainWalked sp at n s w w' a
+pub marked_chain : {sp : Space} {at : ℕ} (n s : ℕ) {w w' : List ℕ} {a : Option Bool} → Markable sp at w → ChainWalked sp at n s w w' a
     → ChainsMarked sp at (chain sp.cell sp.limit n s) (units sp.cell n s) w w' a
 marked_chain n s z r = record { answer = broken_is r; stands = r.stands; owners = λ h. owning_marked r (omega (arith, z.few)) h; wrote = r.wrote }
 
-pub broken_two : (a b : Marked) → is_broken a ≡ false → is_broken (and_then a b) ≡ is_broken b
-broken_two Broken b h = absurd (clash refl h)
-broken_two Fresh b h = refl
-broken_two Shared Broken h = refl
-broken_two Shared Fresh h = refl
-broken_two Shared Shared h = refl
-
-pub shared_two : (a b : Marked) → is_broken a ≡ false → is_broken b ≡ false → is_shared (and_then a b) ≡ (is_shared a || is_shared b)
-shared_two Broken b h k = absurd (clash refl h)
-shared_two Fresh Broken h k = absurd (clash refl k)
-shared_two Shared Broken h k = absurd (clash refl k)
-shared_two Fresh Fresh h k = refl
-shared_two Fresh Shared h k = refl
-shared_two Shared Fresh h k = refl
-shared_two Shared Shared h k = refl
-
--- walks along chains that are all right, and then others
-pub marked_both : {sp : Space} {at : ℕ} {r : Bool} {own₁ own₂ w w₁ w₂ : List ℕ} {a b : Marked} → ChainsMarked sp at true own₁ w w₁ a → ChainsMarked sp at r own₂ w₁ w₂ b
-    → ChainsMarked sp at r (own₁ ++ own₂) w w₂ (and_then a b)
+-- walks along chains that are all right, and then others: a unit is shared if either says so
+pub marked_both : {sp : Space} {at : ℕ} {r : Bool} {own₁ own₂ w w₁ w₂ : List ℕ} {a b : Bool} → ChainsMarked sp at true own₁ w w₁ (Some a) → ChainsMarked sp at r own₂ w₁ w₂ (Some b)
+    → ChainsMarked sp at r (own₁ ++ own₂) w w₂ (Some (a || b))
 marked_both {own₁ = own₁} {own₂} {a = a} {b} p q =
     record {
-      answer = broken_two a b p.answer ∙ q.answer;
+      answer = q.answer;
       stands = q.stands;
-      owners = λ h owned shared o.
-          let k : is_broken b ≡ false = q.answer ∙ ap not h in
-          let z : ((shared || is_shared a) || is_shared b) ≡ (shared || is_shared (and_then a b)) = or_assoc shared (is_shared a) (is_shared b) ∙ ap (λ c. shared || c) (sym (shared_two a b p.answer k)) in
-          rw (← z, ← append_assoc owned own₁ own₂) (q.owners h (owned ++ own₁) (shared || is_shared a) (p.owners refl owned shared o));
+      owners = λ h owned shared o. rw (← or_assoc shared a b, ← append_assoc owned own₁ own₂) (q.owners h (owned ++ own₁) (shared || a) (p.owners refl owned shared o));
       wrote = wrote_two p.wrote q.wrote;
     }
 
 -- what the answer says of the chains
-module _ {sp : Space} {at : ℕ} {right : Bool} {own w w' : List ℕ} {a : Marked} (m : ChainsMarked sp at right own w w' a) where
-  pub is_wrong : is_broken a ≡ true → right ≡ false
-  is_wrong h = not-true right (sym m.answer ∙ h)
+module _ {sp : Space} {at : ℕ} {right : Bool} {own w w' : List ℕ} where
+  pub is_wrong : ChainsMarked sp at right own w w' None → right ≡ false
+  is_wrong m = not-true right (sym m.answer)
 
-  pub is_right : is_broken a ≡ false → right ≡ true
-  is_right h = not-false right (sym m.answer ∙ h)
+  pub is_right : {a : Bool} → ChainsMarked sp at right own w w' (Some a) → right ≡ true
+  is_right m = not-false right (sym m.answer)
 
 -- a walk that found a chain broken
-pub marked_broken : {sp : Space} {at : ℕ} {right : Bool} (own : List ℕ) {w w' : List ℕ} → right ≡ false → Wrote w w' at sp.limit → ChainsMarked sp at right own w w' Broken
+pub marked_broken : {sp : Space} {at : ℕ} {right : Bool} (own : List ℕ) {w w' : List ℕ} → right ≡ false → Wrote w w' at sp.limit → ChainsMarked sp at right own w w' None
 marked_broken own h r = record { answer = sym (rw h); stands = λ e. absurd (clash e h); owners = λ e. absurd (clash e h); wrote = r }
 
 -- ---- elsewhere

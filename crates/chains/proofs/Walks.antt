@@ -1,14 +1,16 @@
 -- The walk that marks a chain in the place of its cells, in any space.
 use Prim.Native.Nat.{ℕ, ◌+◌, ◌-◌, ◌≤◌, ◌<◌}
+use Rattle.std.specs.Prelude.{Some, None}
+use Rattle.std.specs.Bool.{then_some}
 use mathlib.Core.Path.{◌≡◌, refl, sym, ◌∙◌, ap}
-use mathlib.Core.Logic.{◌≢◌, ⊎_elim}
+use mathlib.Core.Logic.{◌≢◌, inl, inr, ⊎_elim}
 use mathlib.Core.Bool.{Bool, true, false, not}
 use mathlib.Core.List.{List}
 use native.Mathlib.Omega.{arith}
 use lib.Dec.{eqb}
 use lib.ListN.{length, get_or, set, length-set}
 use lib.Seq.{get_or-set_same, get_or-set_other}
-use borrow.Author.Tests.{eq-eqb, ne_eqb, lt-ltb, ltb-true}
+use borrow.Author.Tests.{ne_eqb, lt-ltb, ltb-true}
 use Rattle.format.specs.Basics.Lists.{all}
 use Rattle.format.specs.Layout.Chain.{END, chain, units}
 use Rattle.format.specs.Layout.Space.{Space}
@@ -20,7 +22,6 @@ use Rattle.theory.proofs.Marks.{Marking, marking_start, marking_step, marking_en
 use Rattle.tables.specs.Work.{Wrote}
 use Rattle.tables.proofs.WorkLaws.{wrote_none, wrote_set}
 use Rattle.chains.specs.Answers.{mark_answer, Markable, ChainWalked}
-use Rattle.chains.specs.declared.Marked.TheVariants.{Broken, Fresh, Shared}
 
 -- ---- marks as numbers
 
@@ -75,15 +76,15 @@ put_mark sp {at} {w = w} s k room place wrote p f l e =
 -- ---- the answers
 
 module _ (cell : ℕ → ℕ) (limit n s : ℕ) (m : ℕ → ℕ) where
-  answer_broken : chain cell limit n s ≡ false → Broken ≡ mark_answer cell limit n s m
+  answer_broken : chain cell limit n s ≡ false → None ≡ mark_answer cell limit n s m
   unfolding mark_answer
   answer_broken h = sym (rw h)
 
-  answer_fresh : chain cell limit n s ≡ true → all (unmarked m) (units cell n s) ≡ true → Fresh ≡ mark_answer cell limit n s m
+  answer_fresh : chain cell limit n s ≡ true → all (unmarked m) (units cell n s) ≡ true → Some false ≡ mark_answer cell limit n s m
   unfolding mark_answer
   answer_fresh h e = sym (rw (h, e))
 
-  answer_shared : chain cell limit n s ≡ true → all (unmarked m) (units cell n s) ≡ false → Shared ≡ mark_answer cell limit n s m
+  answer_shared : chain cell limit n s ≡ true → all (unmarked m) (units cell n s) ≡ false → Some true ≡ mark_answer cell limit n s m
   unfolding mark_answer
   answer_shared h e = sym (rw (h, e))
 
@@ -109,7 +110,7 @@ module _ {sp : Space} {at : ℕ} {w₀ : List ℕ} {n s₀ : ℕ} (z : Markable 
           wrote = r.wrote;
         }
 
-    broken : chain sp.cell sp.limit n s₀ ≡ false → ChainWalked sp at n s₀ w₀ w Broken
+    broken : chain sp.cell sp.limit n s₀ ≡ false → ChainWalked sp at n s₀ w₀ w None
     broken e =
         record {
           answer = answer_broken _ _ _ _ _ e;
@@ -118,15 +119,15 @@ module _ {sp : Space} {at : ℕ} {w₀ : List ℕ} {n s₀ : ℕ} (z : Markable 
           wrote = h.wrote;
         }
 
-    pub walk_out : 0 < k → sp.limit ≤ s → ChainWalked sp at n s₀ w₀ w Broken
+    pub walk_out : 0 < k → sp.limit ≤ s → ChainWalked sp at n s₀ w₀ w None
     walk_out p l = broken (marking_out h.marking p l)
 
-    pub walk_clash : s < sp.limit → is_mark (get_or w (at + s) 0) ≡ true → get_or w (at + s) 0 ≢ MARK + k → ChainWalked sp at n s₀ w₀ w Broken
+    walk_clash : s < sp.limit → is_mark (get_or w (at + s) 0) ≡ true → get_or w (at + s) 0 ≢ MARK + k → ChainWalked sp at n s₀ w₀ w None
     walk_clash l e d =
         let m = mark_some (get_or w (at + s) 0) e in
         broken (marking_clash (omega (arith, z.few)) z.closed h.marking l (omega (arith, m.0, m.1)) (λ y. d (omega (arith, m.0, m.1, y))))
 
-    pub walk_shared : 0 < k → k < 0x1000_0000 → s < sp.limit → get_or w (at + s) 0 ≡ MARK + k → ChainWalked sp at n s₀ w₀ w Shared
+    walk_shared : 0 < k → k < 0x1000_0000 → s < sp.limit → get_or w (at + s) 0 ≡ MARK + k → ChainWalked sp at n s₀ w₀ w (Some true)
     walk_shared p f l e =
         let r = marking_met h.marking p l (mark_is _ k e p f) in
         record {
@@ -136,22 +137,29 @@ module _ {sp : Space} {at : ℕ} {w₀ : List ℕ} {n s₀ : ℕ} (z : Markable 
           wrote = h.wrote;
         }
 
-    pub walk_fresh : k ≤ 0 → s ≡ END → ChainWalked sp at n s₀ w₀ w Fresh
-    walk_fresh i e =
-        let y : k ≡ 0 = omega arith in
-        let d = marking_done h.marking y e in
-        record {
-          answer = answer_fresh _ _ _ _ _ (marking_end h.marking y ∙ eq-eqb s END e) (marking_fresh h.marking y);
-          chained = λ t. d;
-          stands = λ t. record { few = z.few; room = omega (arith, z.room, h.wrote.long); place = h.place; closed = d.closed };
-          wrote = h.wrote;
-        }
+    -- the unit has a mark: this very one, or another
+    pub walk_met : 0 < k → k < 0x1000_0000 → s < sp.limit → is_mark (get_or w (at + s) 0) ≡ true → ChainWalked sp at n s₀ w₀ w (then_some (eqb (get_or w (at + s) 0) (MARK + k)) true)
+    walk_met p f l e =
+        elim (eqb_cases (get_or w (at + s) 0) (MARK + k)) [ inl a ↦ rw a.1 (walk_shared p f l a.0) | inr a ↦ rw a.1 (walk_clash l e a.0) ]
 
-    pub walk_off : k ≤ 0 → s ≢ END → ChainWalked sp at n s₀ w₀ w Broken
-    walk_off i d = broken (marking_end h.marking (omega arith) ∙ ne_eqb s END d)
+    -- no unit is left
+    pub walk_end : k ≡ 0 → ChainWalked sp at n s₀ w₀ w (then_some (eqb s END) false)
+    walk_end y =
+        let m = marking_end h.marking y in
+        elim (eqb_cases s END) [
+          | inl a ↦
+              let d = marking_done h.marking y a.0 in
+              rw a.1 record {
+                answer = answer_fresh _ _ _ _ _ (m ∙ a.1) (marking_fresh h.marking y);
+                chained = λ t. d;
+                stands = λ t. record { few = z.few; room = omega (arith, z.room, h.wrote.long); place = h.place; closed = d.closed };
+                wrote = h.wrote;
+              }
+          | inr a ↦ rw a.1 (broken (m ∙ a.1))
+        ]
 
   -- a chain of more units than there are is none
-  pub too_long : sp.limit < n → ChainWalked sp at n s₀ w₀ w₀ Broken
+  pub too_long : sp.limit < n → ChainWalked sp at n s₀ w₀ w₀ None
   too_long l = broken walk_start (false_of _ (λ e. omega (arith, chain_short sp.cell sp.limit (omega (arith, z.few)) n s₀ e)))
 
 -- ---- the same, whatever space the numbers are of

@@ -1,29 +1,23 @@
 -- What marking a chain answers and leaves, and what the search for a chain's length answers.
-use Rattle.std.specs.Prelude.{ℕ, ◌+◌, ◌≤◌, ◌<◌, ◌≡◌, Bool, true, false, not, cond, ◌||◌, List, [], ◌++◌, length, get_or}
+use Rattle.std.specs.Prelude.{ℕ, ◌+◌, ◌≤◌, ◌<◌, ◌≡◌, Bool, true, false, not, cond, ◌||◌, Option, Some, None, List, [], ◌++◌, length, get_or}
 use Rattle.format.specs.Basics.Lists.{all}
 use Rattle.format.specs.Layout.Chain.{chain, units}
 use Rattle.format.specs.Layout.Space.{Space}
 use Rattle.theory.specs.Marks.{unmarked, Closed, ChainMarked, Owning, marks_at, InPlace}
 use Rattle.tables.specs.Work.{Wrote}
-use Rattle.chains.specs.declared.Marked.{Marked}
-use Rattle.chains.specs.declared.Marked.TheVariants.{Broken, Fresh, Shared}
-use Rattle.chains.specs.declared.Length.{Length}
-use Rattle.chains.specs.declared.Length.TheVariants.{Is, Never}
 
--- no chain of n from s; one whose units have no mark; or one that has a unit with a mark
-unfoldable pub mark_answer : (ℕ → ℕ) → ℕ → ℕ → ℕ → (ℕ → ℕ) → Marked
-mark_answer cell limit n s m = cond (chain cell limit n s) (cond (all (unmarked m) (units cell n s)) Fresh Shared) Broken
+-- no chain of n from s; or whether one of its units has a mark
+unfoldable pub mark_answer : (ℕ → ℕ) → ℕ → ℕ → ℕ → (ℕ → ℕ) → Option Bool
+mark_answer cell limit n s m = cond (chain cell limit n s) (cond (all (unmarked m) (units cell n s)) (Some false) (Some true)) None
 
 -- what the answer says of the chain, and of its units
-abbrev pub is_broken : Marked → Bool
-is_broken Broken = true
-is_broken Fresh = false
-is_broken Shared = false
+abbrev pub is_broken : Option Bool → Bool
+is_broken None = true
+is_broken (Some shared) = false
 
-abbrev pub is_shared : Marked → Bool
-is_shared Broken = false
-is_shared Fresh = false
-is_shared Shared = true
+abbrev pub is_shared : Option Bool → Bool
+is_shared None = false
+is_shared (Some shared) = shared
 
 -- ---- one chain
 
@@ -41,28 +35,20 @@ pub record CellsCopied (sp : Space) (at : ℕ) (work : List ℕ) : Type 0 where
   pub clear : Owning sp.cell sp.limit [] (marks_at at work) false
 
 -- One chain of n from s has been walked along and marked: the answer, the marks of a right chain, and nothing but units' numbers changed.
-pub record ChainWalked (sp : Space) (at n s : ℕ) (before after : List ℕ) (a : Marked) : Type 0 where
+pub record ChainWalked (sp : Space) (at n s : ℕ) (before after : List ℕ) (a : Option Bool) : Type 0 where
   pub answer : a ≡ mark_answer sp.cell sp.limit n s (marks_at at before)
   pub chained : chain sp.cell sp.limit n s ≡ true → ChainMarked sp.cell sp.limit n s (marks_at at before) (marks_at at after)
   pub stands : chain sp.cell sp.limit n s ≡ true → Markable sp at after
   pub wrote : Wrote before after at sp.limit
 
 -- the same of whatever space the numbers are of
-abbrev pub UnitsWalked : (at limit n s : ℕ) → List ℕ → List ℕ → Marked → Type 0
+abbrev pub UnitsWalked : (at limit n s : ℕ) → List ℕ → List ℕ → Option Bool → Type 0
 UnitsWalked at limit n s before after a = (sp : Space) → sp.limit ≡ limit → Markable sp at before → ChainWalked sp at n s before after a
 
 -- ---- many chains
 
--- the answer for two walks, where the first is not broken
-abbrev pub and_then : Marked → Marked → Marked
-and_then Broken b = Broken
-and_then Fresh b = b
-and_then Shared Broken = Broken
-and_then Shared Fresh = Shared
-and_then Shared Shared = Shared
-
 -- Chains have been marked, one after the other: `right` says whether all of them are chains, `own` are their units end to end.
-pub record ChainsMarked (sp : Space) (at : ℕ) (right : Bool) (own before after : List ℕ) (a : Marked) : Type 0 where
+pub record ChainsMarked (sp : Space) (at : ℕ) (right : Bool) (own before after : List ℕ) (a : Option Bool) : Type 0 where
   pub answer : is_broken a ≡ not right
   pub stands : right ≡ true → Markable sp at after
   pub owners : right ≡ true → (owned : List ℕ) (shared : Bool) → Owning sp.cell sp.limit owned (marks_at at before) shared
@@ -76,5 +62,5 @@ abbrev pub unit_at : List ℕ → ℕ → ℕ
 unit_at us k = get_or us k 0
 
 -- the length, where there is a chain
-unfoldable pub length_answer : Bool → ℕ → Length
-length_answer there n = cond there (Is n) Never
+unfoldable pub length_answer : Bool → ℕ → Option ℕ
+length_answer there n = cond there (Some n) None

@@ -13,58 +13,13 @@ ghost use Rattle.tables.specs.Work.{Wrote, Holds};
 ghost use Rattle.tables.specs.Views.{volume_of, sector_count_of, cells_of, sectors_of};
 ghost use Rattle.tables.specs.Listed.{FatListed};
 ghost use Rattle.theory.specs.Marks.{is_mark};
-ghost use Rattle.chains.specs.Answers.{is_broken, is_shared, and_then, UnitsWalked, unit_at, length_answer};
+ghost use Rattle.chains.specs.Answers.{UnitsWalked, unit_at, length_answer};
 
 use header::{count_right, directory_start, fat_count};
-use kinds::{Geometry, Sector};
+use kinds::{ChainUnit, Geometry, Numbered, Sector};
 use tables::{Tables, cell_at, copy_table, table_free};
 
 // ---- marking a chain
-
-// There is no such chain; there is, and none of its units had a mark; or one had, from another chain.
-#[derive(Clone, Copy)]
-pub enum Marked {
-    Broken,
-    Fresh,
-    Shared,
-}
-
-impl Marked {
-    pub fn is_broken(self) -> bool
-        ensures { result ≡ is_broken self }
-    {
-        match self {
-            Marked::Broken => true,
-            Marked::Fresh => false,
-            Marked::Shared => false,
-        }
-    }
-
-    pub fn is_shared(self) -> bool
-        ensures { result ≡ is_shared self }
-    {
-        match self {
-            Marked::Broken => false,
-            Marked::Fresh => false,
-            Marked::Shared => true,
-        }
-    }
-
-    // This walk, which is not broken, and a later one.
-    pub fn and_then(self, later: Marked) -> Marked
-        ensures { result ≡ and_then self later }
-    {
-        match self {
-            Marked::Broken => Marked::Broken,
-            Marked::Fresh => later,
-            Marked::Shared => match later {
-                Marked::Broken => Marked::Broken,
-                Marked::Fresh => Marked::Shared,
-                Marked::Shared => Marked::Shared,
-            },
-        }
-    }
-}
 
 // Whether a number is a mark, and not a cell.
 pub fn is_mark(v: u32) -> bool
@@ -73,44 +28,30 @@ pub fn is_mark(v: u32) -> bool
     (0x8000_0000 < v) & (v < 0xFFFF_FFFC)
 }
 
-// The number of a unit of either kind as an index.
-pub fn index(unit: u32) -> usize
-    ensures { (result ≡ unit) × (result < 0x1_0000_0000) }
-{
-    unit as usize
-}
-
 // Marks the n units of a chain of either kind, each in the place of its cell with how many are left from there. The numbers of the units, `limit`
-// of them, stand from `at` on. A chain of more units than there are is broken without a walk.
-pub fn mark_chain(work: &mut [u32], at: usize, limit: usize, start: u32, n: u64) -> Marked
+// of them, stand from `at` on. Says whether one of the units had a mark already, from another chain; nothing where there is no such chain.
+// A chain of more units than there are is broken without a walk.
+pub fn mark_chain(work: &mut [u32], at: usize, limit: usize, start: u32, n: u64) -> Option<bool>
     requires { (at + limit ≤ length work.old) × (limit < 0x1000_0000) }
     ensures { UnitsWalked at limit n start work.old work.new result }
 {
     if (limit as u64) < n {
-        return Marked::Broken;
+        return None;
     }
     let mut s = start;
-    let mut k = n as u32;
-    while 0 < k {
-        let u = index(s);
+    for k in (1..=n as u32).rev() {
+        let u = s as usize;
         if limit <= u {
-            return Marked::Broken;
+            return None;
         }
         let v = work[at + u];
         if is_mark(v) {
-            if v == 0x8000_0000 + k {
-                return Marked::Shared;
-            }
-            return Marked::Broken;
+            return (v == 0x8000_0000 + k).then_some(true);
         }
         work[at + u] = 0x8000_0000 + k;
         s = v;
-        k -= 1;
     }
-    if s == Sector::END.0 {
-        return Marked::Fresh;
-    }
-    Marked::Broken
+    (s == Sector::END.0).then_some(false)
 }
 
 // How many units hold so many bytes.
@@ -118,10 +59,7 @@ pub fn units_for(size: u64, unit: u64) -> u64
     requires { 1 < unit }
     ensures { result ≡ round_up size unit }
 {
-    if size % unit == 0 {
-        return size / unit;
-    }
-    size / unit + 1
+    size.div_ceil(unit)
 }
 
 // How many sectors hold so many bytes. Each version's size stands here as a constant, so that nothing is divided by a number that the compiler does
@@ -150,11 +88,9 @@ pub fn list_chain(img: &[u8], work: &mut [u32], t: Tables, start: Sector, n: usi
     ensures holds { Holds work.new at n (unit_at (units (cells_of t img.now) n start.0)) }
 {
     let mut s = start;
-    let mut i = 0;
-    while i < n {
+    for i in 0..n {
         work[at + i] = s.0;
         s = cell_at(img, work, t, s);
-        i += 1;
     }
 }
 
@@ -194,25 +130,15 @@ pub fn cell_rules(img: &[u8], work: &mut [u32], t: Tables) -> bool
 
 // ---- group 13
 
-// How many units a chain has, where there is one of at least one unit.
-#[derive(Clone, Copy)]
-pub enum Length {
-    Is(usize),
-    Never,
-}
-
 // The length of a chain of k sectors, by what comes after them, if it is right.
-fn length_of(k: usize, next: Sector, right: bool) -> Length
+fn length_of(k: usize, next: Sector, right: bool) -> Option<usize>
     ensures { result ≡ length_answer ((leb 1 k && eqb next.0 END) && right) k }
 {
-    if ((1 <= k) & next.is_end()) & right {
-        return Length::Is(k);
-    }
-    Length::Never
+    (((1 <= k) & next.is_end()) & right).then_some(k)
 }
 
 // Group 13: how many sectors the directory has. The cells stand at the start of the work buffer.
-pub fn directory_length(img: &[u8], work: &[u32], t: Tables) -> Length
+pub fn directory_length(img: &[u8], work: &[u32], t: Tables) -> Option<usize>
     requires fat_listed { FatListed t img.now work.now }
     requires holds { Holds work.now 0 (sector_count_of t img.now) (cells_of t img.now) }
     ensures { result
@@ -222,13 +148,11 @@ pub fn directory_length(img: &[u8], work: &[u32], t: Tables) -> Length
     let g = t.geometry;
     let n = t.sectors;
     let mut s = directory_start(img);
-    let mut m = n;
-    while 0 < m {
+    for k in 0..n {
         if !s.below(n) {
-            return length_of(n - m, s, count_right(img, g, n - m));
+            return length_of(k, s, count_right(img, g, k));
         }
         s = Sector(work[s.index()]);
-        m -= 1;
     }
     length_of(n, s, count_right(img, g, n))
 }

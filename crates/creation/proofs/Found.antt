@@ -2,6 +2,7 @@
 use Prim.Native.Nat.{ℕ}
 use mathlib.Core.Path.{◌≡◌, subst}
 use mathlib.Core.List.{List}
+use Rattle.std.proofs.Common.{Option, Result, Ok, Err}
 use Rattle.format.specs.Basics.Bytes.{Bytes}
 use Rattle.format.specs.Layout.Name.{Name}
 use Rattle.format.specs.Layout.Directory.{Directory}
@@ -12,12 +13,10 @@ use Rattle.kinds.specs.declared.EntryId.{EntryId}
 use Rattle.kinds.specs.declared.Refusal.{Refusal}
 use Rattle.directory.specs.Listed.{entries_of}
 use Rattle.directory.specs.Blanks.{LowestBlank}
-use Rattle.directory.specs.declared.Blank.{Blank}
 use Rattle.lookup.specs.Slots.{SeatRight}
 use Rattle.lookup.specs.declared.Seat.{Seat}
 use Rattle.paths.specs.Parents.{parent_of, ParentInside, ParentAt}
 use Rattle.paths.specs.declared.Parent.{Parent}
-use Rattle.paths.specs.declared.Parent.TheVariants.{At, Refused}
 use Rattle.volume.specs.declared.Volume.{Volume as Opened}
 use Rattle.spaces.specs.Spaces.{volume_in}
 use Rattle.queries.specs.Inside.{Open}
@@ -27,21 +26,17 @@ module _ {v : Opened} {img : Bytes} {w : List ℕ} (o : Open v img w) where
   abbrev d : Directory
   d = (volume_in v img).directory
 
-  pub blank_in : {r q : Blank} → LowestBlank (entries_of v.directory img) r → r ≡ q → LowestBlank d q
-  blank_in {r} l e = subst (λ u. LowestBlank d u) e (subst (λ z. LowestBlank z r) (same_entries o) l)
+  pub blank_in : (q : Option EntryId) → LowestBlank (entries_of v.directory img) q → LowestBlank d q
+  blank_in q l = subst (λ z. LowestBlank z q) (same_entries o) l
 
-  pub seat_in : (n : Name) (s : ℕ) {r q : Seat} → SeatRight (entries_of v.directory img) n s r → r ≡ q → SeatRight d n s q
-  seat_in n s {r} l e = subst (λ u. SeatRight d n s u) e (subst (λ z. SeatRight z n s r) (same_entries o) l)
+  pub seat_in : (n : Name) (s : ℕ) (q : Seat) → SeatRight (entries_of v.directory img) n s q → SeatRight d n s q
+  seat_in n s q l = subst (λ z. SeatRight z n s q) (same_entries o) l
 
-  abbrev Says : Path → Directory → Parent → Type 0
-  Says p z r = (parent_of z r ≡ resolve_parent z p) × ParentInside z p r
+  module _ (p : Path) where
+    pub parent_at : (f : Parent) → parent_of (entries_of v.directory img) (Ok f) ≡ resolve_parent (entries_of v.directory img) p
+        → ParentInside (entries_of v.directory img) p (Ok f) → ParentAt d p f.storage.0 f.name
+    parent_at f e i =
+        subst (λ z. ParentAt z p f.storage.0 f.name) (same_entries o) (record { found = e; inside = i.0; last = i.1 })
 
-  module _ (p : Path) (r : Parent) (l : Says p (entries_of v.directory img) r) where
-    parent_in : {q : Parent} → r ≡ q → Says p d q
-    parent_in e = subst (λ u. Says p d u) e (subst (λ z. Says p z r) (same_entries o) l)
-
-    pub parent_at : {s : EntryId} {i : ℕ} → r ≡ At s i → ParentAt d p s.0 i
-    parent_at e = let k = parent_in e in record { found = k.0; inside = k.1.0; last = k.1.1 }
-
-    pub parent_none : {a : Refusal} → r ≡ Refused a → refused (refusal_number a) ≡ resolve_parent d p
-    parent_none e = (parent_in e).0
+    pub parent_none : (a : Refusal) → parent_of (entries_of v.directory img) (Err a) ≡ resolve_parent (entries_of v.directory img) p → refused (refusal_number a) ≡ resolve_parent d p
+    parent_none a e = subst (λ z. refused (refusal_number a) ≡ resolve_parent z p) (same_entries o) e

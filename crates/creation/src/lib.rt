@@ -15,11 +15,11 @@ ghost use Rattle.paths.specs.Parents.{ParentAt};
 ghost use Rattle.spaces.specs.Spaces.{volume_in};
 ghost use Rattle.queries.specs.Inside.{Open, image_in};
 
-use directory::{Blank, lowest_blank, place};
+use directory::{lowest_blank, place};
 use entry_writes::{put_link, put_new_entry};
-use kinds::{Answer, EntryId, NewKind, Refusal};
+use kinds::{EntryId, NewKind, Refusal};
 use lookup::{Seat, Slot, find_slot};
-use paths::{Parent, find_parent};
+use paths::find_parent;
 use volume::Volume;
 
 // Writes the entry of a new object into the lowest blank one, if there is one, and its number into a field.
@@ -30,7 +30,7 @@ fn create_at(
     v: Volume,
     kind: NewKind,
     h: Slot,
-) -> Answer
+) -> Result<(), Refusal>
     requires fact { Open v img.old work.now }
     requires name_len_bound { length name.now ≤ 31 }
     requires h_bound { h.entry.0 < (volume_in v img.old).directory.count }
@@ -43,21 +43,11 @@ fn create_at(
 {
     let d = v.directory;
     let field = h.field;
-    match lowest_blank(img, work, d) {
-        Blank::Nothing => Answer::Refused(Refusal::NoBlankEntry),
-        Blank::At(x) => {
-            put_new_entry(
-                img,
-                place(work, d, x),
-                name,
-                kind.entry_type(),
-                kind.start(),
-                0,
-            );
-            put_link(img, place(work, d, h.entry), field, x);
-            Answer::Done
-        }
-    }
+    let x = lowest_blank(img, work, d).ok_or(Refusal::NoBlankEntry)?;
+    let p = place(work, d, x);
+    put_new_entry(img, p, name, kind.entry_type(), kind.start(), 0);
+    put_link(img, place(work, d, h.entry), field, x);
+    Ok(())
 }
 
 // Creates an object whose name begins at unit i of a path, below the entry s.
@@ -69,7 +59,7 @@ fn create_below(
     kind: NewKind,
     s: EntryId,
     i: usize,
-) -> Answer
+) -> Result<(), Refusal>
     requires fact { Open v img.old work.now }
     requires parent_at { ParentAt (volume_in v img.old).directory path.now s.0 i }
     ensures result_value { number_of result
@@ -78,24 +68,28 @@ fn create_below(
         ≡ image_in (geometry_of v.tables.geometry) (volume_in v img.old) img.old (create (new_kind_of kind) path.now []) }
 {
     if path.len() == 0 {
-        return Answer::Refused(Refusal::AlreadyThere);
+        return Err(Refusal::AlreadyThere);
     }
     match find_slot(&path[i..], img, work, v.directory, s) {
-        Seat::Taken(_, _) => Answer::Refused(Refusal::AlreadyThere),
+        Seat::Taken(_, _) => Err(Refusal::AlreadyThere),
         Seat::Free(h) => create_at(&path[i..], img, work, v, kind, h),
     }
 }
 
 // Creates an object of no bytes at a path.
-pub fn create_in(path: &[u16], img: &mut [u8], work: &[u32], v: Volume, kind: NewKind) -> Answer
+pub fn create_in(
+    path: &[u16],
+    img: &mut [u8],
+    work: &[u32],
+    v: Volume,
+    kind: NewKind,
+) -> Result<(), Refusal>
     requires { Open v img.old work.now }
     ensures result_value { number_of result
         ≡ answer_in (geometry_of v.tables.geometry) (volume_in v img.old) (create (new_kind_of kind) path.now []) }
     ensures img_after { img.new
         ≡ image_in (geometry_of v.tables.geometry) (volume_in v img.old) img.old (create (new_kind_of kind) path.now []) }
 {
-    match find_parent(path, img, work, v.directory) {
-        Parent::Refused(a) => Answer::Refused(a),
-        Parent::At(s, i) => create_below(path, img, work, v, kind, s, i),
-    }
+    let p = find_parent(path, img, work, v.directory)?;
+    create_below(path, img, work, v, kind, p.storage, p.name)
 }

@@ -1,10 +1,9 @@
 -- The lowest blank entry, or that there is none.
-use Rattle.std.specs.Prelude.{◌<◌, ◌≡◌, [], length}
+use Rattle.std.specs.Prelude.{◌<◌, ◌≡◌, Option, Some, None, [], length}
 use Rattle.format.specs.Layout.Directory.{Directory, blanks}
 use Rattle.format.specs.Calls.Create.{lowest_blank}
-use Rattle.directory.specs.declared.Blank.{Blank}
-use Rattle.directory.specs.declared.Blank.TheVariants.{At, Nothing}
+use Rattle.kinds.specs.declared.EntryId.{EntryId}
 
-abbrev pub LowestBlank : Directory → Blank → Type 0
-LowestBlank e (At x) = (x.0 < e.count) × ((0 < length (blanks e)) × (x.0 ≡ lowest_blank e))
-LowestBlank e Nothing = blanks e ≡ []
+abbrev pub LowestBlank : Directory → Option EntryId → Type 0
+LowestBlank e (Some x) = (x.0 < e.count) × ((0 < length (blanks e)) × (x.0 ≡ lowest_blank e))
+LowestBlank e None = blanks e ≡ []

@@ -10,7 +10,8 @@ ghost use Rattle.directory.specs.Blanks.{LowestBlank};
 
 use entries::names::compare_name;
 use entries::{child, colour, entry_type, left, right};
-use kinds::{EntryId, EntryType, Geometry, Order, Sector};
+use kinds::{EntryId, EntryType, Geometry, Numbered, Sector};
+use std::cmp::Ordering;
 
 pub mod listed;
 
@@ -40,9 +41,8 @@ pub fn place(work: &[u32], d: Directory, x: EntryId) -> usize
     ensures { result ≡ place_of d work.now x.0 }
 {
     let g = d.geometry;
-    let list = d.list;
     let i = x.index();
-    let s = Sector(work[list + g.entry_sector(i)]);
+    let s = Sector(work[d.list + g.entry_sector(i)]);
     s.place(g) + 128 * g.entry_index(i)
 }
 
@@ -98,33 +98,23 @@ pub fn object(img: &[u8], work: &[u32], d: Directory, x: EntryId) -> bool
 
 // ---- blank entries
 
-// What a search for a blank entry finds.
-#[derive(Clone, Copy)]
-pub enum Blank {
-    At(EntryId),
-    Nothing,
-}
-
-// The blank entry of the lowest number.
-pub fn lowest_blank(img: &[u8], work: &[u32], d: Directory) -> Blank
+// The blank entry of the lowest number, if there is one.
+pub fn lowest_blank(img: &[u8], work: &[u32], d: Directory) -> Option<EntryId>
     requires { DirectoryListed d img.now work.now }
     ensures { LowestBlank (entries_of d img.now) result }
 {
-    let n = d.count();
-    let mut x = EntryId::ROOT;
-    while x.below(n) {
+    for x in EntryId::ROOT.until(d.count()) {
         if type_of(img, work, d, x).is_blank() {
-            return Blank::At(x);
+            return Some(x);
         }
-        x = x.next();
     }
-    Blank::Nothing
+    None
 }
 
 // ---- names
 
 // How a name lies to that of entry x.
-pub fn order_to(want: &[u16], img: &[u8], work: &[u32], d: Directory, x: EntryId) -> Order
+pub fn order_to(want: &[u16], img: &[u8], work: &[u32], d: Directory, x: EntryId) -> Ordering
     requires directory_listed { DirectoryListed d img.now work.now }
     requires named_in { NamedIn (entries_of d img.now) x.0 }
     ensures { result ≡ ordering want.now (name ((entries_of d img.now).entry x.0)) }

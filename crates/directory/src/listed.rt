@@ -23,10 +23,9 @@ pub fn list_directory(img: &[u8], work: &mut [u32], t: Tables, n: usize, at: usi
     ensures listed { DirectoryListed result img.now work.new }
     ensures wrote { Wrote work.old work.new at n }
 {
-    let g = t.geometry;
     list_chain(img, work, t, directory_start(img), n, at);
     Directory {
-        geometry: g,
+        geometry: t.geometry,
         sectors: n,
         list: at,
     }

@@ -1,6 +1,7 @@
 -- What a find says of the answer of an edit, and of the image that it leaves.
-use mathlib.Core.Path.{◌≡◌, sym, subst}
+use mathlib.Core.Path.{◌≡◌, sym}
 use mathlib.Core.Logic.{◌≢◌}
+use Rattle.std.specs.Prelude.{Ok, Err}
 use Rattle.format.specs.Basics.Bytes.{Bytes}
 use Rattle.format.specs.Layout.Geometry.{Geometry}
 use Rattle.format.specs.Layout.Volume.{Volume}
@@ -14,10 +15,8 @@ use Rattle.kinds.specs.declared.Refusal.{Refusal}
 use Rattle.kinds.proofs.Refusals.{else_refused}
 use Rattle.queries.specs.Inside.{FindRight, image_in}
 use Rattle.queries.specs.declared.find.Object.{Object}
-use Rattle.queries.specs.declared.find.Find.{Find}
-use Rattle.queries.specs.declared.find.Find.TheVariants.{Entry, Refused}
 use Rattle.queries.proofs.ReadAnswers.{target_none, target_some, target_refused}
-use Rattle.queries.proofs.Streams.{find_stream, object_other}
+use Rattle.queries.proofs.Streams.{object_stream, object_other}
 
 -- ---- any call
 
@@ -34,14 +33,14 @@ module _ (g : Geometry) (v : Volume) (img : Bytes) (call : Call) where
 
 module _ (v : Volume) (path : Path) where
   -- no entry
-  pub find_stopped : (f : Find) {a : Refusal} → FindRight v path f → f ≡ Refused a → target_answer v path ≡ refusal_number a
-  find_stopped f {a} h e = target_refused v path (refusal_number a) (subst (λ u. FindRight v path u) e h)
+  pub find_stopped : (a : Refusal) → FindRight v path (Err a) → target_answer v path ≡ refusal_number a
+  find_stopped a h = target_refused v path (refusal_number a) h
 
-  module _ (e : Object) (h : FindRight v path (Entry e)) where
+  module _ (e : Object) (h : FindRight v path (Ok e)) where
     -- a storage, or the root
     pub find_other : e.entry_type.0 ≢ 2 → target_answer v path ≡ 23
     find_other k = target_none v path e.id.0 h.0 (object_other v e h.1 k)
 
     module _ (k : e.entry_type.0 ≡ 2) where
       pub find_target : (target_answer v path ≡ 0) × (target v path ≡ e.id.0)
-      find_target = target_some v path e.id.0 h.0 (find_stream v path e h k).stream
+      find_target = target_some v path e.id.0 h.0 (object_stream v e h.1 k).stream

@@ -12,8 +12,8 @@ ghost use Rattle.queries.specs.Streams.{StreamAt};
 
 use chains::units_for;
 use directory::place;
-use kinds::{Answer, Refusal};
-use queries::find::{Find, Object, find_in, refusal};
+use kinds::Refusal;
+use queries::find::{Object, find_in};
 use spaces::{kind_for, start_unit, unit_bytes};
 use unitlists::list_units;
 use volume::Volume;
@@ -23,10 +23,7 @@ use writes::put_bytes;
 fn ends_beyond(size: u64, offset: u64, n: usize) -> bool
     ensures { result ≡ ltb size (offset + n) }
 {
-    if size < offset {
-        return true;
-    }
-    size - offset < n as u64
+    size < offset || size - offset < n as u64
 }
 
 // Puts bytes into a stream.
@@ -59,7 +56,7 @@ pub fn overwrite_in(
     v: Volume,
     offset: u64,
     bytes: &[u8],
-) -> Answer
+) -> Result<(), Refusal>
     requires { Open v img.old work.old }
     ensures result_value { number_of result
         ≡ answer_in (geometry_of v.tables.geometry) (volume_in v img.old) (overwrite_call path.now offset bytes.now []) }
@@ -68,17 +65,13 @@ pub fn overwrite_in(
         (overwrite_call path.now offset bytes.now []) }
     ensures wrote { Wrote work.old work.new 0 v.stream }
 {
-    let f = find_in(path, img, work, v);
-    let Find::Entry(e) = f else {
-        return Answer::Refused(refusal(f));
-    };
-    let t = e.entry_type;
-    if !t.is_stream() {
-        return Answer::Refused(Refusal::NotAStream);
+    let e = find_in(path, img, work, v)?;
+    if !e.entry_type.is_stream() {
+        return Err(Refusal::NotAStream);
     }
     if ends_beyond(e.size, offset, bytes.len()) {
-        return Answer::Refused(Refusal::Beyond);
+        return Err(Refusal::Beyond);
     }
     put_in_stream(img, work, v, e, offset as usize, bytes);
-    Answer::Done
+    Ok(())
 }

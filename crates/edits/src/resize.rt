@@ -22,8 +22,8 @@ ghost use Rattle.edits.specs.Growths.{growth_in};
 
 use chains::units_for;
 use directory::place;
-use kinds::{Answer, Refusal};
-use le::{greatest, least, less_one};
+use kinds::Refusal;
+use le::least;
 use queries::find::Object;
 use spaces::{Kind, Unit, kind_for, start_unit, unit_bytes, unit_count};
 use unitlists::{list_free, list_units};
@@ -105,7 +105,7 @@ fn rewrite(
 {
     let kept = least(old, n);
     put_cells(img, work, v, kind, Cells::Freed, kept, old);
-    put_cells(img, work, v, kind, Cells::Linked, less_one(kept), n);
+    put_cells(img, work, v, kind, Cells::Linked, kept.saturating_sub(1), n);
     fill_tail(img, work, v, kind, n, e.size, new);
     let first = chain_start(work, kind, 0, n);
     put_entry(img, work, v.directory, e.id, first, new);
@@ -120,16 +120,8 @@ pub fn resize(img: &mut [u8], work: &[u32], v: Volume, e: Object, old: usize, ne
     requires gathered { Gathered v img.old work.now e new old need }
     ensures { img.new ≡ resized (volume_in v img.old) img.old e.id.0 new }
 {
-    rewrite(
-        img,
-        work,
-        v,
-        kind_for(greatest(e.size, new)),
-        e,
-        old,
-        need,
-        new,
-    );
+    let kind = kind_for(e.size.max(new));
+    rewrite(img, work, v, kind, e, old, need, new);
 }
 
 // ---- the change
@@ -137,7 +129,7 @@ pub fn resize(img: &mut [u8], work: &[u32], v: Volume, e: Object, old: usize, ne
 // A change of length: its answer, and how many cells the searches for free units looked at.
 #[derive(Clone, Copy)]
 pub struct Change {
-    pub answer: Answer,
+    pub answer: Result<(), Refusal>,
     pub looked: usize,
 }
 
@@ -154,7 +146,7 @@ pub fn change_length(img: &mut [u8], work: &mut [u32], v: Volume, e: Object, new
     ensures looked_value { result.looked ≡ cells_looked (length_searches (volume_in v img.old) e.id.0 new) }
     ensures looked_bound { result.looked ≤ (space_for (volume_in v img.old) new).limit }
 {
-    let kind = kind_for(greatest(e.size, new));
+    let kind = kind_for(e.size.max(new));
     let bytes = unit_bytes(v, kind) as u64;
     let old = units_for(e.size, bytes) as usize;
     let need = units_for(new, bytes);
@@ -162,13 +154,13 @@ pub fn change_length(img: &mut [u8], work: &mut [u32], v: Volume, e: Object, new
     let g = gather(img, work, v, first, old, need);
     if !g.enough {
         return Change {
-            answer: Answer::Refused(Refusal::TooFewFree),
+            answer: Err(Refusal::TooFewFree),
             looked: g.looked,
         };
     }
     resize(img, work, v, e, old, need as usize, new);
     Change {
-        answer: Answer::Done,
+        answer: Ok(()),
         looked: g.looked,
     }
 }

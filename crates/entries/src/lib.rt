@@ -16,6 +16,7 @@ pub mod names;
 
 // ---- bytes at offset o
 
+#[tactic(auto, using(crate::proofs::EntryLaws::byte_in))]
 fn byte(img: &[u8], p: usize, o: usize) -> u8
     requires { Field img.now p o 1 }
     ensures { result ≡ byte_at (entry_at img.now p) o }
@@ -23,6 +24,7 @@ fn byte(img: &[u8], p: usize, o: usize) -> u8
     img[p + o]
 }
 
+#[tactic(auto, using(crate::proofs::EntryLaws::u16_in))]
 pub fn half(img: &[u8], p: usize, o: usize) -> u16
     requires { Field img.now p o 2 }
     ensures { result ≡ u16at (entry_at img.now p) o }
@@ -30,6 +32,7 @@ pub fn half(img: &[u8], p: usize, o: usize) -> u16
     u16_at(img, p + o)
 }
 
+#[tactic(auto, using(crate::proofs::EntryLaws::u32_in))]
 pub fn word(img: &[u8], p: usize, o: usize) -> u32
     requires { Field img.now p o 4 }
     ensures { result ≡ u32at (entry_at img.now p) o }
@@ -37,6 +40,7 @@ pub fn word(img: &[u8], p: usize, o: usize) -> u32
     u32_at(img, p + o)
 }
 
+#[tactic(auto, using(crate::proofs::EntryLaws::zeros_in))]
 pub fn zeros(img: &[u8], p: usize, o: usize, n: usize) -> bool
     requires { Field img.now p o n }
     ensures { result ≡ all_zero (part (entry_at img.now p) o n) }
@@ -46,6 +50,7 @@ pub fn zeros(img: &[u8], p: usize, o: usize, n: usize) -> bool
 
 // ---- fields
 
+#[tactic(auto, unfolding(format::specs::Layout::Entry::kind))]
 pub fn entry_type(img: &[u8], p: usize) -> EntryType
     requires { p + 128 ≤ length img.now }
     ensures { result.0 ≡ kind_of (entry_at img.now p) }
@@ -53,6 +58,7 @@ pub fn entry_type(img: &[u8], p: usize) -> EntryType
     EntryType(byte(img, p, 66))
 }
 
+#[tactic(auto, unfolding(format::specs::Layout::Entry::colour))]
 pub fn colour(img: &[u8], p: usize) -> u8
     requires { p + 128 ≤ length img.now }
     ensures { result ≡ colour_of (entry_at img.now p) }
@@ -60,6 +66,7 @@ pub fn colour(img: &[u8], p: usize) -> u8
     byte(img, p, 67)
 }
 
+#[tactic(auto, unfolding(format::specs::Layout::Entry::left))]
 pub fn left(img: &[u8], p: usize) -> EntryId
     requires { p + 128 ≤ length img.now }
     ensures { result.0 ≡ left_of (entry_at img.now p) }
@@ -67,6 +74,7 @@ pub fn left(img: &[u8], p: usize) -> EntryId
     EntryId(word(img, p, 68))
 }
 
+#[tactic(auto, unfolding(format::specs::Layout::Entry::right))]
 pub fn right(img: &[u8], p: usize) -> EntryId
     requires { p + 128 ≤ length img.now }
     ensures { result.0 ≡ right_of (entry_at img.now p) }
@@ -74,6 +82,7 @@ pub fn right(img: &[u8], p: usize) -> EntryId
     EntryId(word(img, p, 72))
 }
 
+#[tactic(auto, unfolding(format::specs::Layout::Entry::child))]
 pub fn child(img: &[u8], p: usize) -> EntryId
     requires { p + 128 ≤ length img.now }
     ensures { result.0 ≡ child_of (entry_at img.now p) }
@@ -82,6 +91,7 @@ pub fn child(img: &[u8], p: usize) -> EntryId
 }
 
 // The start of a stream that lies in sectors, and of one that lies in mini sectors: the size says which.
+#[tactic(auto, unfolding(format::specs::Layout::Entry::start))]
 pub fn start_sector(img: &[u8], p: usize) -> Sector
     requires { p + 128 ≤ length img.now }
     ensures { result.0 ≡ start_of (entry_at img.now p) }
@@ -89,6 +99,7 @@ pub fn start_sector(img: &[u8], p: usize) -> Sector
     Sector(word(img, p, 116))
 }
 
+#[tactic(auto, unfolding(format::specs::Layout::Entry::start))]
 pub fn start_mini(img: &[u8], p: usize) -> MiniSector
     requires { p + 128 ≤ length img.now }
     ensures { result.0 ≡ start_of (entry_at img.now p) }
@@ -97,17 +108,19 @@ pub fn start_mini(img: &[u8], p: usize) -> MiniSector
 }
 
 // The size as read: in version 3 only its lower half counts.
+#[tactic(auto, using(crate::proofs::EntryLaws::sizes))]
 pub fn size(img: &[u8], p: usize, g: Geometry) -> u64
     requires { p + 128 ≤ length img.now }
     ensures { result ≡ size_as_read (size_width (geometry_of g)) (entry_at img.now p) }
 {
     if g.major == 3 {
-        return word(img, p, 120) as u64;
+        return u64::from(word(img, p, 120));
     }
     u64_at(img, p + 120)
 }
 
 // The bytes of the name, with the zero unit that ends it.
+#[tactic(auto, unfolding(format::specs::Layout::Entry::name_bytes))]
 pub fn name_bytes(img: &[u8], p: usize) -> usize
     requires { p + 128 ≤ length img.now }
     ensures { result ≡ name_bytes (entry_at img.now p) }

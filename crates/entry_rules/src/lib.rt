@@ -14,38 +14,36 @@ ghost use Rattle.entry_rules.specs.Ahead.{Near, in_row, colours_right, ahead_rig
 use directory::{Directory, place};
 use entries::names::{legal_unit, name_unit, name_units};
 use entries::{child, colour, entry_type, half, left, name_bytes, right, word, zeros};
-use kinds::EntryId;
+use kinds::{EntryId, Numbered};
 use le::least;
 use nodes::{Node, Slot, put_node};
 
 // ---- names
 
 // Whether the first n units of the name are legal. Each is looked at, so that many can be at once.
+#[tactic(auto, using(theory::proofs::Loops::below_none, theory::proofs::Loops::below_next))]
 fn first_legal(img: &[u8], p: usize, n: usize) -> bool
     requires { Field img.now p 0 (2 * n) }
     ensures { result ≡ all_below n (unit_legal (entry_at img.now p)) }
 {
     let mut ok = true;
-    let mut i: usize = 0;
-    while i < n {
+    for i in 0..n {
         ok = ok & legal_unit(name_unit(img, p, i));
-        i += 1;
     }
     ok
 }
 
 // Whether those from unit m on are, one by one.
+#[tactic(auto, using(crate::proofs::Units::rest_next, crate::proofs::Units::rest_stop, crate::proofs::Units::rest_end))]
 fn rest_legal(img: &[u8], p: usize, m: usize, n: usize) -> bool
     requires m_le_n { m ≤ n }
     requires field { Field img.now p 0 (2 * n) }
     ensures { rest_below m n (unit_legal (entry_at img.now p)) result }
 {
-    let mut i = m;
-    while i < n {
+    for i in m..n {
         if !legal_unit(name_unit(img, p, i)) {
             return false;
         }
-        i += 1;
     }
     true
 }
@@ -59,6 +57,7 @@ fn legal_units(img: &[u8], p: usize, n: usize) -> bool
     first_legal(img, p, m) & rest_legal(img, p, m, n)
 }
 
+#[tactic(auto, using(crate::proofs::Fields::name_short, crate::proofs::Fields::name_long, crate::proofs::Fields::name_right))]
 fn name_fields(img: &[u8], p: usize) -> bool
     requires { p + 128 ≤ length img.now }
     ensures { result ≡ name_fields (entry_at img.now p) }
@@ -75,6 +74,7 @@ fn name_fields(img: &[u8], p: usize) -> bool
 
 // ---- each type of entry
 
+#[tactic(auto, unfolding(format::specs::Rules::Entries::blank_fields))]
 fn blank_fields(img: &[u8], p: usize) -> bool
     requires { p + 128 ≤ length img.now }
     ensures { result ≡ blank_fields (entry_at img.now p) }
@@ -97,6 +97,7 @@ fn stream_fields(img: &[u8], p: usize) -> bool
         & zeros(img, p, 108, 8)
 }
 
+#[tactic(auto, unfolding(format::specs::Rules::Entries::storage_fields, format::specs::Layout::Entry::start))]
 fn storage_fields(img: &[u8], p: usize) -> bool
     requires { p + 128 ≤ length img.now }
     ensures { result ≡ storage_fields (entry_at img.now p) }
@@ -104,6 +105,7 @@ fn storage_fields(img: &[u8], p: usize) -> bool
     name_fields(img, p) & (word(img, p, 116) == 0) & zeros(img, p, 120, 8)
 }
 
+#[tactic(auto, unfolding(format::specs::Rules::Entries::root_fields, format::specs::Layout::Entry::created))]
 fn root_fields(img: &[u8], p: usize) -> bool
     requires { p + 128 ≤ length img.now }
     ensures { result ≡ root_fields (entry_at img.now p) }
@@ -111,6 +113,7 @@ fn root_fields(img: &[u8], p: usize) -> bool
     left(img, p).is_none() & right(img, p).is_none() & zeros(img, p, 100, 8)
 }
 
+#[tactic(auto, unfolding(format::specs::Rules::Entries::common_fields))]
 fn common_fields(img: &[u8], p: usize) -> bool
     requires { p + 128 ≤ length img.now }
     ensures { result ≡ common_fields (entry_at img.now p) }
@@ -136,10 +139,8 @@ fn colours(img: &[u8], work: &[u32], d: Directory, x: EntryId, end: usize) -> bo
     ensures { result ≡ colours_right (entries_of d img.now) x.0 end }
 {
     let mut ok = true;
-    let mut y = x;
-    while y.index() < end {
+    for y in x.until(end) {
         ok = ok & common_fields(img, place(work, d, y));
-        y = y.next();
     }
     ok
 }
@@ -212,8 +213,7 @@ pub fn read_entries(img: &[u8], work: &mut [u32], d: Directory) -> bool
     ensures wrote { Wrote work.old work.new 0 (2 * count_of d + 2) }
 {
     let n = d.count();
-    let mut x = EntryId::ROOT;
-    while x.index() < n {
+    for x in EntryId::ROOT.until(n) {
         if !ahead_right(img, work, d, x) {
             return false;
         }
@@ -222,7 +222,6 @@ pub fn read_entries(img: &[u8], work: &mut [u32], d: Directory) -> bool
             return false;
         }
         put_node(work, Slot::at(x), node_of(img, p, n));
-        x = x.next();
     }
     true
 }

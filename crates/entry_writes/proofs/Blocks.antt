@@ -65,9 +65,6 @@ pub record Units (b₀ : Bytes) (p : ℕ) (n : Name) (b : Bytes) (i : ℕ) : Typ
   pub long : length b ≡ length b₀
   pub rest : put_bytes b₀ p (utf16_bytes n) ≡ put_bytes b (p + 2 * i) (utf16_bytes (drop i n))
 
-pub units_start : (b : Bytes) (p : ℕ) (n : Name) → Units b p n b 0
-units_start b p n = record { long = refl; rest = let e : p + 2 * 0 ≡ p = omega arith in rw e }
-
 module _ {b₀ : Bytes} {p : ℕ} {n : Name} {b : Bytes} {i : ℕ} (u : Units b₀ p n b i) where
   pub units_step : i < length n → Units b₀ p n (put16 b (p + 2 * i) (get_or n i 0)) (i + 1)
   unfolding put_bytes put16 utf16_bytes le16

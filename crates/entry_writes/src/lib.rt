@@ -8,7 +8,7 @@ ghost use Rattle.format.specs.Layout.NewEntry.{no_links, blank_entry, utf16_byte
 ghost use Rattle.kinds.specs.Links.{link_field};
 
 use kinds::{EntryId, EntryType, Link};
-use le::{fill_zero, put_u16, put_u32, put_u64};
+use le::{put_u16, put_u32, put_u64};
 
 // ---- fields
 
@@ -23,6 +23,7 @@ fn link_byte(field: Link) -> usize
     }
 }
 
+#[tactic(auto, using(crate::proofs::Blocks::link_inside))]
 pub fn put_link(img: &mut [u8], p: usize, field: Link, x: EntryId)
     requires { p + 128 ≤ length img.old }
     ensures { img.new ≡ put32 img.old (p + field_byte (link_field field)) x.0 }
@@ -30,6 +31,7 @@ pub fn put_link(img: &mut [u8], p: usize, field: Link, x: EntryId)
     put_u32(img, p + link_byte(field), x.0);
 }
 
+#[tactic(auto, unfolding(format::specs::Basics::Bytes::put_bytes))]
 pub fn put_black(img: &mut [u8], p: usize)
     requires { p + 128 ≤ length img.old }
     ensures { img.new ≡ put_bytes img.old (p + colour_byte) (black ∷ []) }
@@ -52,10 +54,8 @@ fn put_units(img: &mut [u8], p: usize, name: &[u16])
     requires { p + 2 * length name.now ≤ length img.old }
     ensures { img.new ≡ put_bytes img.old p (utf16_bytes name.now) }
 {
-    let mut i = 0;
-    while i < name.len() {
-        put_u16(img, p + 2 * i, name[i]);
-        i += 1;
+    for (i, unit) in name.iter().enumerate() {
+        put_u16(img, p + 2 * i, *unit);
     }
 }
 
@@ -65,11 +65,12 @@ pub fn put_blank_entry(img: &mut [u8], p: usize)
     requires { p + 128 ≤ length img.old }
     ensures { img.new ≡ put_bytes img.old p blank_entry }
 {
-    fill_zero(&mut img[p..p + 128]);
+    img[p..p + 128].fill(0);
     put_no_links(img, p);
 }
 
 // A new object's entry: a blank one with name, type, colour, start and size.
+#[tactic(auto, unfolding(format::specs::Basics::Bytes::put_bytes))]
 pub fn put_new_entry(img: &mut [u8], p: usize, name: &[u16], t: EntryType, start: u32, size: u64)
     requires p_in_bounds { p + 128 ≤ length img.old }
     requires name_len_bound { length name.now ≤ 31 }

@@ -1,7 +1,6 @@
 -- The header's sector: the marks, the numbers from byte 40 on, and zeros.
 use Prim.Native.Nat.{ℕ, ◌+◌, ◌-◌, ◌≤◌, ◌<◌}
 use mathlib.Core.Path.{◌≡◌, refl, sym, ap, ap₂, ◌∙◌}
-use mathlib.Core.Logic.{◌≢◌}
 use mathlib.Core.Bool.{true, false}
 use mathlib.Core.List.{◌++◌, append_assoc, append-nil}
 use native.Mathlib.Omega.{arith}
@@ -93,16 +92,6 @@ module _ (l : Parts) (st : Stands l) where
   unfolding field_list
   field_8 i e = rw e difat_count_lem
 
--- which is left after the first eight (omega splits six cases at most)
-four_on : (i : ℕ) → i ≢ 0 → i ≢ 1 → i ≢ 2 → i ≢ 3 → 4 ≤ i
-four_on i a b c d = omega arith
-
-last_four : (i : ℕ) → i < 9 → 4 ≤ i → i ≢ 4 → i ≢ 5 → i ≢ 6 → i ≢ 7 → i ≡ 8
-last_four i h k a b c d = omega arith
-
-pub last_field : (i : ℕ) → i < 9 → i ≢ 0 → i ≢ 1 → i ≢ 2 → i ≢ 3 → i ≢ 4 → i ≢ 5 → i ≢ 6 → i ≢ 7 → i ≡ 8
-last_field i h a b c d = last_four i h (four_on i a b c d)
-
 -- ---- the numbers
 
 module _ (g : Geometry) (p : Plan) where
@@ -173,3 +162,12 @@ module _ (g : Geometry) (p : Plan) where
       third_is part x y a b w z (ap length f ∙ length-replicate {A = ℕ} (g.sector_bytes - 512) 0 ∙ omega arith)
       ∙ ap₂ ◌++◌ (ap₂ ◌++◌ ex (ey ∙ numbers_are g p)) f
       ∙ ap (λ (r : Bytes). r ++ replicate (g.sector_bytes - 512) 0) (sym (append_assoc (header_front g) (header_fields g p) (numbers_below header_difat (fresh_difat g p))))
+
+-- ---- what proofs cite together
+
+pub ruleset directory_count = (counted, uncounted)
+
+-- number i of the header, and of its fields
+pub ruleset number_at = (number_field, number_entry)
+
+pub ruleset field_at = (field_0, field_1, field_2, field_3, field_4, field_5, field_6, field_7, field_8)

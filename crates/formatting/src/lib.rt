@@ -15,8 +15,8 @@ ghost use Rattle.formatting.specs.Numbers.{field_list, header_number};
 use chains::units_for;
 use fresh_sectors::{Parts, Plan, difat_entry, fill_sector, start_of};
 use header::{length_allowed, sector_count};
-use kinds::{Answer, Geometry, Refusal, Sector};
-use le::{fill_zero, put_u16, put_u32, put_u64};
+use kinds::{Geometry, Numbered, Refusal, Sector};
+use le::{put_u16, put_u32, put_u64};
 use tables::sectors::difat_need;
 
 // ---- the header
@@ -26,7 +26,7 @@ fn put_marks(part: &mut [u8], g: Geometry)
     requires { length part.old ≡ 40 }
     ensures { part.new ≡ header_front (geometry_of g) }
 {
-    fill_zero(part);
+    part.fill(0);
     put_u64(part, 0, 0xE11A_B1A1_E011_CFD0);
     put_u16(part, 24, 0x3E);
     put_u16(part, 26, g.major);
@@ -36,6 +36,7 @@ fn put_marks(part: &mut [u8], g: Geometry)
 }
 
 // How many sectors the directory has, where the version says it.
+#[tactic(auto, using(crate::proofs::Headers::directory_count, fresh_sectors::proofs::Standing::parts_risen))]
 fn directory_field(l: Parts) -> u32
     requires { Stands l }
     ensures { result ≡ directory_field (sizes l) (plan l) }
@@ -47,6 +48,7 @@ fn directory_field(l: Parts) -> u32
 }
 
 // Field i of the nine from byte 40 on.
+#[tactic(auto, using(crate::proofs::Headers::field_at, fresh_sectors::proofs::Standing::parts_risen))]
 fn field(l: Parts, i: usize) -> u32
     requires stands { Stands l }
     requires i_bound { i < 9 }
@@ -66,6 +68,7 @@ fn field(l: Parts, i: usize) -> u32
 }
 
 // Number i from byte 40 on: a field, or a DIFAT entry.
+#[tactic(auto, using(crate::proofs::Headers::number_at))]
 fn header_number(l: Parts, i: usize) -> u32
     requires { Stands l }
     ensures { result ≡ header_number (sizes l) (plan l) i }
@@ -82,10 +85,8 @@ fn put_numbers(part: &mut [u8], l: Parts)
     requires part_len { length part.old ≡ 472 }
     ensures { part.new ≡ numbers_below 118 (header_number (sizes l) (plan l)) }
 {
-    let mut i = 0;
-    while i < 118 {
+    for i in 0..118 {
         put_u32(part, i * 4, header_number(l, i));
-        i += 1;
     }
 }
 
@@ -97,7 +98,7 @@ fn fill_header(part: &mut [u8], l: Parts)
 {
     put_marks(&mut part[0..40], l.geometry);
     put_numbers(&mut part[40..512], l);
-    fill_zero(&mut part[512..]);
+    part[512..].fill(0);
 }
 
 // ---- the image
@@ -109,19 +110,17 @@ fn fill_image(img: &mut [u8], l: Parts)
 {
     let g = l.geometry;
     let bytes = g.bytes;
-    let n = l.plan.sectors as usize;
     fill_header(&mut img[0..bytes], l);
-    let mut s = Sector::FIRST;
-    while s.below(n) {
+    for s in Sector::FIRST.until(l.plan.sectors as usize) {
         let at = s.place(g);
         fill_sector(&mut img[at..at + bytes], l, s);
-        s = s.next();
     }
 }
 
 // ---- the plan
 
 // The sizes that a plan goes by: an unknown version counts as 3.
+#[tactic(auto, unfolding(format::specs::Fresh::Plan::planned, format::specs::Layout::Geometry::version3, format::specs::Layout::Geometry::version4))]
 fn geometry_for(p: Plan) -> Geometry
     ensures { geometry_of result ≡ planned (plan_of p) }
 {
@@ -186,7 +185,7 @@ pub fn format_image(
     directory: u64,
     minifat: u64,
     minis: u64,
-) -> Answer
+) -> Result<(), Refusal>
     ensures answer { number_of result ≡ format_answer (length img.old) (plan_for version sectors directory minifat minis) }
     ensures image { img.new ≡ formatted img.old (plan_for version sectors directory minifat minis) }
 {
@@ -199,15 +198,15 @@ pub fn format_image(
     };
     let g = geometry_for(p);
     if !buffer_fits(img, g, p) {
-        return Answer::Refused(Refusal::BadLength);
+        return Err(Refusal::BadLength);
     }
     if !plan_sound(g, p) {
-        return Answer::Refused(Refusal::PlanDoesNotFit);
+        return Err(Refusal::PlanDoesNotFit);
     }
     let l = parts_of(g, p);
     if sectors < l.spare.0 as u64 {
-        return Answer::Refused(Refusal::PlanDoesNotFit);
+        return Err(Refusal::PlanDoesNotFit);
     }
     fill_image(img, l);
-    Answer::Done
+    Ok(())
 }

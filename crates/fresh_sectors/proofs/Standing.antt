@@ -11,7 +11,7 @@ use borrow.Author.Tests.{lt-ltb, le-ltb}
 use Rattle.format.specs.Basics.Lists.{join_below}
 use Rattle.format.specs.Basics.Bytes.{Bytes}
 use Rattle.format.specs.Layout.Geometry.{header_difat, mini_bytes, cells_in, difat_in, entries_in}
-use Rattle.format.specs.Layout.Chain.{FREE, END, FATSECT, DIFSECT}
+use Rattle.format.specs.Layout.Chain.{FREE, FATSECT, DIFSECT}
 use Rattle.format.specs.Layout.NewEntry.{blank_entry}
 use Rattle.format.specs.Fresh.Plan.{fat_part, difat_from, directory_from, mini_fat_from, mini_stream_from, mini_stream_part, mini_stream_bytes, start_from}
 use Rattle.format.specs.Fresh.Cells.{link_in, fresh_cell, fresh_difat, difat_number}
@@ -158,18 +158,6 @@ module _ (l : Parts) (st : Stands l) where
 
 -- ---- starts, and the entries
 
-pub start_none : (s t : ℕ) → s ≡ t → END ≡ start_from s (t - s)
-unfolding start_from
-start_none s t e = let z : t - s ≡ 0 = omega arith in rw z
-
-pub start_some : (s t : ℕ) → s ≤ t → s ≢ t → s ≡ start_from s (t - s)
-unfolding start_from
-start_some s t h e = go (t - s) (omega arith)
-  where
-    go : (n : ℕ) → 0 < n → s ≡ start_from s n
-    go zero p = absurd (omega arith)
-    go (suc n) p = refl
-
 module _ (l : Parts) (st : Stands l) where
   pub root_is : (e s : ℕ) → e ≡ 0 → s ≡ start_from l.stream.0 (l.spare.0 - l.stream.0) → root_entry s (64 * l.plan.minis) ≡ fresh_entry (sizes l) (plan l) e
   unfolding fresh_entry mini_stream_bytes mini_bytes
@@ -242,3 +230,29 @@ module _ (l : Parts) (st : Stands l) (s : ℕ) where
         le-ltb s (mini_fat_from (sizes l) (plan l)) (omega (arith, st.placed, parts_risen l st)),
         le-ltb s (mini_stream_from (sizes l) (plan l)) (omega (arith, st.placed)),
       )
+
+-- a number in a sector of FAT or DIFAT has a small index
+module _ (l : Parts) (st : Stands l) where
+  pub cell_few : (c s i : ℕ) → c ≡ cells_in (sizes l) → s < l.difat.0 → i < cells_in (sizes l) → c * s + i ≤ 0x800_0400
+  cell_few c s i e h k = omega (arith, index_few c s (omega (arith, cells_few l st)) (omega (arith, parts_risen l st)), cells_few l st)
+
+  pub link_few : (c j i : ℕ) → c ≡ difat_in (sizes l) → j < l.directory.0 → i < cells_in (sizes l) → c * j + i ≤ 0x800_0400
+  link_few c j i e h k = omega (arith, index_few c j (omega (arith, links_few l st)) (omega (arith, parts_risen l st)), cells_few l st)
+
+-- ---- what proofs cite together
+
+-- the cell of a sector, by the part that it lies in
+pub ruleset cell_at = (at_fat, at_difat, at_directory, at_mini_fat, at_stream, at_spare)
+
+-- an entry of the DIFAT, and one of the directory
+pub ruleset difat_at = (entry_used, entry_spare)
+
+pub ruleset entry_at = (parts_risen, minis_few, root_is, blank_is)
+
+-- a sector
+pub ruleset sector_at = (sector_table, sector_directory, sector_mini_fat, sector_zero)
+
+-- a number in a sector of a table, and of DIFAT
+pub ruleset number_at = (table_fat, table_difat, table_mini)
+
+pub ruleset difat_number_at = (number_entry, number_link)

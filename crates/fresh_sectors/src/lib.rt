@@ -13,8 +13,8 @@ ghost use Rattle.fresh_sectors.specs.Tables.{table_number};
 
 use entry_writes::{put_blank_entry, put_new_entry};
 use header::DIFAT_ENTRIES;
-use kinds::{EntryId, EntryType, Geometry, MiniSector, Sector};
-use le::{fill_zero, put_u32};
+use kinds::{EntryId, EntryType, Geometry, MiniSector, Numbered, Sector};
+use le::put_u32;
 
 // What a fresh image is asked for: its version, how many sectors it has, the directory and the mini FAT have, and its mini sectors.
 #[derive(Clone, Copy)]
@@ -39,11 +39,12 @@ pub struct Parts {
 }
 
 // The start of a chain over the sectors from one to before another.
+#[tactic(auto, unfolding(format::specs::Fresh::Plan::start_from))]
 pub fn start_of(from: Sector, to: Sector) -> Sector
     requires { from.0 ≤ to.0 }
     ensures { result.0 ≡ start_from from.0 (to.0 - from.0) }
 {
-    if from.0 == to.0 {
+    if from == to {
         return Sector::END;
     }
     from
@@ -52,18 +53,20 @@ pub fn start_of(from: Sector, to: Sector) -> Sector
 // ---- tables
 
 // The link of sector s in a part that ends right before the sector `end`.
+#[tactic(auto, unfolding(format::specs::Fresh::Cells::link_in))]
 fn link_in(end: Sector, s: Sector) -> Sector
     requires { s.0 < 0xFFFF_FFFF }
     ensures { result.0 ≡ link_in end.0 s.0 }
 {
     let next = s.next();
-    if next.0 == end.0 {
+    if next == end {
         return Sector::END;
     }
     next
 }
 
 // The cell of a sector.
+#[tactic(auto, using(crate::proofs::Standing::cell_at))]
 fn fresh_cell(l: Parts, s: Sector) -> Sector
     requires stands { Stands l }
     requires s_bound { s.0 < 0xFFFF_FFFF }
@@ -88,6 +91,7 @@ fn fresh_cell(l: Parts, s: Sector) -> Sector
 }
 
 // DIFAT entry i: FAT sector i, and behind the last one free.
+#[tactic(auto, using(crate::proofs::Standing::difat_at))]
 pub fn difat_entry(l: Parts, i: usize) -> Sector
     requires { Stands l }
     ensures { result.0 ≡ fresh_difat (sizes l) (plan l) i }
@@ -99,6 +103,7 @@ pub fn difat_entry(l: Parts, i: usize) -> Sector
 }
 
 // Number i of the DIFAT sector s: an entry, or the link behind the entries.
+#[tactic(auto, using(crate::proofs::Standing::difat_number_at))]
 fn difat_number(l: Parts, s: Sector, i: usize) -> Sector
     requires stands { Stands l }
     requires difat_le_s { (l.difat.0 ≤ s.0) × (s.0 < l.directory.0) }
@@ -114,6 +119,7 @@ fn difat_number(l: Parts, s: Sector, i: usize) -> Sector
 }
 
 // Number i of a table's sector s.
+#[tactic(auto, using(crate::proofs::Standing::number_at))]
 fn table_number(l: Parts, s: Sector, i: usize) -> u32
     requires stands { Stands l }
     requires i_bound { i < cells_in (sizes l) }
@@ -135,17 +141,15 @@ fn fill_table(part: &mut [u8], l: Parts, s: Sector)
     requires part_len { length part.old ≡ l.geometry.bytes }
     ensures { part.new ≡ numbers_below (cells_in (sizes l)) (table_number (sizes l) (plan l) s.0) }
 {
-    let cells = l.geometry.cells();
-    let mut i = 0;
-    while i < cells {
+    for i in 0..l.geometry.cells() {
         put_u32(part, i * 4, table_number(l, s, i));
-        i += 1;
     }
 }
 
 // ---- the directory
 
 // A fresh root at byte p.
+#[tactic(auto, unfolding(format::specs::Fresh::Image::root_entry, format::specs::Fresh::Image::root_name))]
 fn put_root(part: &mut [u8], p: usize, start: Sector, size: u64)
     requires { p + 128 ≤ length part.old }
     ensures { part.new ≡ put_bytes part.old p (root_entry start.0 size) }
@@ -157,6 +161,7 @@ fn put_root(part: &mut [u8], p: usize, start: Sector, size: u64)
 }
 
 // Entry e at byte p: the root, or a blank one.
+#[tactic(auto, using(crate::proofs::Standing::entry_at))]
 fn put_entry(part: &mut [u8], p: usize, l: Parts, e: EntryId)
     requires stands { Stands l }
     requires p_in_bounds { p + 128 ≤ length part.old }
@@ -178,15 +183,14 @@ fn fill_directory(part: &mut [u8], l: Parts, s: Sector)
 {
     let n = l.geometry.entries();
     let first = n * (s.index() - l.directory.index());
-    let mut i = 0;
-    while i < n {
-        put_entry(part, i * 128, l, EntryId((first + i) as u32));
-        i += 1;
+    for i in 0..n {
+        put_entry(part, i * 128, l, EntryId::at(first + i));
     }
 }
 
 // ---- every sector
 
+#[tactic(auto, using(crate::proofs::Standing::sector_at))]
 pub fn fill_sector(part: &mut [u8], l: Parts, s: Sector)
     requires stands { Stands l }
     requires part_len { length part.old ≡ l.geometry.bytes }
@@ -204,5 +208,5 @@ pub fn fill_sector(part: &mut [u8], l: Parts, s: Sector)
         fill_table(part, l, s);
         return;
     }
-    fill_zero(part);
+    part.fill(0);
 }

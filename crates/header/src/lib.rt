@@ -39,12 +39,11 @@ pub fn work_need(n: usize) -> usize
 pub fn version_of(img: &[u8]) -> Geometry
     ensures { geometry_of result ≡ version_of img.now }
 {
-    if length_allowed(img.len(), Geometry::V3) {
-        if u16_at(img, 26) == 4 {
-            return Geometry::V4;
-        }
+    if length_allowed(img.len(), Geometry::V3) && u16_at(img, 26) == 4 {
+        Geometry::V4
+    } else {
+        Geometry::V3
     }
-    Geometry::V3
 }
 
 // ---- group 10

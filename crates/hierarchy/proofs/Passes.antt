@@ -30,9 +30,6 @@ module _ {d : Where} {img : Bytes} {w : List ℕ} {q : Bool} {s : State} {v : Li
 
 -- the verdict
 module _ {d : Where} {img : Bytes} {w v : List ℕ} {r : Bool} (l : WalkLeft d img w v r) where
-  pub walked_wrong : r ≡ false → false ≡ tree_rules (entries_of d img)
-  walked_wrong e = sym (subst (Walked d img v) e l.walked)
-
   pub walked_right : r ≡ true → {n : ℕ} {a : Bool} → n ≡ count_of d → a ≡ all_below n (reached_in v) → a ≡ tree_rules (entries_of d img)
   walked_right e {n} {a} en ea =
       let k : Walked d img v true = subst (Walked d img v) e l.walked in

@@ -89,19 +89,18 @@ fn walk(img: &[u8], work: &mut [u32], d: Directory) -> bool
 }
 
 // Whether each of n nodes is reached. It has no early end, so that the compiler can take many at once.
+#[tactic(auto, using(theory::proofs::Loops::below_none, theory::proofs::Loops::below_next))]
 fn all_reached(work: &[u32], n: usize) -> bool
     requires { 2 * n + 2 ≤ length work.now }
     ensures { result ≡ all_below n (reached_in work.now) }
 {
     let mut all = true;
-    let mut i: usize = 0;
-    while i < n {
+    for i in 0..n {
         let node = Node {
             a: work[2 * (i + 1)],
             b: 0,
         };
         all = all & node.is_reached();
-        i += 1;
     }
     all
 }

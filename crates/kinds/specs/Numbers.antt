@@ -1,9 +1,7 @@
 -- 01's number of each refusal, and of each answer.
-use Rattle.std.specs.Prelude.{ℕ}
+use Rattle.std.specs.Prelude.{ℕ, Result, Ok, Err}
 use Rattle.kinds.specs.declared.Refusal.{Refusal}
 use Rattle.kinds.specs.declared.Refusal.TheVariants.{BadLength, ShortWork, Header, Tables, Cells, Directory, Entries, Trees, Mini, Streams, Owners, BadPath, NotFound, StreamOnTheWay, NotAStream, Beyond, TooFewFree, OutTooShort, NotEmpty, AlreadyThere, NoBlankEntry, RootRemoved, PlanDoesNotFit, BadEntry}
-use Rattle.kinds.specs.declared.Answer.{Answer}
-use Rattle.kinds.specs.declared.Answer.TheVariants.{Done, Refused}
 
 abbrev pub refusal_number : Refusal → ℕ
 refusal_number BadLength = 1
@@ -31,6 +29,6 @@ refusal_number RootRemoved = 31
 refusal_number PlanDoesNotFit = 32
 refusal_number BadEntry = 33
 
-abbrev pub number_of : Answer → ℕ
-number_of Done = 0
-number_of (Refused a) = refusal_number a
+abbrev pub number_of : Result Unit Refusal → ℕ
+number_of (Ok _) = 0
+number_of (Err a) = refusal_number a

@@ -1,7 +1,8 @@
-// Kinds of number, each its own type with its special values: sectors, mini sectors, entries; the geometry; the order of names; answers.
+// Kinds of number, each its own type with its special values: sectors, mini sectors, entries, types of entries; the geometry; refusals.
 #![tactic(auto)]
 
-ghost use Rattle.std.specs.Prelude.{◌≡◌, ◌+◌, ◌≤◌, ◌<◌, ◌*◌, ◌/◌, ◌%◌, eqb, ltb};
+ghost use Rattle.std.specs.Prelude.{◌≡◌, ℕ, ◌+◌, ◌≤◌, ◌<◌, ◌*◌, ◌/◌, ◌%◌, ◌-◌, eqb, ltb, MatchOption};
+ghost use Rattle.std.specs.Iterator.{at_most};
 ghost use Rattle.format.specs.Layout.Chain.{FREE, END, FATSECT, DIFSECT};
 ghost use Rattle.format.specs.Layout.Entry.{NOSTREAM};
 ghost use Rattle.format.specs.Layout.Geometry.{counts_directory, sector_place, cells_in, difat_in, entries_in};
@@ -9,6 +10,8 @@ ghost use Rattle.format.specs.Calls.Create.{kind_for, start_for};
 ghost use Rattle.kinds.specs.Sizes.{geometry_of};
 ghost use Rattle.kinds.specs.Numbers.{refusal_number, number_of};
 ghost use Rattle.kinds.specs.Links.{new_kind_of};
+
+use std::marker::PhantomData;
 
 // ---- geometry
 
@@ -47,32 +50,48 @@ impl Geometry {
         self.bytes / 4
     }
 
-    // Which sector of a table has cell i, and which of its cells that is. Each version's count stands here as a constant, so that
-    // nothing is divided by a number that the compiler does not know.
+    // Which sector has item i of those of SIZE bytes that fill sectors end to end. Each version's count is a constant, so that nothing is
+    // divided by a number that the compiler does not know.
+    fn item_sector<const SIZE: usize>(self, i: usize) -> usize
+        requires { (0 < SIZE) × (SIZE ≤ 128) × (SIZE ≤ self.bytes) }
+        ensures { result ≡ i / (self.bytes / SIZE) }
+    {
+        if self.bytes == Geometry::V3.bytes {
+            return i / (512 / SIZE);
+        }
+        if self.bytes == Geometry::V4.bytes {
+            return i / (4096 / SIZE);
+        }
+        i / (self.bytes / SIZE)
+    }
+
+    // Which of that sector's items it is.
+    fn item_index<const SIZE: usize>(self, i: usize) -> usize
+        requires { (0 < SIZE) × (SIZE ≤ 128) × (SIZE ≤ self.bytes) }
+        ensures { result ≡ i % (self.bytes / SIZE) }
+    {
+        if self.bytes == Geometry::V3.bytes {
+            return i % (512 / SIZE);
+        }
+        if self.bytes == Geometry::V4.bytes {
+            return i % (4096 / SIZE);
+        }
+        i % (self.bytes / SIZE)
+    }
+
+    // Which sector of a table has cell i, and which of its cells that is.
     pub fn cell_sector(self, i: usize) -> usize
         requires { 4 ≤ self.bytes }
         ensures { result ≡ i / cells_in (geometry_of self) }
     {
-        if self.bytes == Geometry::V3.bytes {
-            return i / 128;
-        }
-        if self.bytes == Geometry::V4.bytes {
-            return i / 1024;
-        }
-        i / (self.bytes / 4)
+        self.item_sector::<4>(i)
     }
 
     pub fn cell_index(self, i: usize) -> usize
         requires { 4 ≤ self.bytes }
         ensures { result ≡ i % cells_in (geometry_of self) }
     {
-        if self.bytes == Geometry::V3.bytes {
-            return i % 128;
-        }
-        if self.bytes == Geometry::V4.bytes {
-            return i % 1024;
-        }
-        i % (self.bytes / 4)
+        self.item_index::<4>(i)
     }
 
     // The entries of a DIFAT sector, which ends with a link.
@@ -95,36 +114,141 @@ impl Geometry {
         requires { 128 ≤ self.bytes }
         ensures { result ≡ i / entries_in (geometry_of self) }
     {
-        if self.bytes == Geometry::V3.bytes {
-            return i / 4;
-        }
-        if self.bytes == Geometry::V4.bytes {
-            return i / 32;
-        }
-        i / (self.bytes / 128)
+        self.item_sector::<128>(i)
     }
 
     pub fn entry_index(self, i: usize) -> usize
         requires { 128 ≤ self.bytes }
         ensures { result ≡ i % entries_in (geometry_of self) }
     {
-        if self.bytes == Geometry::V3.bytes {
-            return i % 4;
-        }
-        if self.bytes == Geometry::V4.bytes {
-            return i % 32;
-        }
-        i % (self.bytes / 128)
+        self.item_index::<128>(i)
     }
 }
 
 // Streams of fewer bytes lie in mini sectors, others in sectors.
 pub const CUTOFF: u64 = 4096;
 
+// ---- numbers
+
+// A number of a kind. Loops and calls keep it as that kind.
+pub trait Numbered: Copy {
+    ghost number: { Self → ℕ };
+
+    fn of(n: u32) -> Self
+        ensures { number result ≡ n };
+
+    fn number(self) -> u32
+        ensures { result ≡ number self };
+
+    // The one of an index.
+    fn at(i: usize) -> Self
+        requires { i < 0x1_0000_0000 }
+        ensures { number result ≡ i }
+    {
+        Self::of(i as u32)
+    }
+
+    // The number as an index.
+    fn index(self) -> usize
+        ensures { result ≡ number self }
+    {
+        self.number() as usize
+    }
+
+    // Whether it is one of the first n.
+    fn below(self, n: usize) -> bool
+        ensures { result ≡ ltb (number self) n }
+    {
+        self.index() < n
+    }
+
+    // The one after it.
+    fn next(self) -> Self
+        requires { number self < 0xFFFF_FFFF }
+        ensures { number result ≡ number self + 1 }
+    {
+        Self::of(self.number() + 1)
+    }
+
+    // Those from it on, below `end`.
+    fn until(self, end: usize) -> Numbers<Self>
+        requires { end < 0x1_0000_0000 }
+        ensures { (result.next ≡ number self) × (result.end ≡ end) }
+    {
+        Numbers {
+            next: self.number(),
+            end: end as u32,
+            kind: PhantomData,
+        }
+    }
+}
+
+// Numbers of a kind, one after the other: from `next` on, below `end`.
+#[derive(Clone, Copy)]
+pub struct Numbers<N> {
+    pub next: u32,
+    pub end: u32,
+    pub kind: PhantomData<N>,
+}
+
+impl<N: Numbered> Iterator for Numbers<N> {
+    type Item = N;
+
+    ghost next_gives = { λ s r t. MatchOption r (s.end ≤ s.next)
+        (λ x. (s.next < s.end) × ((N.number x ≡ s.next) × ((t.next ≡ s.next + 1) × (t.end ≡ s.end)))) };
+
+    ghost remaining = { λ s. at_most (s.end - s.next) };
+
+    fn next(&mut self) -> Option<N> {
+        if self.next < self.end {
+            let x = N::of(self.next);
+            self.next += 1;
+            return Some(x);
+        }
+        None
+    }
+}
+
+// A unit that chains are made of, by its number, or what its cell holds.
+pub trait ChainUnit: Numbered {
+    fn is_free(self) -> bool
+        ensures { result ≡ eqb (Self.number self) FREE }
+    {
+        self.number() == 0xFFFF_FFFF
+    }
+
+    fn is_end(self) -> bool
+        ensures { result ≡ eqb (Self.number self) END }
+    {
+        self.number() == 0xFFFF_FFFE
+    }
+
+    // The byte of its cell in a table whose sectors are laid end to end.
+    fn cell(self) -> usize
+        ensures { result ≡ 4 * Self.number self }
+    {
+        4 * (self.number() as usize)
+    }
+}
+
 // ---- sectors
 
-#[derive(Clone, Copy)]
+#[derive(Clone, Copy, PartialEq, Eq)]
 pub struct Sector(pub u32);
+
+impl Numbered for Sector {
+    ghost number = { λ s. s.0 };
+
+    fn of(n: u32) -> Sector {
+        Sector(n)
+    }
+
+    fn number(self) -> u32 {
+        self.0
+    }
+}
+
+impl ChainUnit for Sector {}
 
 impl Sector {
     pub const FREE: Sector = Sector(0xFFFF_FFFF);
@@ -137,58 +261,16 @@ impl Sector {
 
     pub const FIRST: Sector = Sector(0);
 
-    pub fn is_free(self) -> bool
-        ensures { result ≡ eqb self.0 FREE }
-    {
-        self.0 == Sector::FREE.0
-    }
-
-    pub fn is_end(self) -> bool
-        ensures { result ≡ eqb self.0 END }
-    {
-        self.0 == Sector::END.0
-    }
-
     pub fn is_fat(self) -> bool
         ensures { result ≡ eqb self.0 FATSECT }
     {
-        self.0 == Sector::FATSECT.0
+        self == Sector::FATSECT
     }
 
     pub fn is_difat(self) -> bool
         ensures { result ≡ eqb self.0 DIFSECT }
     {
-        self.0 == Sector::DIFSECT.0
-    }
-
-    // The sector of an index.
-    pub fn at(i: usize) -> Sector
-        requires { i < 0x1_0000_0000 }
-        ensures { result.0 ≡ i }
-    {
-        Sector(i as u32)
-    }
-
-    // The number as an index.
-    pub fn index(self) -> usize
-        ensures { result ≡ self.0 }
-    {
-        self.0 as usize
-    }
-
-    // Whether it is one of the first n.
-    pub fn below(self, n: usize) -> bool
-        ensures { result ≡ ltb self.0 n }
-    {
-        (self.0 as usize) < n
-    }
-
-    // The one after it.
-    pub fn next(self) -> Sector
-        requires { self.0 < 0xFFFF_FFFF }
-        ensures { result.0 ≡ self.0 + 1 }
-    {
-        Sector(self.0 + 1)
+        self == Sector::DIFSECT
     }
 
     // The byte where it starts.
@@ -198,19 +280,26 @@ impl Sector {
     {
         (self.0 as usize + 1) * g.bytes
     }
-
-    // The byte of its cell in the FAT, whose sectors are laid end to end.
-    pub fn cell(self) -> usize
-        ensures { result ≡ 4 * self.0 }
-    {
-        4 * (self.0 as usize)
-    }
 }
 
 // ---- mini sectors
 
-#[derive(Clone, Copy)]
+#[derive(Clone, Copy, PartialEq, Eq)]
 pub struct MiniSector(pub u32);
+
+impl Numbered for MiniSector {
+    ghost number = { λ m. m.0 };
+
+    fn of(n: u32) -> MiniSector {
+        MiniSector(n)
+    }
+
+    fn number(self) -> u32 {
+        self.0
+    }
+}
+
+impl ChainUnit for MiniSector {}
 
 impl MiniSector {
     pub const FREE: MiniSector = MiniSector(0xFFFF_FFFF);
@@ -222,64 +311,30 @@ impl MiniSector {
 
     pub const FIRST: MiniSector = MiniSector(0);
 
-    pub fn is_free(self) -> bool
-        ensures { result ≡ eqb self.0 FREE }
-    {
-        self.0 == MiniSector::FREE.0
-    }
-
-    pub fn is_end(self) -> bool
-        ensures { result ≡ eqb self.0 END }
-    {
-        self.0 == MiniSector::END.0
-    }
-
-    pub fn at(i: usize) -> MiniSector
-        requires { i < 0x1_0000_0000 }
-        ensures { result.0 ≡ i }
-    {
-        MiniSector(i as u32)
-    }
-
-    pub fn index(self) -> usize
-        ensures { result ≡ self.0 }
-    {
-        self.0 as usize
-    }
-
-    pub fn below(self, n: usize) -> bool
-        ensures { result ≡ ltb self.0 n }
-    {
-        (self.0 as usize) < n
-    }
-
-    // The one after it.
-    pub fn next(self) -> MiniSector
-        requires { self.0 < 0xFFFF_FFFF }
-        ensures { result.0 ≡ self.0 + 1 }
-    {
-        MiniSector(self.0 + 1)
-    }
-
     // The byte of the mini stream where it starts.
     pub fn place(self) -> usize
         ensures { result ≡ 64 * self.0 }
     {
-        MiniSector::BYTES * (self.0 as usize)
-    }
-
-    // The byte of its cell in the mini FAT.
-    pub fn cell(self) -> usize
-        ensures { result ≡ 4 * self.0 }
-    {
-        4 * (self.0 as usize)
+        MiniSector::BYTES * self.index()
     }
 }
 
 // ---- entries
 
-#[derive(Clone, Copy)]
+#[derive(Clone, Copy, PartialEq, Eq)]
 pub struct EntryId(pub u32);
+
+impl Numbered for EntryId {
+    ghost number = { λ x. x.0 };
+
+    fn of(n: u32) -> EntryId {
+        EntryId(n)
+    }
+
+    fn number(self) -> u32 {
+        self.0
+    }
+}
 
 impl EntryId {
     pub const NOSTREAM: EntryId = EntryId(0xFFFF_FFFF);
@@ -290,38 +345,18 @@ impl EntryId {
     pub fn is_none(self) -> bool
         ensures { result ≡ eqb self.0 NOSTREAM }
     {
-        self.0 == EntryId::NOSTREAM.0
+        self == EntryId::NOSTREAM
     }
 
     pub fn is_root(self) -> bool
         ensures { result ≡ eqb self.0 0 }
     {
-        self.0 == EntryId::ROOT.0
-    }
-
-    pub fn index(self) -> usize
-        ensures { result ≡ self.0 }
-    {
-        self.0 as usize
-    }
-
-    pub fn below(self, n: usize) -> bool
-        ensures { result ≡ ltb self.0 n }
-    {
-        (self.0 as usize) < n
-    }
-
-    // The one after it.
-    pub fn next(self) -> EntryId
-        requires { self.0 < 0xFFFF_FFFF }
-        ensures { result.0 ≡ self.0 + 1 }
-    {
-        EntryId(self.0 + 1)
+        self == EntryId::ROOT
     }
 }
 
-// The type of an entry.
-#[derive(Clone, Copy)]
+// The type of an entry, as its byte: one that stands for no type is read too.
+#[derive(Clone, Copy, PartialEq, Eq)]
 pub struct EntryType(pub u8);
 
 impl EntryType {
@@ -336,25 +371,25 @@ impl EntryType {
     pub fn is_blank(self) -> bool
         ensures { result ≡ eqb self.0 0 }
     {
-        self.0 == EntryType::BLANK.0
+        self == EntryType::BLANK
     }
 
     pub fn is_storage(self) -> bool
         ensures { result ≡ eqb self.0 1 }
     {
-        self.0 == EntryType::STORAGE.0
+        self == EntryType::STORAGE
     }
 
     pub fn is_stream(self) -> bool
         ensures { result ≡ eqb self.0 2 }
     {
-        self.0 == EntryType::STREAM.0
+        self == EntryType::STREAM
     }
 
     pub fn is_root(self) -> bool
         ensures { result ≡ eqb self.0 5 }
     {
-        self.0 == EntryType::ROOT.0
+        self == EntryType::ROOT
     }
 }
 
@@ -394,92 +429,51 @@ pub enum Link {
     Child,
 }
 
-// ---- names
-
-// How one name lies to another.
-#[derive(Clone, Copy)]
-pub enum Order {
-    Less,
-    Same,
-    More,
-}
-
 // ---- answers
 
-// Why a call is refused.
-#[derive(Clone, Copy)]
+// Why a call is refused, by its number.
+#[derive(Clone, Copy, PartialEq, Eq)]
 pub enum Refusal {
-    BadLength,
-    ShortWork,
-    Header,
-    Tables,
-    Cells,
-    Directory,
-    Entries,
-    Trees,
-    Mini,
-    Streams,
-    Owners,
-    BadPath,
-    NotFound,
-    StreamOnTheWay,
-    NotAStream,
-    Beyond,
-    TooFewFree,
-    OutTooShort,
-    NotEmpty,
-    AlreadyThere,
-    NoBlankEntry,
-    RootRemoved,
-    PlanDoesNotFit,
-    BadEntry,
+    BadLength = 1,
+    ShortWork = 2,
+    Header = 10,
+    Tables = 11,
+    Cells = 12,
+    Directory = 13,
+    Entries = 14,
+    Trees = 15,
+    Mini = 16,
+    Streams = 17,
+    Owners = 18,
+    BadPath = 20,
+    NotFound = 21,
+    StreamOnTheWay = 22,
+    NotAStream = 23,
+    Beyond = 24,
+    TooFewFree = 26,
+    OutTooShort = 27,
+    NotEmpty = 28,
+    AlreadyThere = 29,
+    NoBlankEntry = 30,
+    RootRemoved = 31,
+    PlanDoesNotFit = 32,
+    BadEntry = 33,
 }
 
-// What a call answers that gives no values.
-#[derive(Clone, Copy)]
-pub enum Answer {
-    Done,
-    Refused(Refusal),
-}
+impl From<Refusal> for u32 {
+    ghost from_gives = { λ a r. r ≡ refusal_number a };
 
-// 01's number of a refusal.
-pub fn refusal_number(a: Refusal) -> u32
-    ensures { result ≡ refusal_number a }
-{
-    match a {
-        Refusal::BadLength => 1,
-        Refusal::ShortWork => 2,
-        Refusal::Header => 10,
-        Refusal::Tables => 11,
-        Refusal::Cells => 12,
-        Refusal::Directory => 13,
-        Refusal::Entries => 14,
-        Refusal::Trees => 15,
-        Refusal::Mini => 16,
-        Refusal::Streams => 17,
-        Refusal::Owners => 18,
-        Refusal::BadPath => 20,
-        Refusal::NotFound => 21,
-        Refusal::StreamOnTheWay => 22,
-        Refusal::NotAStream => 23,
-        Refusal::Beyond => 24,
-        Refusal::TooFewFree => 26,
-        Refusal::OutTooShort => 27,
-        Refusal::NotEmpty => 28,
-        Refusal::AlreadyThere => 29,
-        Refusal::NoBlankEntry => 30,
-        Refusal::RootRemoved => 31,
-        Refusal::PlanDoesNotFit => 32,
-        Refusal::BadEntry => 33,
+    fn from(a: Refusal) -> u32 {
+        a as u32
     }
 }
 
-// And of an answer.
-pub fn number(answer: Answer) -> u32
+// The number of an answer that gives no values: 0 where the call is done.
+pub fn number(answer: Result<(), Refusal>) -> u32
     ensures { result ≡ number_of answer }
 {
     match answer {
-        Answer::Done => 0,
-        Answer::Refused(a) => refusal_number(a),
+        Ok(()) => 0,
+        Err(a) => u32::from(a),
     }
 }

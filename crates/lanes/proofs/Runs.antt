@@ -1,5 +1,6 @@
 -- The loop that marks chains side by side, in any space: how it begins, its turns, and its answers.
 use Prim.Native.Nat.{ℕ, ◌+◌, ◌-◌, ◌≤◌, ◌<◌}
+use Rattle.std.specs.Prelude.{Some, None}
 use mathlib.Core.Path.{◌≡◌, refl, sym, ap, ◌∙◌}
 use mathlib.Core.Logic.{⊎_elim}
 use mathlib.Core.Bool.{Bool, true, false, not, cond, ◌||◌, or-true, or-false}
@@ -18,15 +19,12 @@ use Rattle.theory.proofs.Picks.{pick_below_lem}
 use Rattle.theory.proofs.Tests.{clash}
 use Rattle.tables.specs.Work.{Wrote}
 use Rattle.tables.proofs.WorkLaws.{wrote_none}
-use Rattle.chains.specs.Answers.{is_broken, is_shared, Markable}
-use Rattle.chains.specs.declared.Marked.{Marked}
-use Rattle.chains.specs.declared.Marked.TheVariants.{Broken, Fresh, Shared}
+use Rattle.chains.specs.Answers.{Markable}
 use Rattle.chains.proofs.Walks.{mark_is, mark_some, put_mark}
 use Rattle.chains.proofs.Owners.{marked_broken}
 use Rattle.lanes.specs.Lanes.{Lane, rights, sums, Side}
 use Rattle.lanes.specs.Answers.{Stepped, LanesShort, LanesMarked, lane_right, lane_units}
-use Rattle.lanes.specs.declared.Step.TheVariants.{On, Done, Met}
-use Rattle.lanes.specs.declared.Step.TheVariants as step
+use Rattle.lanes.specs.declared.Step.TheVariants.{Broken, On, Done, Met}
 use Rattle.lanes.proofs.Side.{side_step, side_done, side_off, side_out, side_clash, side_meet}
 use Rattle.lanes.proofs.Ends.{side_closed, side_right, side_start, side_owning}
 use Rattle.lanes.proofs.Arrays.{lane_at, lanes, lane_other, lane_same, side_at, side_turn, side_drop, rights_are, sums_are}
@@ -178,7 +176,7 @@ module _ {at limit : ℕ} {w₀ here₀ left₀ : List ℕ} {n₀ : ℕ} {w here
   -- ---- the answers
 
   -- lane i is no chain
-  pub runs_broken : {w' : List ℕ} → i < n → Stepped at limit s k w w' step.Broken → LanesMarked at limit here₀ left₀ n₀ w₀ w' Broken
+  pub runs_broken : {w' : List ℕ} → i < n → Stepped at limit s k w w' Broken → LanesMarked at limit here₀ left₀ n₀ w₀ w' None
   runs_broken l r sp e z =
       let a = h.along sp e z _ false (owning_some z.closed) in
       let x = side_at n i (lane_at here left) l a.side in
@@ -194,9 +192,9 @@ module _ {at limit : ℕ} {w₀ here₀ left₀ : List ℕ} {n₀ : ℕ} {w here
       a.wrote)
 
   -- no lane is left
-  ended : n ≤ 0 → (a : Marked) → is_broken a ≡ false → is_shared a ≡ met → LanesMarked at limit here₀ left₀ n₀ w₀ w a
+  pub runs_end : n ≤ 0 → LanesMarked at limit here₀ left₀ n₀ w₀ w (Some met)
   unfolding list_below
-  ended l a b d sp e z =
+  runs_end l sp e z =
       let up : n ≡ 0 = omega arith in
       let own = join_below n₀ (lane_units sp here₀ left₀) in
       let run = h.along sp e z in
@@ -204,16 +202,9 @@ module _ {at limit : ℕ} {w₀ here₀ left₀ : List ℕ} {n₀ : ℕ} {w here
       let x = rw up at r.side in
       let right : all_below n₀ (lane_right sp here₀ left₀) ≡ true = sym (rights_are sp here₀ left₀ n₀) ∙ side_right x in
       record {
-        answer = b ∙ sym (ap not right);
+        answer = sym (ap not right);
         stands = λ t. record { few = z.few; room = omega (arith, z.room, h.long); place = r.place; closed = side_closed x };
         owners = λ t owned shared o.
-            rw d
-            (side_owning (owned ++ own) (λ u. omega (arith, count_append u owned own, sums_are sp here₀ left₀ n₀ u)) (rw up at (run owned shared o).side));
+            side_owning (owned ++ own) (λ u. omega (arith, count_append u owned own, sums_are sp here₀ left₀ n₀ u)) (rw up at (run owned shared o).side);
         wrote = r.wrote;
       }
-
-  pub runs_fresh : n ≤ 0 → met ≡ false → LanesMarked at limit here₀ left₀ n₀ w₀ w Fresh
-  runs_fresh l e = ended l Fresh refl (sym e)
-
-  pub runs_shared : n ≤ 0 → met ≡ true → LanesMarked at limit here₀ left₀ n₀ w₀ w Shared
-  runs_shared l e = ended l Shared refl (sym e)

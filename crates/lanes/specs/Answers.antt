@@ -1,11 +1,10 @@
 -- What a step of a lane does, and what marking many chains side by side answers and leaves.
-use Rattle.std.specs.Prelude.{ℕ, ◌+◌, ◌≤◌, ◌<◌, ◌≡◌, ◌≢◌, ◌⊎◌, Bool, true, false, List, get_or, set}
+use Rattle.std.specs.Prelude.{ℕ, ◌+◌, ◌≤◌, ◌<◌, ◌≡◌, ◌≢◌, ◌⊎◌, Bool, true, false, Option, List, get_or, set}
 use Rattle.format.specs.Basics.Lists.{all_below, join_below}
 use Rattle.format.specs.Layout.Chain.{END, chain, units}
 use Rattle.format.specs.Layout.Space.{Space}
 use Rattle.theory.specs.Marks.{MARK, is_mark}
 use Rattle.chains.specs.Answers.{Markable, ChainsMarked}
-use Rattle.chains.specs.declared.Marked.{Marked}
 use Rattle.lanes.specs.declared.Step.{Step}
 use Rattle.lanes.specs.declared.Step.TheVariants.{Broken, On, Done, Met}
 
@@ -45,7 +44,7 @@ abbrev pub lane_units : Space → List ℕ → List ℕ → ℕ → List ℕ
 lane_units sp here left i = units sp.cell (get_or left i 0) (get_or here i 0)
 
 -- the chains of the first lanes have been marked, whatever space the numbers are of
-abbrev pub LanesMarked : (at limit : ℕ) → List ℕ → List ℕ → ℕ → List ℕ → List ℕ → Marked → Type 0
+abbrev pub LanesMarked : (at limit : ℕ) → List ℕ → List ℕ → ℕ → List ℕ → List ℕ → Option Bool → Type 0
 LanesMarked at limit here left count before after a =
     (sp : Space) → sp.limit ≡ limit → Markable sp at before
     → ChainsMarked sp at (all_below count (lane_right sp here left)) (join_below count (lane_units sp here left)) before after a

@@ -4,7 +4,7 @@
 ghost use Rattle.std.specs.Prelude.{◌≡◌, cond, ◌+◌, ◌≤◌, ◌<◌, leb, length, get_or, set};
 ghost use Rattle.lanes.specs.Answers.{Stepped, LanesShort, LanesMarked};
 
-use chains::{Marked, index, is_mark};
+use chains::is_mark;
 use kinds::Sector;
 
 // What a step of a lane found: no chain; the cell of its unit, which it has marked; the chain's end; or a unit that has this very mark.
@@ -27,7 +27,7 @@ fn take_step(work: &mut [u32], at: usize, limit: usize, s: u32, k: u32) -> Step
         }
         return Step::Broken;
     }
-    let u = index(s);
+    let u = s as usize;
     if limit <= u {
         return Step::Broken;
     }
@@ -62,31 +62,30 @@ fn move_lane(here: &mut [u32], left: &mut [u32], from: usize, to: usize)
     left[to] = left[from];
 }
 
-// The lanes that are not done stand first in the arrays, `live` of them, and take a step each in turn. The last takes the place of one that is done.
-fn walk_lanes(
+// Marks the chains of the first `count` lanes, at most 32: lane i is at unit here[i], with left[i] units to go. The arrays are used up. Says whether
+// one met a unit that had its mark already; nothing where one is no chain.
+pub fn mark_lanes(
     work: &mut [u32],
     at: usize,
     limit: usize,
-    here: &mut [u32],
-    left: &mut [u32],
+    here: &mut [u32; 32],
+    left: &mut [u32; 32],
     count: usize,
-) -> Marked
+) -> Option<bool>
     requires limit_in_bounds { (at + limit ≤ length work.old) × (limit < 0x1000_0000) }
     requires lanes_short { LanesShort left.old count }
-    requires here_len { (length here.old ≡ 32) × (length left.old ≡ 32) }
     ensures { LanesMarked at limit here.old left.old count work.old work.new result }
 {
+    // Those that are not done stand first in the arrays, `live` of them, and take a step each in turn. The last takes the place of one that is done.
     let mut live = count;
     let mut i = 0;
     let mut shared = false;
     while 0 < live {
         match take_step(work, at, limit, here[i], left[i]) {
-            Step::Broken => {
-                return Marked::Broken;
-            }
+            Step::Broken => return None,
             Step::On(v) => {
                 here[i] = v;
-                left[i] = left[i] - 1;
+                left[i] -= 1;
                 i = turn(i + 1, live);
             }
             Step::Done => {
@@ -102,24 +101,5 @@ fn walk_lanes(
             }
         }
     }
-    if shared {
-        return Marked::Shared;
-    }
-    Marked::Fresh
-}
-
-// Marks the chains of the first `count` lanes, at most 32: lane i is at unit here[i], with left[i] units to go. The arrays are used up.
-pub fn mark_lanes(
-    work: &mut [u32],
-    at: usize,
-    limit: usize,
-    here: &mut [u32; 32],
-    left: &mut [u32; 32],
-    count: usize,
-) -> Marked
-    requires limit_in_bounds { (at + limit ≤ length work.old) × (limit < 0x1000_0000) }
-    requires lanes_short { LanesShort left.old count }
-    ensures { LanesMarked at limit here.old left.old count work.old work.new result }
-{
-    walk_lanes(work, at, limit, here, left, count)
+    Some(shared)
 }

@@ -22,7 +22,7 @@ ghost use Rattle.lengths.specs.Listed.{BothListed, with_size};
 use chains::units_for;
 use directory::place;
 use edits::resize::{Change, Growth, resize};
-use kinds::{Answer, Refusal};
+use kinds::Refusal;
 use queries::find::Object;
 use queries::read::read_stream;
 use spaces::{Kind, Unit, kind_for, start_unit, unit_bytes, unit_count};
@@ -72,11 +72,7 @@ fn move_down(work: &mut [u32], from: usize, n: usize)
     ensures front { take n work.new ≡ take n (drop from work.old) }
     ensures wrote { Wrote work.old work.new 0 n }
 {
-    let mut i = 0;
-    while i < n {
-        work[i] = work[from + i];
-        i += 1;
-    }
+    work.copy_within(from..from + n, 0);
 }
 
 // ---- the stream
@@ -85,12 +81,10 @@ fn move_down(work: &mut [u32], from: usize, n: usize)
 fn with_size(e: Object, size: u64) -> Object
     ensures { result ≡ with_size e size }
 {
-    let id = e.id;
-    let t = e.entry_type;
     Object {
-        id: id,
-        entry_type: t,
-        size: size,
+        id: e.id,
+        entry_type: e.entry_type,
+        size,
     }
 }
 
@@ -100,10 +94,7 @@ fn kept_bytes(old: u64, new: u64) -> usize
     ensures count { result ≡ min old new }
     ensures few { result < 4096 }
 {
-    if old < new {
-        return old as usize;
-    }
-    new as usize
+    old.min(new) as usize
 }
 
 // Cuts a stream to 0, gives it the new length in the units that stand listed behind its own, and puts in the bytes that it keeps.
@@ -175,7 +166,7 @@ pub fn move_stream(img: &mut [u8], work: &mut [u32], v: Volume, e: Object, new: 
     let g = gather_across(img, work, v, first, old, to, need);
     if !g.enough {
         return Change {
-            answer: Answer::Refused(Refusal::TooFewFree),
+            answer: Err(Refusal::TooFewFree),
             looked: g.looked,
         };
     }
@@ -183,7 +174,7 @@ pub fn move_stream(img: &mut [u8], work: &mut [u32], v: Volume, e: Object, new: 
     let n = kept_bytes(e.size, new);
     relocate(img, work, v, e, old, need as usize, new, &mut bytes[..n]);
     Change {
-        answer: Answer::Done,
+        answer: Ok(()),
         looked: g.looked,
     }
 }

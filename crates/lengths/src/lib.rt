@@ -13,8 +13,8 @@ ghost use Rattle.queries.specs.Inside.{Open, image_in};
 
 use across::move_stream;
 use edits::resize::change_length;
-use kinds::{Answer, CUTOFF, Refusal};
-use queries::find::{Find, find_in, refusal};
+use kinds::{CUTOFF, Refusal};
+use queries::find::find_in;
 use volume::Volume;
 
 pub mod across;
@@ -34,7 +34,7 @@ pub fn set_length_in(
     work: &mut [u32],
     v: Volume,
     new_len: u64,
-) -> Answer
+) -> Result<(), Refusal>
     requires { Open v img.old work.old }
     ensures result_value { number_of result
         ≡ answer_in (geometry_of v.tables.geometry) (volume_in v img.old) (length_call path.now new_len []) }
@@ -42,21 +42,15 @@ pub fn set_length_in(
         ≡ image_in (geometry_of v.tables.geometry) (volume_in v img.old) img.old (length_call path.now new_len []) }
     ensures wrote { Wrote work.old work.new 0 v.stream }
 {
-    let f = find_in(path, img, work, v);
-    let Find::Entry(e) = f else {
-        return Answer::Refused(refusal(f));
-    };
-    let t = e.entry_type;
-    if !t.is_stream() {
-        return Answer::Refused(Refusal::NotAStream);
+    let e = find_in(path, img, work, v)?;
+    if !e.entry_type.is_stream() {
+        return Err(Refusal::NotAStream);
     }
     if e.size == new_len {
-        return Answer::Done;
+        return Ok(());
     }
     if crossing(e.size, new_len) {
-        let moved = move_stream(img, work, v, e, new_len);
-        return moved.answer;
+        return move_stream(img, work, v, e, new_len).answer;
     }
-    let changed = change_length(img, work, v, e, new_len);
-    changed.answer
+    change_length(img, work, v, e, new_len).answer
 }

@@ -90,16 +90,8 @@ unfolding line_length
 line_length_lem width e parent text h =
     omega (arith, length_line width e (before parent text ++ print_name (name e)), length-append (before parent text) (print_name (name e)), before_length_lem parent text h)
 
-pub line_none : (width : ℕ) (e : Bytes) (parent : ℕ) → parent ≡ 0 → line_length width e parent ≡ length (head width e) + length (print_name (name e)) + 1
-unfolding line_length
-line_none width e parent h = omega (arith, none_length parent h)
-
-pub line_some : (width : ℕ) (e : Bytes) (parent : ℕ) → 0 < parent → line_length width e parent ≡ length (head width e) + length (print_name (name e)) + 1 + parent + 1
-unfolding line_length
-line_some width e parent h = omega (arith, some_length parent h)
-
-pub line_most : (width : ℕ) {img : Bytes} {p : ℕ} (parent : ℕ) → NamedAt img p → line_length width (entry_at img p) parent ≤ parent + 180
-unfolding line_length
-line_most width {img} {p} parent n =
+-- so that its parts can be added up
+pub parts_few : (width : ℕ) (img : Bytes) (p : ℕ) → NamedAt img p → length (head width (entry_at img p)) + length (print_name (name (entry_at img p))) ≤ 178
+parts_few width img p n =
     let e = entry_at img p in
-    omega (arith, head_most width e, before_most parent, name_most (name e), units_most n)
+    omega (arith, head_most width e, name_most (name e), units_most n)

@@ -1,63 +1,24 @@
 -- The parts of a line, written one behind the other.
 use mathlib.Core.Path.{◌≡◌, refl, ap, sym, ◌∙◌}
-use mathlib.Core.Bool.{true, false}
 use mathlib.Core.List.{[], ◌∷◌, ◌++◌, append_assoc}
 use Prim.Native.Nat.{ℕ, zero, suc, ◌+◌, ◌-◌, ◌≤◌, ◌<◌}
 use native.Mathlib.Nat.{add-zero}
-use native.Mathlib.Numerals.{add-one}
 use native.Mathlib.Omega.{arith}
-use lib.ListN.{length, take, drop, get_or, set, length-append, length-drop, take-append-drop, get_or-append}
-use lib.Seq.{paste, paste-suc, length-take-le, get_or-take, get_or-drop}
+use lib.ListN.{length, take, drop, set, length-append, length-drop, take-append-drop}
+use lib.Seq.{paste, length-take-le}
 use Rattle.format.specs.Basics.Bytes.{Bytes, part}
 use Rattle.format.specs.Layout.Name.{slash}
-use Rattle.format.specs.Layout.Entry.{name, size, is_stream}
+use Rattle.format.specs.Layout.Entry.{name}
 use Rattle.format.specs.Calls.Read.{over}
-use Rattle.format.specs.Calls.Text.{newline, space, decimal, print_name}
+use Rattle.format.specs.Calls.Text.{newline, print_name}
 use Rattle.theory.proofs.ByteTests.{length_part}
-use Rattle.text.proofs.Over.{over_length, over_sets, over_lent}
-use Rattle.text.proofs.Filled.{Filled, over_set, filled_start, filled_lent, filled_behind, filled_set, filled_end, filled_kept}
+use Rattle.text.proofs.Filled.{Filled, filled_start, filled_lent, filled_behind, filled_set, filled_end, filled_kept}
 use Rattle.lines.specs.Lines.{head, before, before_length, line_text, line_length, put_at, before_put, line_put}
-use Rattle.lines.proofs.LineLengths.{head_stream, head_storage, stream_length, storage_length, before_length_lem, none_before, none_length, some_before, some_length, length_parts, line_length_lem}
-
--- one byte more copied from a place to a later one
-pub copied_more : (out : Bytes) (from to i : ℕ) → from + i < to → to + i < length out
-    → set (paste out to (drop from out) i) (to + i) (get_or (paste out to (drop from out) i) (from + i) 0) ≡ paste out to (drop from out) (i + 1)
-copied_more out from to i h b =
-    let t : length (take to out) ≡ to = length-take-le to out (omega arith) in
-    let r : get_or (paste out to (drop from out) i) (from + i) 0 ≡ get_or (drop from out) i 0 =
-    rw (append_assoc (take to out) (take i (drop from out)) (drop (to + i) out), get_or-append (take to out) (take i (drop from out) ++ drop (to + i) out) 0 (from + i) (omega arith), get_or-take to out (from + i) 0 h)
-    (sym (get_or-drop from out i 0)) in
-    rw (r, add-one i) (paste-suc out to (drop from out) i 0 b (omega (arith, length-drop from out)))
+use Rattle.lines.proofs.LineLengths.{before_length_lem, none_before, none_length, some_before, some_length, length_parts, line_length_lem}
 
 pub copied : (out : Bytes) (from to i : ℕ) {n : ℕ} → i ≡ n → paste out to (drop from out) i ≡ put_at out to n (part out from n)
 unfolding part
 copied out from to i e = rw (← e) (append_assoc (take to out) (take i (drop from out)) (drop (to + i) out))
-
--- ---- what stands before the path
-
--- the first two bytes
-abbrev pub started : Bytes → Bytes
-started out = set (set out 0 0x46) 1 space
-
--- those of a stream
-module _ (width : ℕ) (e out : Bytes) (h : is_stream e ≡ true) (b : length (head width e) ≤ length out) where
-  pub put_size : {n : ℕ} {new : Bytes} → n ≡ size width e → new ≡ over (decimal n) (take (length (started out) - 2) (drop 2 (started out)))
-      → take 2 (started out) ++ (new ++ drop (length (started out) - 2) (drop 2 (started out))) ≡ over ((0x46 ∷ space ∷ []) ++ decimal (size width e)) out
-  put_size {new = new} s q =
-      over_lent (0x46 ∷ space ∷ []) (decimal (size width e)) out (started out) 2 {new = new} (over_sets (0x46 ∷ space ∷ []) out (omega (arith, stream_length width e h))) refl (rw (← s) q)
-
-  pub size_length : length (over ((0x46 ∷ space ∷ []) ++ decimal (size width e)) out) ≡ length out
-  size_length =
-      let new = (0x46 ∷ space ∷ []) ++ decimal (size width e) in
-      over_length new out (omega (arith, stream_length width e h, length-append (0x46 ∷ space ∷ []) (decimal (size width e))))
-
-  pub put_stream : {k : ℕ} → k ≡ length (decimal (size width e)) → set (over ((0x46 ∷ space ∷ []) ++ decimal (size width e)) out) (2 + k) space ≡ over (head width e) out
-  put_stream q =
-      rw (head_stream width e h)
-      (over_set ((0x46 ∷ space ∷ []) ++ decimal (size width e)) out space (omega (arith, length-append (0x46 ∷ space ∷ []) (decimal (size width e)))) (omega (arith, stream_length width e h)))
-
-pub put_storage : (width : ℕ) (e out : Bytes) → is_stream e ≡ false → length (head width e) ≤ length out → set (set (set (set out 0 0x44) 1 space) 2 0x30) 3 space ≡ over (head width e) out
-put_storage width e out h b = rw (head_storage width e h) (over_sets (0x44 ∷ space ∷ 0x30 ∷ space ∷ []) out (omega (arith, storage_length width e h)))
 
 -- ---- what stands in a path before the name
 

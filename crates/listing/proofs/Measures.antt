@@ -5,6 +5,7 @@ use mathlib.Core.List.{List, [], ◌∷◌}
 use native.Mathlib.Omega.{arith}
 use lib.ListN.{length, length-append}
 use borrow.Author.Tests.{le-leb, lt-leb}
+use Rattle.std.proofs.Common.{Option, Some, None}
 use Rattle.format.specs.Basics.Bytes.{Bytes}
 use Rattle.format.specs.Layout.Directory.{Directory}
 use Rattle.format.specs.Layout.Tree.{forest, entries}
@@ -16,19 +17,18 @@ use Rattle.entries.specs.Entry.{entry_at}
 use Rattle.directory.specs.Listed.{count_of, entries_of, place_of}
 use Rattle.directory.specs.declared.Directory.{Directory as Where}
 use Rattle.lines.specs.Lines.{width_of, line_length}
-use Rattle.listing.specs.declared.Measured.{Measured}
-use Rattle.listing.specs.declared.Measured.TheVariants.{TooLong, Fits}
+use Rattle.listing.specs.declared.Size.{Size}
 use Rattle.listing.specs.Walks.{pairs, entry_on, parent_on, turned_at, measured, measure_of}
 use Rattle.listing.proofs.Walks.{Walks, walks_end, walks_room, walks_line, walks_more}
 
 -- ---- the answer
 
 module _ (most objects bytes : ℕ) where
-  pub measured_long : most < bytes → TooLong ≡ measured most objects bytes
+  pub measured_long : most < bytes → None ≡ measured most objects bytes
   unfolding measured
   measured_long h = rw (lt-leb bytes most h)
 
-  pub measured_fits : bytes ≤ most → Fits (record { objects = objects; bytes = bytes }) ≡ measured most objects bytes
+  pub measured_fits : bytes ≤ most → Some (record { objects = objects; bytes = bytes }) ≡ measured most objects bytes
   unfolding measured
   measured_fits h = rw (le-leb bytes most h)
 
@@ -58,7 +58,7 @@ module _ {d : Where} {img : Bytes} {most : ℕ} {w₀ w : List ℕ} {n objects b
   e = entries_of d img
 
   -- the end: the first line is still to be added
-  pub measuring_end : n ≤ 0 → (r : Measured) → r ≡ measured most objects (length (first_line objects) + bytes)
+  pub measuring_end : n ≤ 0 → (r : Option Size) → r ≡ measured most objects (length (first_line objects) + bytes)
       → r ≡ measure_of most e
   unfolding forest
   measuring_end h r q =
@@ -68,7 +68,7 @@ module _ {d : Where} {img : Bytes} {most : ℕ} {w₀ w : List ℕ} {n objects b
 
   -- a turn adds the line of the entry at byte i
   module _ (h : 0 < n) (i : ℕ) (q : i ≡ place_of d w (entry_on w (n - 1))) {k : ℕ} (l : k ≡ line_length (width_of d.geometry) (entry_at img i) (parent_on w (n - 1))) where
-    pub measuring_long : most - bytes < k → TooLong ≡ measure_of most e
+    pub measuring_long : most - bytes < k → None ≡ measure_of most e
     measuring_long b =
         measured_long most (length (entries (forest e))) (length (listing e))
         (omega (arith, m.sum, m.within, l, walks_line m.walks h i q, walks_room m.walks h, listing_length e))

@@ -1,5 +1,5 @@
 -- How long an object's name is in print, and what stands in a path before it.
-use Prim.Native.Nat.{ℕ, zero, suc, ◌≤◌, ◌<◌}
+use Prim.Native.Nat.{ℕ, zero, suc, ◌+◌, ◌≤◌, ◌<◌}
 use mathlib.Core.Path.{◌≡◌, refl, ap, sym, ◌∙◌}
 use mathlib.Core.Bool.{Bool, true, false, ◌&&◌, ◌||◌}
 use mathlib.Core.List.{[], ◌∷◌, ◌++◌}
@@ -63,6 +63,11 @@ module _ (e : Directory) (rules : entry_rules e ≡ true) (x : ℕ) (l : x < e.c
   print_most = omega (arith, name_most (name (e.entry x)), name_long.1)
 
 -- ---- what stands before a name
+
+pub before_most : (parent : ℕ) → before_length parent ≤ parent + 1
+unfolding before_length
+before_most zero = omega arith
+before_most (suc n) = omega arith
 
 pub before_least : (n : ℕ) → n ≤ before_length n
 unfolding before_length

@@ -20,8 +20,8 @@ use Rattle.theory.proofs.Trees.Nodes.{every_node_apart, shape_sound, objects_nod
 use Rattle.theory.proofs.Trees.Stand.{standing, tree_ind}
 use Rattle.lines.specs.Lines.{before}
 use Rattle.listing.specs.Walks.{spine, path_length, turned, Turning}
-use Rattle.lines.proofs.LineLengths.{before_length_lem, before_most}
-use Rattle.listing.proofs.Prints.{print_some, print_most, before_least, before_whole, before_front, before_kept}
+use Rattle.lines.proofs.LineLengths.{before_length_lem}
+use Rattle.listing.proofs.Prints.{print_some, print_most, before_least, before_most, before_whole, before_front, before_kept}
 
 -- a tree of objects
 abbrev pub object_node : Directory → NodeTest

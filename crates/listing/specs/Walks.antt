@@ -1,5 +1,5 @@
 -- The walk over the trees, with a stack of entries whose left side is done, and what the measuring walk answers.
-use Rattle.std.specs.Prelude.{ℕ, zero, suc, ◌+◌, ◌*◌, ◌≤◌, cond, List, [], ◌∷◌, ◌++◌, leb, length, get_or}
+use Rattle.std.specs.Prelude.{ℕ, zero, suc, ◌+◌, ◌*◌, ◌≤◌, cond, Option, Some, None, List, [], ◌∷◌, ◌++◌, leb, length, get_or}
 use Rattle.format.specs.Layout.Entry.{name}
 use Rattle.format.specs.Layout.Directory.{Directory}
 use Rattle.format.specs.Layout.Tree.{Forest, empty, broken, node, entries, forest}
@@ -7,8 +7,7 @@ use Rattle.format.specs.Calls.Text.{print_name}
 use Rattle.format.specs.Calls.Listing.{listing}
 use Rattle.theory.specs.TreeViews.{right_of, child_of, at, Standing}
 use Rattle.lines.specs.Lines.{before_length}
-use Rattle.listing.specs.declared.Measured.{Measured}
-use Rattle.listing.specs.declared.Measured.TheVariants.{TooLong, Fits}
+use Rattle.listing.specs.declared.Size.{Size}
 
 -- the stack's first n pairs, the last first: an entry, and the length of its parent's path
 unfoldable pub pairs : List ℕ → ℕ → List (ℕ × ℕ)
@@ -47,9 +46,9 @@ pub record Turning (e : Directory) (m k x n : ℕ) : Type 0 where
   pub fits : n + 157 ≤ 0x1_0000_0000
 
 -- the counts, where the listing has no more bytes than `most`
-unfoldable pub measured : ℕ → ℕ → ℕ → Measured
-measured most objects bytes = cond (leb bytes most) (Fits (record { objects = objects; bytes = bytes })) TooLong
+unfoldable pub measured : ℕ → ℕ → ℕ → Option Size
+measured most objects bytes = cond (leb bytes most) (Some (record { objects = objects; bytes = bytes })) None
 
 -- of the whole listing
-abbrev pub measure_of : ℕ → Directory → Measured
+abbrev pub measure_of : ℕ → Directory → Option Size
 measure_of most e = measured most (length (entries (forest e))) (length (listing e))

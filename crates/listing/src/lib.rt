@@ -100,29 +100,23 @@ pub struct Size {
     pub bytes: usize,
 }
 
-#[derive(Clone, Copy)]
-pub enum Measured {
-    TooLong,
-    Fits(Size),
-}
-
-// The whole listing's answer, where its lines have so many bytes, no more than `most`: with the first line it may be too long.
-fn with_first(objects: usize, bytes: usize, most: usize) -> Measured
+// The whole listing's size, where its lines have so many bytes, no more than `most`; nothing where it is longer with the first line.
+fn with_first(objects: usize, bytes: usize, most: usize) -> Option<Size>
     requires { bytes ≤ most }
     ensures { result ≡ measured most objects (length (first_line objects) + bytes) }
 {
     let n = decimal_length(objects as u64) + 9;
     if most - bytes < n {
-        return Measured::TooLong;
+        return None;
     }
-    Measured::Fits(Size {
-        objects: objects,
+    Some(Size {
+        objects,
         bytes: n + bytes,
     })
 }
 
-// Adds up the listing's length, as long as it is no more than `most`.
-pub fn measure(img: &[u8], work: &mut [u32], d: Directory, most: usize) -> Measured
+// Adds up the listing's length, as long as it is no more than `most`; nothing where it is longer.
+pub fn measure(img: &[u8], work: &mut [u32], d: Directory, most: usize) -> Option<Size>
     requires directory_listed { DirectoryListed d img.now work.old }
     requires img_value { entry_rules (entries_of d img.now) ≡ true }
     requires img_value_2 { tree_rules (entries_of d img.now) ≡ true }
@@ -140,7 +134,7 @@ pub fn measure(img: &[u8], work: &mut [u32], d: Directory, most: usize) -> Measu
         let q = pair_at(work, n);
         let k = line_length(img, place(work, d, q.entry), d.geometry, q.parent as usize);
         if most - bytes < k {
-            return Measured::TooLong;
+            return None;
         }
         bytes += k;
         objects += 1;
@@ -152,6 +146,7 @@ pub fn measure(img: &[u8], work: &mut [u32], d: Directory, most: usize) -> Measu
 // ---- the text
 
 // Writes the first line, and returns how many bytes it takes.
+#[tactic(auto, unfolding(format::specs::Calls::Listing::first_line))]
 fn put_first(out: &mut [u8], objects: usize) -> usize
     requires { length (first_line objects) ≤ length out.old }
     ensures count { result ≡ length (first_line objects) }

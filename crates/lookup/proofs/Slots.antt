@@ -1,5 +1,5 @@
 -- The descent to a name's place: the way down so far, the field at its end, and the tree that is left.
-use mathlib.Core.Path.{◌≡◌, refl, sym, ap, ◌∙◌}
+use mathlib.Core.Path.{◌≡◌, sym, ap, ◌∙◌}
 use mathlib.Core.Logic.{◌≢◌}
 use mathlib.Core.Bool.{true, false}
 use Prim.Native.Nat.{ℕ, ◌<◌}
@@ -10,11 +10,11 @@ use Rattle.format.specs.Layout.Tree.{node}
 use Rattle.format.specs.Layout.Siblings.{slot_in, goes_left}
 use Rattle.format.specs.Calls.Find.{missing, present, child_named}
 use Rattle.theory.specs.TreeViews.{rows, left_of, right_of, child_of, at, Standing}
-use Rattle.theory.specs.TreeFind.{Searchable, Seeking}
+use Rattle.theory.specs.TreeFind.{Seeking}
 use Rattle.theory.specs.TreeWays.{Way, here, into_left, into_right, plug, onward, Level, slot_field, slot_entry}
 use Rattle.theory.proofs.Trees.Grow.{grow_none}
 use Rattle.theory.proofs.Trees.Stand.{standing}
-use Rattle.theory.proofs.Trees.Find.{searchable_stands, seek_start, seek_none, seek_hit, seek_left, seek_right}
+use Rattle.theory.proofs.Trees.Find.{searchable_stands, seek_none, seek_hit, seek_left, seek_right}
 use Rattle.theory.proofs.Trees.Names.{names_ordered}
 use Rattle.theory.proofs.Trees.Ways.{plug_onward}
 use Rattle.theory.proofs.Trees.Steps.{level_onward, slot_left, slot_right}
@@ -32,18 +32,6 @@ pub record Descent (e : Directory) (want : Name) (s y : ℕ) (k : Field) (x : �
   pub inside : y < rows e
 
 module _ (e : Directory) (want : Name) (s : ℕ) where
-  pub descent_start : s < rows e → Searchable e (child_of e s) → Descent e want s s child_field (child_of e s)
-  descent_start l h = record {
-    seeking = seek_start e want names_ordered (child_of e s) h;
-    way = here;
-    level = tt;
-    tree = refl;
-    entry = refl;
-    field = refl;
-    place = refl;
-    inside = l;
-  }
-
   module _ {y : ℕ} {k : Field} {x : ℕ} (g : Descent e want s y k x) where
     pub descent_none : x ≡ NOSTREAM
         → (child_named e want (at e (child_of e s)) ≡ missing)

@@ -9,39 +9,37 @@ ghost use Rattle.lookup.specs.Children.{child_among, answer_of};
 ghost use Rattle.lookup.specs.Slots.{SeatRight};
 
 use directory::{Directory, child_of, left_of, order_to, right_of};
-use kinds::{EntryId, Link, Order};
-
-#[derive(Clone, Copy)]
-pub enum Child {
-    Missing,
-    Present(EntryId),
-}
+use kinds::{EntryId, Link};
+use std::cmp::Ordering;
 
 // The child of a name among the siblings whose tree `top` names: at each entry the name's order says which side may have it.
-pub fn find_child(want: &[u16], img: &[u8], work: &[u32], d: Directory, top: EntryId) -> Child
+pub fn find_child(
+    want: &[u16],
+    img: &[u8],
+    work: &[u32],
+    d: Directory,
+    top: EntryId,
+) -> Option<EntryId>
     requires directory_listed { DirectoryListed d img.now work.now }
     requires ruled { Ruled (entries_of d img.now) }
     requires searchable { Searchable (entries_of d img.now) top.0 }
     ensures { answer_of (entries_of d img.now) result ≡ child_among (entries_of d img.now) want.now top.0 }
 {
     let mut x = top;
-    loop {
-        if x.is_none() {
-            return Child::Missing;
-        }
-        let o = order_to(want, img, work, d, x);
-        match o {
-            Order::Less => {
+    while !x.is_none() {
+        match order_to(want, img, work, d, x) {
+            Ordering::Less => {
                 x = left_of(img, work, d, x);
             }
-            Order::Same => {
-                return Child::Present(x);
+            Ordering::Equal => {
+                return Some(x);
             }
-            Order::More => {
+            Ordering::Greater => {
                 x = right_of(img, work, d, x);
             }
         }
     }
+    None
 }
 
 // A field of an entry.
@@ -71,23 +69,19 @@ pub fn find_slot(want: &[u16], img: &[u8], work: &[u32], d: Directory, parent: E
         field: Link::Child,
     };
     let mut y = child_of(img, work, d, parent);
-    loop {
-        if y.is_none() {
-            return Seat::Free(h);
-        }
-        let o = order_to(want, img, work, d, y);
-        match o {
-            Order::Less => {
+    while !y.is_none() {
+        match order_to(want, img, work, d, y) {
+            Ordering::Less => {
                 h = Slot {
                     entry: y,
                     field: Link::Left,
                 };
                 y = left_of(img, work, d, y);
             }
-            Order::Same => {
+            Ordering::Equal => {
                 return Seat::Taken(y, h);
             }
-            Order::More => {
+            Ordering::Greater => {
                 h = Slot {
                     entry: y,
                     field: Link::Right,
@@ -96,4 +90,5 @@ pub fn find_slot(want: &[u16], img: &[u8], work: &[u32], d: Directory, parent: E
             }
         }
     }
+    Seat::Free(h)
 }

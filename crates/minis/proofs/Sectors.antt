@@ -1,5 +1,5 @@
 -- The list of the mini FAT's sectors that the chain's walk leaves.
-use Prim.Native.Nat.{ℕ, ◌+◌, ◌≤◌, ◌<◌}
+use Prim.Native.Nat.{ℕ, ◌≤◌, ◌<◌}
 use mathlib.Core.Path.{◌≡◌, refl, ◌∙◌, ap}
 use mathlib.Core.Bool.{true}
 use mathlib.Core.List.{List}
@@ -14,11 +14,11 @@ use Rattle.format.specs.Layout.Volume.{mini_fat_sectors}
 use Rattle.kinds.specs.Sizes.{geometry_of}
 use Rattle.theory.proofs.Counts.{count_at}
 use Rattle.theory.proofs.Chains.{length_units, chain_linked, linked_below, chain_short}
-use Rattle.tables.specs.Work.{Wrote, Holds}
+use Rattle.tables.specs.Work.{Holds}
 use Rattle.tables.specs.Listed.{FatListed}
 use Rattle.tables.specs.declared.Tables.{Tables}
 use Rattle.chains.specs.Answers.{unit_at}
-use Rattle.minis.specs.Listed.{MiniCounts, minis_at, MiniListed}
+use Rattle.minis.specs.Listed.{MiniCounts, MiniListed}
 
 sectors_are : (g : Geometry) (img : Bytes) → mini_fat_sectors g img ≡ units (fat_cell g img) (mini_fat_count img) (mini_fat_start img)
 unfolding mini_fat_sectors
@@ -35,17 +35,11 @@ module _ {img : Bytes} {w : List ℕ} (t : Tables) {K : ℕ} (at n s : ℕ) (l :
   abbrev g : Geometry
   g = geometry_of t.geometry
 
-  pub listing_chain : chain (fat_cell g img) (sector_count g img) n s ≡ true
+  listing_chain : chain (fat_cell g img) (sector_count g img) n s ≡ true
   listing_chain = rw (e, d) m.chained
-
-  pub listing_room : at + mini_fat_count img ≤ t.list → at + n ≤ t.list
-  listing_room r = rw e r
 
   units_are : units (fat_cell g img) n s ≡ mini_fat_sectors g img
   units_are = rw (e, d, sectors_are)
-
-  pub listing_at : minis_at t img K at ≡ record { geometry = t.geometry; units = K; sectors = n; list = at }
-  listing_at = rw e
 
   pub listing_left : {w' : List ℕ} → K ≤ at → Holds w' at n (unit_at (units (fat_cell g img) n s)) → MiniListed (record { geometry = t.geometry; units = K; sectors = n; list = at }) img w'
   listing_left a h =
@@ -59,6 +53,3 @@ module _ {img : Bytes} {w : List ℕ} (t : Tables) {K : ℕ} (at n s : ℕ) (l :
         here = λ k p. h.here k p ∙ ap (λ us. get_or us k 0) units_are;
         below = λ k p. rw (← units_are) (unit_below (fat_cell g img) (sector_count g img) n s listing_chain k p);
       }
-
-  pub listing_wrote : {w' : List ℕ} → Wrote w w' at n → Wrote w w' at (mini_fat_count img)
-  listing_wrote r = rw (← e) r

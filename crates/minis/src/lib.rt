@@ -12,7 +12,7 @@ ghost use Rattle.minis.specs.Listed.{MiniListed, MiniCounts, MinisCopied, minis_
 
 use chains::list_chain;
 use header::{mini_fat_count, mini_fat_start};
-use kinds::{Geometry, MiniSector};
+use kinds::{Geometry, MiniSector, Numbered};
 use tables::{Tables, copy_table, table_free, table_word};
 
 // ---- cells
@@ -32,8 +32,7 @@ pub fn mini_cell(img: &[u8], work: &[u32], t: Minis, m: MiniSector) -> MiniSecto
     requires m_bound { m.0 < cells_in (geometry_of t.geometry) * t.sectors }
     ensures { result.0 ≡ (minis_of t img.now).cell m.0 }
 {
-    let g = t.geometry;
-    MiniSector(table_word(img, work, g, t.list, m.index()))
+    MiniSector(table_word(img, work, t.geometry, t.list, m.index()))
 }
 
 // Lists the mini FAT's sectors in the work buffer from a place on.
@@ -46,13 +45,12 @@ pub fn list_minis(img: &[u8], work: &mut [u32], t: Tables, units: usize, at: usi
     ensures listed { MiniListed result img.now work.new }
     ensures wrote { Wrote work.old work.new at (mini_fat_count img.now) }
 {
-    let g = t.geometry;
-    let n = mini_fat_count(img) as usize;
-    list_chain(img, work, t, mini_fat_start(img), n, at);
+    let sectors = mini_fat_count(img) as usize;
+    list_chain(img, work, t, mini_fat_start(img), sectors, at);
     Minis {
-        geometry: g,
+        geometry: t.geometry,
         units,
-        sectors: n,
+        sectors,
         list: at,
     }
 }

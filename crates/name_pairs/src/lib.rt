@@ -8,9 +8,10 @@ ghost use Rattle.entries.specs.Entry.{name_at, NamedAt, Alike};
 ghost use Rattle.name_pairs.specs.Pairs.{pair_rises, PairsNamed, Looked};
 
 use entries::names::{compare_alike, first_alike, name_units};
-use kinds::Order;
+use std::cmp::Ordering;
 
 // How many units the names of each pair have, and how many of the first four they have alike.
+#[tactic(auto, using(crate::proofs::Pairs::units_few))]
 fn look(
     img: &[u8],
     low: &[u32; 64],
@@ -23,12 +24,10 @@ fn look(
     requires units_len { (length units.old ≡ 64) × (length from.old ≡ 64) }
     ensures { Looked img.now low.now high.now units.new from.new k }
 {
-    let mut i: usize = 0;
-    while i < k {
+    for i in 0..k {
         let n = name_units(img, high[i] as usize);
         units[i] = n as u32;
         from[i] = first_alike(img, low[i] as usize, high[i] as usize, n) as u32;
-        i += 1;
     }
 }
 
@@ -40,14 +39,11 @@ fn pair_rises(img: &[u8], p: usize, q: usize, n: usize, from: usize) -> bool
     requires alike { Alike (name_at img.now p) (name_at img.now q) from }
     ensures { result ≡ name_less (name_at img.now p) (name_at img.now q) }
 {
-    match compare_alike(img, p, q, n, from) {
-        Order::Less => true,
-        Order::Same => false,
-        Order::More => false,
-    }
+    compare_alike(img, p, q, n, from) == Ordering::Less
 }
 
 // Whether in each of the first k pairs the name at the low place comes before that at the high one.
+#[tactic(auto, unfolding(format::specs::Basics::Lists::all_below))]
 pub fn pairs_rise(img: &[u8], low: &[u32; 64], high: &[u32; 64], k: usize) -> bool
     requires { PairsNamed img.now low.now high.now k }
     ensures { result ≡ all_below k (pair_rises img.now low.now high.now) }
@@ -55,18 +51,11 @@ pub fn pairs_rise(img: &[u8], low: &[u32; 64], high: &[u32; 64], k: usize) -> bo
     let mut units = [0u32; 64];
     let mut from = [0u32; 64];
     look(img, low, high, &mut units, &mut from, k);
-    let mut i: usize = 0;
-    while i < k {
-        if !pair_rises(
-            img,
-            low[i] as usize,
-            high[i] as usize,
-            units[i] as usize,
-            from[i] as usize,
-        ) {
+    for i in 0..k {
+        let (p, q) = (low[i] as usize, high[i] as usize);
+        if !pair_rises(img, p, q, units[i] as usize, from[i] as usize) {
             return false;
         }
-        i += 1;
     }
     true
 }

@@ -5,12 +5,12 @@ ghost use Rattle.std.specs.Prelude.{◌≡◌, false, ◌+◌, ◌*◌, ◌<◌,
 ghost use Rattle.nodes.specs.Slots.{slot_of, entry_of};
 ghost use Rattle.nodes.specs.Nodes.{node_left, node_right, node_child, node_units, node_red, node_reached, node_reach, Packable, Packed};
 
-use kinds::EntryId;
+use kinds::{EntryId, Numbered};
 
 // ---- slots
 
 // 0 names none. Slot 1 is the root's, and stands for all that names no entry too.
-#[derive(Clone, Copy)]
+#[derive(Clone, Copy, PartialEq, Eq)]
 pub struct Slot(pub u32);
 
 impl Slot {
@@ -27,6 +27,7 @@ impl Slot {
     }
 
     // The slot that a field names where there are n entries.
+    #[tactic(auto, unfolding(crate::specs::Slots::slot_of))]
     pub fn of(x: EntryId, n: usize) -> Slot
         requires { n < 0x8_0000 }
         ensures { result.0 ≡ slot_of n x.0 }
@@ -43,7 +44,7 @@ impl Slot {
     pub fn is_none(self) -> bool
         ensures { result ≡ eqb self.0 0 }
     {
-        self.0 == Slot::NONE.0
+        self == Slot::NONE
     }
 
     pub fn index(self) -> usize
@@ -53,6 +54,7 @@ impl Slot {
     }
 
     // The entry that it is the slot of.
+    #[tactic(auto, using(crate::proofs::Slots::entry_some))]
     pub fn entry(self) -> EntryId
         requires { 0 < self.0 }
         ensures { result.0 ≡ entry_of self.0 }
@@ -82,10 +84,7 @@ impl Node {
         requires { Packable left.0 right.0 child.0 units }
         ensures { Packed left.0 right.0 child.0 units red result.a result.b }
     {
-        let mut colour: u32 = 0;
-        if red {
-            colour = 0x100_0000;
-        }
+        let colour = if red { 0x100_0000 } else { 0 };
         Node {
             a: left.0 + units * 0x8_0000 + colour + child.0 / 0x2000 * 0x400_0000,
             b: right.0 + child.0 % 0x2000 * 0x8_0000,

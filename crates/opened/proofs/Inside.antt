@@ -8,6 +8,7 @@ use native.Mathlib.Omega.{arith}
 use borrow.Author.Tests.{le-leb}
 use lib.Dec.{eqb, ltb, leb}
 use lib.ListN.{length}
+use Rattle.std.proofs.Common.{Ok}
 use Rattle.format.specs.Basics.Bytes.{Bytes}
 use Rattle.format.specs.Layout.Geometry.{Geometry}
 use Rattle.format.specs.Layout.Entry.{is_storage, is_stream}
@@ -32,11 +33,9 @@ use Rattle.tables.specs.Work.{Wrote}
 use Rattle.frame.proofs.Accepted.{accepted_kept}
 use Rattle.volume.specs.Opened.{OpenedRight}
 use Rattle.volume.specs.declared.Volume.{Volume as Place}
-use Rattle.volume.specs.declared.Opened.{Opened}
-use Rattle.volume.specs.declared.Opened.TheVariants.{Ready}
 use Rattle.volume.proofs.Opening.{left_cleared}
 use Rattle.queries.specs.Inside.{Open, reply_in, out_in, image_in}
-use Rattle.opened.proofs.Validated.{left_is, ready_is}
+use Rattle.opened.proofs.Validated.{left_is}
 
 -- ---- answers after validation
 
@@ -136,8 +135,7 @@ accepted_any g img n h = go (length_allowed g (length img)) (leb (work_need (len
     go true false e = absurd (omega (arith, e))
     go false b e = absurd (omega (arith, e))
 
-pub ready_open : (g : Geometry) (img : Bytes) (w w₁ : List ℕ) (r : Opened) (o : OpenedRight g img w w₁ r) {v : Place} → r ≡ Ready v → Open v img w₁
-ready_open g img w w₁ r o {v} e =
-    let x = ready_is g img w w₁ r o e in
-    let a = accepted_kept g img (accepted_any g img (length w) x.0) in
-    record { ready = x.1.1.0; groups = rw x.1.0 a }
+pub ready_open : (g : Geometry) (img : Bytes) (w w₁ : List ℕ) (v : Place) → OpenedRight g img w w₁ (Ok v) → Open v img w₁
+ready_open g img w w₁ v o =
+    let a = accepted_kept g img (accepted_any g img (length w) o.0) in
+    record { ready = o.1.1.0; groups = rw o.1.0 a }

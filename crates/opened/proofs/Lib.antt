@@ -1,7 +1,7 @@
 -- Laws for the calls on an opened volume.
 pub mod Validated
 pub mod Inside
-pub mod Ready
+pub mod Lent
 pub mod Numbers
 pub mod Calls
 pub mod Sequence

@@ -5,108 +5,48 @@ use mathlib.Core.Bool.{true, false}
 use mathlib.Core.List.{List, [], ◌∷◌}
 use native.Mathlib.Omega.{arith}
 use lib.ListN.{length}
+use Rattle.std.proofs.Common.{Ok, Err}
 use Rattle.format.specs.Basics.Bytes.{Bytes}
-use Rattle.format.specs.Layout.Geometry.{Geometry}
-use Rattle.format.specs.Layout.Volume.{Volume, volume}
 use Rattle.format.specs.Rules.Length.{work_need}
 use Rattle.format.specs.Rules.Version.{version_of}
-use Rattle.format.specs.Rules.Verdict.{verdict}
 use Rattle.format.specs.Calls.Paths.{Path}
 use Rattle.format.specs.Calls.Call.{Call, validate, find, read, overwrite, set_length, create, remove, list, read_at, work_of, out_of}
-use Rattle.format.specs.Calls.Answer.{answer_in}
-use Rattle.format.specs.Calls.Reply.{Reply, plain, reply, done, on_zero}
-use Rattle.format.specs.Calls.Buffers.{work_cleared, edited, handed_out, image_after, out_after, out_after_by, work_after}
+use Rattle.format.specs.Calls.Reply.{Reply, plain, reply, on_zero}
+use Rattle.format.specs.Calls.Buffers.{work_cleared, handed_out, image_after, out_after, out_after_by, work_after}
 use Rattle.format.specs.History.Claim.{is_edit}
 use Rattle.theory.proofs.Tests.{clash}
+use Rattle.kinds.specs.Numbers.{refusal_number}
+use Rattle.kinds.specs.declared.Refusal.{Refusal}
 use Rattle.tables.specs.Work.{Wrote}
 use Rattle.tables.proofs.WorkLaws.{wrote_none, wrote_two, wrote_cleared}
 use Rattle.volume.specs.declared.Volume.{Volume as Place}
-use Rattle.volume.specs.declared.Opened.TheVariants.{Ready}
+use Rattle.volume.specs.Opened.{OpenedRight}
 use Rattle.volume.proofs.Opening.{cleared_same}
-use Rattle.queries.specs.Inside.{reply_in, out_in, image_in}
-use Rattle.opened.proofs.Inside.{reply_in_lem, image_in_lem, out_in_lem, work_in}
-use Rattle.opened.proofs.Validated.{reply_is}
+use Rattle.opened.proofs.Inside.{work_in}
+use Rattle.opened.proofs.Validated.{reply_is, call_refused, call_kept, call_unchanged}
+use Rattle.opened.proofs.Lent.{lent_work, lent_kept}
 use Rattle.opened.proofs.Numbers.{reading_keeps, reading_at_keeps}
 use Rattle.opened.specs.OpenVolume.{OpenVolume}
 use Rattle.opened.specs.Opening.{OpeningRight}
 use Rattle.opened.specs.Sequence.{lent, Given, given, plain_given, plain_image, plain_work, Left, OpenedCalls}
-use Rattle.opened.proofs.Calls.{opened_zero, opened_length}
-
--- ---- what the work buffer holds is no part of it
-
-pub lent_work : (w : List ℕ) (c : Call) → work_of (lent w c) ≡ w
-unfolding lent work_of
-lent_work w (validate work) = refl
-lent_work w (find path work) = refl
-lent_work w (read path offset out work) = refl
-lent_work w (overwrite path offset bytes work) = refl
-lent_work w (set_length path new work) = refl
-lent_work w (create made path work) = refl
-lent_work w (remove path work) = refl
-lent_work w (list out work) = refl
-lent_work w (read_at entry position out work) = refl
-
-module _ (g : Geometry) (v : Volume) (img : Bytes) (w w' : List ℕ) where
-  any_reply : (c : Call) → reply_in g v (lent w c) ≡ reply_in g v (lent w' c)
-  unfolding lent reply_in answer_in done
-  any_reply (validate work) = refl
-  any_reply (find path work) = refl
-  any_reply (read path offset out work) = refl
-  any_reply (overwrite path offset bytes work) = refl
-  any_reply (set_length path new work) = refl
-  any_reply (create made path work) = refl
-  any_reply (remove path work) = refl
-  any_reply (list out work) = refl
-  any_reply (read_at entry position out work) = refl
-
-  any_out : (c : Call) → out_in g v img (lent w c) ≡ out_in g v img (lent w' c)
-  unfolding lent out_in answer_in handed_out out_of
-  any_out (validate work) = refl
-  any_out (find path work) = refl
-  any_out (read path offset out work) = refl
-  any_out (overwrite path offset bytes work) = refl
-  any_out (set_length path new work) = refl
-  any_out (create made path work) = refl
-  any_out (remove path work) = refl
-  any_out (list out work) = refl
-  any_out (read_at entry position out work) = refl
-
-  any_image : (c : Call) → image_in g v img (lent w c) ≡ image_in g v img (lent w' c)
-  unfolding lent image_in answer_in edited
-  any_image (validate work) = refl
-  any_image (find path work) = refl
-  any_image (read path offset out work) = refl
-  any_image (overwrite path offset bytes work) = refl
-  any_image (set_length path new work) = refl
-  any_image (create made path work) = refl
-  any_image (remove path work) = refl
-  any_image (list out work) = refl
-  any_image (read_at entry position out work) = refl
+use Rattle.opened.proofs.Calls.{long_zero, long_reply, long_out, long_image, opened_length}
 
 -- ---- one call
 
 module _ {v : Place} {img : Bytes} {w : List ℕ} (s : OpenVolume v img w) (c : Call) where
-  abbrev g : Geometry
-  g = version_of img
-
-  lent_zero : (w' : List ℕ) → work_need (length img) ≤ length w' → verdict g img (length (work_of (lent w' c))) ≡ 0
-  lent_zero w' h = opened_zero s (length (work_of (lent w' c))) (omega (arith, ap length (lent_work w' c)))
-
   module _ (w' : List ℕ) (h : work_need (length img) ≤ length w') where
     -- the plain call, lent another work buffer
     pub step_given : given img (lent w c) ≡ given img (lent w' c)
     step_given =
-        let z = lent_zero w s.room in
-        let z' = lent_zero w' h in
         ap₂ (λ (r : Reply) (o : Bytes). record { reply = r; out = o })
-        (reply_in_lem g img (lent w c) z ∙ any_reply g (volume g img) img w w' c ∙ sym (reply_in_lem g img (lent w' c) z'))
-        (out_in_lem g img (lent w c) z ∙ any_out g (volume g img) img w w' c ∙ sym (out_in_lem g img (lent w' c) z'))
+        (sym (long_reply s c w s.room) ∙ long_reply s c w' h)
+        (sym (long_out s c w s.room) ∙ long_out s c w' h)
 
     pub step_image : image_after img (lent w c) ≡ image_after img (lent w' c)
-    step_image = image_in_lem g img (lent w c) (lent_zero w s.room) ∙ any_image g (volume g img) img w w' c ∙ sym (image_in_lem g img (lent w' c) (lent_zero w' h))
+    step_image = sym (long_image s c w s.room) ∙ long_image s c w' h
 
     step_work : work_after img (lent w' c) ≡ work_cleared (work_need (length img)) w'
-    step_work = sym (work_in g img (lent w' c) (lent_zero w' h) (wrote_none _ 0 _) refl) ∙ ap (work_cleared (work_need (length img))) (lent_work w' c)
+    step_work = sym (work_in (version_of img) img (lent w' c) (long_zero s c w' h) (wrote_none _ 0 _) refl) ∙ ap (work_cleared (work_need (length img))) (lent_work w' c)
 
   -- where the plain calls' work buffer is the opened volume's, cleared, it is so again
   pub step_cleared : {img₁ : Bytes} {w₁ : List ℕ} → Left v img w c img₁ w₁ → (w' : List ℕ) → w' ≡ work_cleared (work_need (length img)) w
@@ -169,7 +109,7 @@ module _ (img : Bytes) (w : List ℕ) where
 -- ---- opening is a validation
 
 pub open_once : (v : Place) (img : Bytes) (w w₁ : List ℕ) (cs : List Call) (xs : List Given) (img' : Bytes) (w₂ w₃ : List ℕ)
-    → OpeningRight img w w₁ (Ready v) → OpenedCalls v img w₁ cs xs img' w₂ → w₃ ≡ work_cleared (work_need (length img')) w₂
+    → OpeningRight img w w₁ (Ok v) → OpenedCalls v img w₁ cs xs img' w₂ → w₃ ≡ work_cleared (work_need (length img')) w₂
     → let first : Given = record { reply = plain 0; out = [] } in
     (first ∷ xs ≡ plain_given img w (validate [] ∷ cs)) × ((img' ≡ plain_image img w (validate [] ∷ cs)) × (w₃ ≡ plain_work img w (validate [] ∷ cs)))
 unfolding plain_given plain_image plain_work lent
@@ -240,15 +180,40 @@ still_opened v img w (c ∷ cs) (x ∷ xs) img' w' s (img₁, w₁, (y, (l, o)))
 
 -- ---- a plain call is an opening, the call on the opened volume, and a closing
 
-module _ {v : Place} {img : Bytes} {w w₁ : List ℕ} (q : OpeningRight img w w₁ (Ready v)) (c : Call) where
+module _ {v : Place} {img : Bytes} {w w₁ : List ℕ} (q : OpeningRight img w w₁ (Ok v)) (c : Call) where
   long_enough : work_need (length img) ≤ length w
   long_enough = omega (arith, q.1.1.long, q.1.0.room)
 
-  pub plain_given_lem : given img (lent w₁ c) ≡ given img (lent w c)
-  plain_given_lem = step_given q.1.0 c w long_enough
+  pub same_reply : reply img (lent w₁ c) ≡ reply img (lent w c)
+  same_reply = ap (λ (x : Given). x.reply) (step_given q.1.0 c w long_enough)
 
-  pub plain_image_lem : image_after img (lent w₁ c) ≡ image_after img (lent w c)
-  plain_image_lem = step_image q.1.0 c w long_enough
+  pub same_out : out_after img (lent w₁ c) ≡ out_after img (lent w c)
+  same_out = ap (λ (x : Given). x.out) (step_given q.1.0 c w long_enough)
 
-  pub plain_work_lem : {w₂ w₃ : List ℕ} → Wrote w₁ w₂ 0 (work_need (length img)) → w₃ ≡ work_cleared (work_need (length img)) w₂ → w₃ ≡ work_after img (lent w c)
-  plain_work_lem r e = e ∙ cleared_same (work_need (length img)) (wrote_two q.1.1 r) ∙ sym (step_work q.1.0 c w long_enough)
+  pub same_work : {w₂ w₃ : List ℕ} → Wrote w₁ w₂ 0 (work_need (length img)) → w₃ ≡ work_cleared (work_need (length img)) w₂ → w₃ ≡ work_after img (lent w c)
+  same_work r e = e ∙ cleared_same (work_need (length img)) (wrote_two q.1.1 r) ∙ sym (step_work q.1.0 c w long_enough)
+
+  -- an edit
+  pub same_edit : {img₁ : Bytes} {w₂ w₃ : List ℕ} → Left v img w₁ c img₁ w₂ → w₃ ≡ work_cleared (work_need (length img₁)) w₂
+      → (img₁ ≡ image_after img (lent w c)) × (w₃ ≡ work_after img (lent w c))
+  same_edit {w₂ = w₂} l e =
+      let k = ap length l.image ∙ opened_length q.1.0 (lent w₁ c) in
+      (l.image ∙ step_image q.1.0 c w long_enough, same_work l.wrote (e ∙ ap (λ n. work_cleared (work_need n) w₂) k))
+
+-- where the opening refuses
+pub record CallRefused (img : Bytes) (w w₁ : List ℕ) (a : Refusal) (c : Call) : Type 0 where
+  pub number : plain (refusal_number a) ≡ reply img (lent w c)
+  pub out : out_of c ≡ out_after img (lent w c)
+  pub image : img ≡ image_after img (lent w c)
+  pub work : w₁ ≡ work_after img (lent w c)
+
+pub same_refused : (img : Bytes) (w w₁ : List ℕ) (a : Refusal) → OpeningRight img w w₁ (Err a) → (c : Call) → CallRefused img w w₁ a c
+same_refused img w w₁ a o c =
+    let q : OpenedRight (version_of img) img (work_of (lent w c)) w₁ (Err a) = rw (lent_work w c) o in
+    let r = call_refused (version_of img) img (lent w c) w₁ a q in
+    record {
+      number = r.0;
+      out = sym (lent_kept w c) ∙ call_kept (version_of img) img (lent w c) w₁ a q;
+      image = call_unchanged (version_of img) img (lent w c) w₁ a q;
+      work = r.1;
+    }

@@ -17,17 +17,17 @@ ghost use Rattle.opened.specs.Opening.{OpeningRight};
 use creation::create_in;
 use edits::overwrite::overwrite_in;
 use header::work_need;
-use kinds::{Answer, EntryId, NewKind};
+use kinds::{EntryId, NewKind, Refusal};
 use le::zero_first;
 use lengths::set_length_in;
-use queries::find::{Find, find_in};
-use queries::list::{List, list_in};
-use queries::read::{Read, read_at_in, read_in};
+use queries::find::{Object, find_in};
+use queries::list::list_in;
+use queries::read::{read_at_in, read_in};
 use removal::remove_in;
-use volume::{Opened, Volume, open_volume};
+use volume::{Volume, open_volume};
 
 // Validates an image and opens it.
-pub fn open_image(image: &[u8], work: &mut [u32]) -> Opened
+pub fn open_image(image: &[u8], work: &mut [u32]) -> Result<Volume, Refusal>
     ensures { OpeningRight image.now work.old work.new result }
 {
     open_volume(image, work)
@@ -42,7 +42,7 @@ pub fn close(image: &[u8], work: &mut [u32], v: Volume)
 }
 
 // The entry that a path leads to: its number, its type and its size.
-pub fn find_opened(image: &[u8], work: &[u32], v: Volume, path: &[u16]) -> Find
+pub fn find_opened(image: &[u8], work: &[u32], v: Volume, path: &[u16]) -> Result<Object, Refusal>
     requires { OpenVolume v image.now work.now }
     ensures { find_reply result ≡ reply image.now (find_call path.now work.now) }
 {
@@ -57,7 +57,7 @@ pub fn read_opened(
     path: &[u16],
     offset: u64,
     out: &mut [u8],
-) -> Read
+) -> Result<usize, Refusal>
     requires { OpenVolume v image.now work.now }
     ensures result_value { read_reply result ≡ reply image.now (read_call path.now offset out.old work.now) }
     ensures out_after { out.new ≡ out_after image.now (read_call path.now offset out.old work.now) }
@@ -73,7 +73,7 @@ pub fn read_at_opened(
     entry: EntryId,
     position: u64,
     out: &mut [u8],
-) -> Read
+) -> Result<usize, Refusal>
     requires { OpenVolume v image.now work.now }
     ensures result_value { read_reply result ≡ reply image.now (read_at_call entry.0 position out.old work.now) }
     ensures out_after { out.new ≡ out_after image.now (read_at_call entry.0 position out.old work.now) }
@@ -89,7 +89,7 @@ pub fn overwrite_opened(
     path: &[u16],
     offset: u64,
     bytes: &[u8],
-) -> Answer
+) -> Result<(), Refusal>
     requires { OpenVolume v image.old work.old }
     ensures result_value { plain (number_of result)
         ≡ reply image.old (overwrite_call path.now offset bytes.now work.old) }
@@ -108,7 +108,7 @@ pub fn set_length_opened(
     v: Volume,
     path: &[u16],
     new_len: u64,
-) -> Answer
+) -> Result<(), Refusal>
     requires { OpenVolume v image.old work.old }
     ensures result_value { plain (number_of result) ≡ reply image.old (length_call path.now new_len work.old) }
     ensures image_after { image.new ≡ image_after image.old (length_call path.now new_len work.old) }
@@ -125,7 +125,7 @@ pub fn create_opened(
     v: Volume,
     path: &[u16],
     kind: NewKind,
-) -> Answer
+) -> Result<(), Refusal>
     requires { OpenVolume v image.old work.now }
     ensures result_value { plain (number_of result) ≡ reply image.old (create_call (new_kind_of kind) path.now work.now) }
     ensures image_after { image.new ≡ image_after image.old (create_call (new_kind_of kind) path.now work.now) }
@@ -135,7 +135,12 @@ pub fn create_opened(
 }
 
 // Removes the object that a path leads to: a stream, or a storage with nothing in it.
-pub fn remove_opened(image: &mut [u8], work: &mut [u32], v: Volume, path: &[u16]) -> Answer
+pub fn remove_opened(
+    image: &mut [u8],
+    work: &mut [u32],
+    v: Volume,
+    path: &[u16],
+) -> Result<(), Refusal>
     requires { OpenVolume v image.old work.old }
     ensures result_value { plain (number_of result) ≡ reply image.old (remove_call path.now work.old) }
     ensures image_after { image.new ≡ image_after image.old (remove_call path.now work.old) }
@@ -146,7 +151,12 @@ pub fn remove_opened(image: &mut [u8], work: &mut [u32], v: Volume, path: &[u16]
 }
 
 // A line for each object, in an out buffer that has room for all of them.
-pub fn list_opened(image: &[u8], work: &mut [u32], v: Volume, out: &mut [u8]) -> List
+pub fn list_opened(
+    image: &[u8],
+    work: &mut [u32],
+    v: Volume,
+    out: &mut [u8],
+) -> Result<usize, Refusal>
     requires { OpenVolume v image.now work.old }
     ensures result_value { list_reply result ≡ reply image.now (list_call out.old work.old) }
     ensures out_after { out.new ≡ out_after image.now (list_call out.old work.old) }

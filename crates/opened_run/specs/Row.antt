@@ -1,5 +1,5 @@
 -- Calls in a row on a volume that is opened once: they give and leave what a validation and the same plain calls do.
-use Rattle.std.specs.Prelude.{ℕ, ◌≡◌, List, [], ◌∷◌}
+use Rattle.std.specs.Prelude.{ℕ, ◌≡◌, Result, Ok, Err, List, [], ◌∷◌}
 use Rattle.format.specs.Basics.Bytes.{Bytes}
 use Rattle.format.specs.Calls.Paths.{Path}
 use Rattle.format.specs.Calls.Call.{Call, validate, find, read, overwrite, set_length, list}
@@ -9,8 +9,7 @@ use Rattle.kinds.specs.Numbers.{number_of, refusal_number}
 use Rattle.queries.specs.Replies.{find_reply, read_reply, list_reply}
 use Rattle.opened.specs.Sequence.{Given, plain_given, plain_image, plain_work}
 use Rattle.opened_run.specs.declared.Steps.{Steps}
-use Rattle.opened_run.specs.declared.Outcome.{Outcome}
-use Rattle.opened_run.specs.declared.Outcome.TheVariants.{Refused, Made}
+use Rattle.kinds.specs.declared.Refusal.{Refusal}
 
 -- the buffers that are lent
 pub record Buffers : Type 0 where
@@ -38,14 +37,14 @@ row_given s out text =
 abbrev pub accepted : Given
 accepted = record { reply = plain 0; out = [] }
 
--- refused: what a validation that refuses gives and leaves. Made: what a validation and then the calls give and leave
-abbrev pub RowRight : List Call → Buffers → Buffers → Outcome → Type 0
-RowRight calls before after (Refused a) =
+-- Err: what a validation that refuses gives and leaves. Ok: what a validation and then the calls give and leave
+abbrev pub RowRight : List Call → Buffers → Buffers → Result Steps Refusal → Type 0
+RowRight calls before after (Err a) =
     (plain (refusal_number a) ≡ reply before.image (validate before.work))
     × ((after.image ≡ before.image)
     × ((after.work ≡ work_after before.image (validate before.work))
     × ((after.out ≡ before.out) × (after.text ≡ before.text))))
-RowRight calls before after (Made s) =
+RowRight calls before after (Ok s) =
     (accepted ∷ row_given s after.out after.text ≡ plain_given before.image before.work (validate [] ∷ calls))
     × ((after.image ≡ plain_image before.image before.work (validate [] ∷ calls))
     × (after.work ≡ plain_work before.image before.work (validate [] ∷ calls)))

@@ -6,31 +6,24 @@ ghost use Rattle.opened.specs.OpenVolume.{OpenVolume};
 ghost use Rattle.opened.specs.Sequence.{OpenedCalls};
 ghost use Rattle.opened_run.specs.Row.{row_calls, row_given, RowRight};
 
-use kinds::{Answer, Refusal, number, refusal_number};
+use kinds::{Refusal, number};
 use opened::{
     close, find_opened, list_opened, open_image, overwrite_opened, read_opened, set_length_opened,
 };
-use queries::find::Find;
-use queries::list::List;
-use queries::read::Read;
-use volume::{Opened, Volume};
+use queries::find::Object;
+use run_output::{digest, print_next, zeros};
+use volume::Volume;
 
 // ---- the calls
 
 // What each of the calls answered.
 #[derive(Clone, Copy)]
 struct Steps {
-    length: Answer,
-    overwrite: Answer,
-    find: Find,
-    read: Read,
-    list: List,
-}
-
-#[derive(Clone, Copy)]
-enum Outcome {
-    Refused(Refusal),
-    Made(Steps),
+    length: Result<(), Refusal>,
+    overwrite: Result<(), Refusal>,
+    find: Result<Object, Refusal>,
+    read: Result<usize, Refusal>,
+    list: Result<usize, Refusal>,
 }
 
 // Gives a stream another length, puts bytes into it, finds it, reads it from there on, and lists everything.
@@ -56,11 +49,11 @@ fn calls(
     let read = read_opened(image, work, v, path, offset, out);
     let list = list_opened(image, work, v, text);
     Steps {
-        length: length,
-        overwrite: overwrite,
-        find: find,
-        read: read,
-        list: list,
+        length,
+        overwrite,
+        find,
+        read,
+        list,
     }
 }
 
@@ -74,52 +67,19 @@ fn in_a_row(
     bytes: &[u8],
     out: &mut [u8],
     text: &mut [u8],
-) -> Outcome
+) -> Result<Steps, Refusal>
     ensures { RowRight
         (row_calls path.now new offset bytes.now out.old text.old)
         (record { image = image.entry.now; work = work.old; out = out.old; text = text.old })
         (record { image = image.exit.now; work = work.new; out = out.new; text = text.new }) result }
 {
-    match open_image(image, work) {
-        Opened::Refused(a) => Outcome::Refused(a),
-        Opened::Ready(v) => {
-            let steps = calls(image, work, v, path, new, offset, bytes, out, text);
-            close(image, work, v);
-            Outcome::Made(steps)
-        }
-    }
+    let v = open_image(image, work)?;
+    let steps = calls(image, work, v, path, new, offset, bytes, out, text);
+    close(image, work, v);
+    Ok(steps)
 }
 
 // ---- printing
-
-// A number that each byte has a part in.
-fn digest(b: &[u8]) -> u64 {
-    let mut h: u64 = 1;
-    let mut i = 0;
-    while i < b.len() {
-        h = (h * 16777619 + b[i] as u64) % 4294967296;
-        i += 1;
-    }
-    h
-}
-
-// How many numbers are 0.
-fn zeros(work: &[u32]) -> usize {
-    let mut n = 0;
-    let mut i = 0;
-    while i < work.len() {
-        if work[i] == 0 {
-            n += 1;
-        }
-        i += 1;
-    }
-    n
-}
-
-fn print_next(n: u64) {
-    io::write_all(1, b" ");
-    io::print_decimal(1, n);
-}
 
 // A line: a word, and a number.
 fn print_line(word: &[u8], n: u64) {
@@ -128,51 +88,44 @@ fn print_line(word: &[u8], n: u64) {
     io::write_all(1, b"\n");
 }
 
-fn print_find(f: Find) {
-    match f {
-        Find::Entry(e) => {
-            let x = e.id;
+fn print_find(r: Result<Object, Refusal>) {
+    match r {
+        Ok(e) => {
             io::write_all(1, b"find 0");
-            print_next(x.0 as u64);
-            let t = e.entry_type;
-            print_next(t.0 as u64);
+            print_next(e.id.0 as u64);
+            print_next(e.entry_type.0 as u64);
             print_line(b"", e.size);
         }
-        Find::Refused(a) => print_line(b"find", refusal_number(a) as u64),
+        Err(a) => print_line(b"find", u32::from(a) as u64),
     }
 }
 
-fn print_read(r: Read) {
+fn print_read(r: Result<usize, Refusal>) {
     match r {
-        Read::Done(n) => print_line(b"read 0", n as u64),
-        Read::Refused(a) => print_line(b"read", refusal_number(a) as u64),
+        Ok(n) => print_line(b"read 0", n as u64),
+        Err(a) => print_line(b"read", u32::from(a) as u64),
     }
 }
 
-fn print_list(r: List) {
+fn print_list(r: Result<usize, Refusal>) {
     match r {
-        List::Done(n) => print_line(b"list 0", n as u64),
-        List::Refused(a) => print_line(b"list", refusal_number(a) as u64),
+        Ok(n) => print_line(b"list 0", n as u64),
+        Err(a) => print_line(b"list", u32::from(a) as u64),
     }
 }
 
 fn print_steps(s: Steps) {
-    let length = s.length;
-    print_line(b"length", number(length) as u64);
-    let overwrite = s.overwrite;
-    print_line(b"overwrite", number(overwrite) as u64);
-    let find = s.find;
-    print_find(find);
-    let read = s.read;
-    print_read(read);
-    let list = s.list;
-    print_list(list);
+    print_line(b"length", number(s.length) as u64);
+    print_line(b"overwrite", number(s.overwrite) as u64);
+    print_find(s.find);
+    print_read(s.read);
+    print_list(s.list);
 }
 
-fn print_outcome(r: Outcome) {
+fn print_outcome(r: Result<Steps, Refusal>) {
     match r {
-        Outcome::Refused(a) => print_line(b"refused", refusal_number(a) as u64),
-        Outcome::Made(s) => print_steps(s),
+        Ok(s) => print_steps(s),
+        Err(a) => print_line(b"refused", u32::from(a) as u64),
     }
 }
 

@@ -1,10 +1,9 @@
 -- A block of entries: its streams, and the walks along their chains.
-use Prim.Native.Nat.{ℕ, ◌+◌, ◌≤◌, ◌<◌}
+use Prim.Native.Nat.{ℕ}
+use Rattle.std.specs.Prelude.{Option, Some, None}
 use mathlib.Core.Path.{◌≡◌, refl, sym, ◌∙◌}
-use mathlib.Core.Bool.{Bool, true, false, ◌&&◌}
+use mathlib.Core.Bool.{Bool, true, false, ◌&&◌, ◌||◌}
 use mathlib.Core.List.{List, [], append-nil}
-use native.Mathlib.Omega.{arith}
-use lib.ListN.{length}
 use borrow.Author.Tests.{not-true, not-false}
 use Rattle.format.specs.Basics.Bytes.{Bytes}
 use Rattle.format.specs.Basics.Lists.{all_below, join_below}
@@ -12,10 +11,7 @@ use Rattle.format.specs.Layout.Tables.{sector_space}
 use Rattle.format.specs.Layout.Volume.{Volume, volume, mini_space}
 use Rattle.tables.specs.Views.{volume_of, sectors_of}
 use Rattle.tables.specs.declared.Tables.{Tables}
-use Rattle.tables.proofs.WorkLaws.{wrote_none}
-use Rattle.chains.specs.Answers.{is_broken, and_then}
-use Rattle.chains.specs.declared.Marked.{Marked}
-use Rattle.chains.specs.declared.Marked.TheVariants.{Broken}
+use Rattle.tables.proofs.WorkLaws.{wrote_none, wrote_two}
 use Rattle.lanes.specs.Answers.{lane_right, lane_units, LanesMarked}
 use Rattle.directory.specs.declared.Directory.{Directory}
 use Rattle.stream_chains.specs.Asked.{chain_listed, Gathered}
@@ -25,10 +21,6 @@ use Rattle.minis.specs.declared.Minis.{Minis}
 use Rattle.system_chains.specs.System.{SectorsMarkable}
 use Rattle.owners.specs.Streams.{minis_in, StreamsMarkable, BothMarked, BlockMarked}
 use Rattle.owners.proofs.Both.{both_sectors, both_minis, both_then, both_broken}
-
--- the numbers of mini sectors stand in the work buffer
-pub minis_in_work : {t : Tables} {m : Minis} {d : Directory} {img : Bytes} {w : List ℕ} → StreamsMarkable t m d img w → (t.sectors + m.units ≤ length w) × (m.units < 0x1000_0000)
-minis_in_work z = (omega (arith, z.minis.room, z.units, z.sectors.count), omega (arith, z.minis.few, z.units))
 
 -- what was read is of this volume, whose sizes the lanes go by
 pub measured : {t : Tables} {img : Bytes} {w : List ℕ} → SectorsMarkable t img w → Measured (volume_of t.geometry img) t.geometry t.sectors
@@ -44,11 +36,10 @@ module _ {t : Tables} {m : Minis} {d : Directory} {img : Bytes} {w : List ℕ} (
   here = rw z.same at g
 
   -- a stream has no chain
-  pub block_wrong : all_below k (chain_listed v starts sizes) ≡ false → BlockMarked t m d img x n w w Broken
+  pub block_wrong : all_below k (chain_listed v starts sizes) ≡ false → BlockMarked t m d img x n w w None
   block_wrong h = both_broken _ _ (here.right ∙ h) (wrote_none w 0 _)
 
-  module _ {c : Counts} {sh sl lh ll : List ℕ} (r : SplitReady t.geometry t.sectors k starts sizes c sh sl lh ll)
-      {w₁ : List ℕ} {a : Marked} (p : LanesMarked t.sectors m.units sh sl c.small w w₁ a) where
+  module _ {c : Counts} {sh sl lh ll : List ℕ} (r : SplitReady t.geometry t.sectors k starts sizes c sh sl lh ll) where
     abbrev smalls : Bool
     smalls = all_below c.small (lane_right (minis_in t img) sh sl)
 
@@ -58,30 +49,43 @@ module _ {t : Tables} {m : Minis} {d : Directory} {img : Bytes} {w : List ℕ} (
     lanes : Split v k starts sizes c sh sl lh ll
     lanes = r.lanes v (measured z.sectors)
 
-    -- those of mini sectors
-    small_marked : BothMarked t m d img smalls [] (join_below c.small (lane_units (minis_in t img) sh sl)) w w₁ a
-    small_marked = both_minis z (rw z.sectors.count at p (minis_in t img) (sym z.units) z.minis)
-
     small_first : {u : Bool} → smalls ≡ u → all_below k (chain_listed v starts sizes) ≡ (u && larges)
     unfolding volume
     small_first e = rw (← e) lanes.right
 
-    -- one of these is none
-    pub block_broken : is_broken a ≡ true → BlockMarked t m d img x n w w₁ Broken
-    block_broken e = both_broken _ _ (here.right ∙ small_first (not-true _ (sym small_marked.answer ∙ e))) small_marked.wrote
+    module _ {w₁ : List ℕ} where
+      -- those of mini sectors
+      small_marked : {a : Option Bool} → LanesMarked t.sectors m.units sh sl c.small w w₁ a
+          → BothMarked t m d img smalls [] (join_below c.small (lane_units (minis_in t img) sh sl)) w w₁ a
+      small_marked p = both_minis z (rw z.sectors.count at p (minis_in t img) (sym z.units) z.minis)
 
-    module _ (e : is_broken a ≡ false) where
-      small_right : smalls ≡ true
-      small_right = not-false _ (sym small_marked.answer ∙ e)
+      -- one of these is none
+      pub block_broken : LanesMarked t.sectors m.units sh sl c.small w w₁ None → BlockMarked t m d img x n w w₁ None
+      block_broken p = let s = small_marked p in both_broken _ _ (here.right ∙ small_first (not-true _ (sym s.answer))) s.wrote
 
-      pub block_stands : StreamsMarkable t m d img w₁
-      block_stands = small_marked.stands small_right
+      module _ {a : Bool} (p : LanesMarked t.sectors m.units sh sl c.small w w₁ (Some a)) where
+        smalls_marked : BothMarked t m d img smalls [] (join_below c.small (lane_units (minis_in t img) sh sl)) w w₁ (Some a)
+        smalls_marked = small_marked p
 
-      -- and those of sectors
-      pub block_marked : {w₂ : List ℕ} {b : Marked} → LanesMarked 0 t.sectors lh ll c.large w₁ w₂ b → BlockMarked t m d img x n w w₂ (and_then a b)
-      unfolding volume sector_space
-      block_marked q =
-          let u = block_stands in
-          let f = both_sectors u (q (sectors_of t img) (sym u.sectors.count) u.sectors.units) in
-          let s = rw (append-nil (join_below c.small (lane_units (minis_in t img) sh sl))) at (both_then (rw small_right at small_marked) f) in
-          rw (here.right ∙ small_first small_right, here.sectors ∙ lanes.sectors, here.minis ∙ lanes.minis) s
+        small_right : smalls ≡ true
+        small_right = not-false _ (sym smalls_marked.answer)
+
+        pub block_stands : StreamsMarkable t m d img w₁
+        block_stands = smalls_marked.stands small_right
+
+        -- and those of sectors
+        large_marked : {w₂ : List ℕ} {b : Option Bool} → LanesMarked 0 t.sectors lh ll c.large w₁ w₂ b
+            → BothMarked t m d img larges (join_below c.large (lane_units (sectors_of t img) lh ll)) [] w₁ w₂ b
+        unfolding sector_space
+        large_marked q = both_sectors block_stands (q (sectors_of t img) (sym block_stands.sectors.count) block_stands.sectors.units)
+
+        pub block_off : {w₂ : List ℕ} → LanesMarked 0 t.sectors lh ll c.large w₁ w₂ None → BlockMarked t m d img x n w w₂ None
+        block_off q =
+            let s = large_marked q in
+            both_broken _ _ (here.right ∙ small_first small_right ∙ not-true _ (sym s.answer)) (wrote_two smalls_marked.wrote s.wrote)
+
+        pub block_marked : {w₂ : List ℕ} {b : Bool} → LanesMarked 0 t.sectors lh ll c.large w₁ w₂ (Some b) → BlockMarked t m d img x n w w₂ (Some (a || b))
+        unfolding volume sector_space
+        block_marked q =
+            let s = rw (append-nil (join_below c.small (lane_units (minis_in t img) sh sl))) at (both_then (rw small_right at smalls_marked) (large_marked q)) in
+            rw (here.right ∙ small_first small_right, here.sectors ∙ lanes.sectors, here.minis ∙ lanes.minis) s

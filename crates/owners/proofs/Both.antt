@@ -1,11 +1,11 @@
 -- Chains of both kinds, marked one after the other.
-use Prim.Native.Nat.{ℕ, ◌+◌, ◌≤◌, ◌<◌}
-use mathlib.Core.Path.{◌≡◌, refl, sym, ap, ◌∙◌}
+use Prim.Native.Nat.{ℕ, ◌+◌, ◌≤◌}
+use Rattle.std.specs.Prelude.{Option, Some, None}
+use mathlib.Core.Path.{◌≡◌, refl, sym}
 use mathlib.Core.Logic.{◌⊎◌, inl, inr}
-use mathlib.Core.Bool.{Bool, true, false, not, ◌||◌, or-true, or-false, or_assoc}
+use mathlib.Core.Bool.{Bool, true, false, ◌||◌, or-true, or-false, or_assoc}
 use mathlib.Core.List.{List, [], ◌++◌, append_assoc, append-nil}
 use native.Mathlib.Omega.{arith}
-use lib.ListN.{length}
 use Rattle.format.specs.Basics.Bytes.{Bytes}
 use Rattle.format.specs.Layout.Space.{Space}
 use Rattle.format.specs.Layout.Tables.{sector_space}
@@ -14,14 +14,12 @@ use Rattle.tables.specs.Work.{Wrote}
 use Rattle.tables.specs.Views.{sector_count_of, sectors_of}
 use Rattle.tables.specs.declared.Tables.{Tables}
 use Rattle.tables.proofs.WorkLaws.{wrote_none, wrote_two, wrote_wider}
-use Rattle.chains.specs.Answers.{is_broken, is_shared, and_then, Markable, ChainsMarked}
-use Rattle.chains.specs.declared.Marked.{Marked}
-use Rattle.chains.specs.declared.Marked.TheVariants.{Broken, Fresh}
-use Rattle.chains.proofs.Owners.{broken_two, shared_two, owning_kept, markable_kept}
+use Rattle.chains.specs.Answers.{is_shared, Markable, ChainsMarked}
+use Rattle.chains.proofs.Owners.{owning_kept, markable_kept}
 use Rattle.directory.specs.declared.Directory.{Directory}
 use Rattle.directory.proofs.Places.{directory_kept}
 use Rattle.minis.specs.declared.Minis.{Minis}
-use Rattle.owners.specs.Streams.{minis_in, StreamsMarkable, Owns, BothOwn, BothMarked}
+use Rattle.owners.specs.Streams.{minis_in, StreamsMarkable, Owns, BothMarked}
 
 -- nothing is owned besides
 owns_none : (sp : Space) (at : ℕ) {w w' : List ℕ} {a n : ℕ} → Wrote w w' a n → (a + n ≤ at) ⊎ (at + sp.limit ≤ a) → Owns sp at [] false w w'
@@ -45,7 +43,7 @@ both t img = sector_count_of t img + (minis_in t img).limit
 
 module _ {t : Tables} {m : Minis} {d : Directory} {img : Bytes} where
   -- no chain
-  pub both_none : {w : List ℕ} → StreamsMarkable t m d img w → BothMarked t m d img true [] [] w w Fresh
+  pub both_none : {w : List ℕ} → StreamsMarkable t m d img w → BothMarked t m d img true [] [] w w (Some false)
   both_none {w} z =
       record {
         answer = refl;
@@ -68,7 +66,7 @@ module _ {t : Tables} {m : Minis} {d : Directory} {img : Bytes} where
         }
 
     -- chains of sectors
-    pub both_sectors : {right : Bool} {own : List ℕ} {a : Marked} → ChainsMarked (sectors_of t img) 0 right own w w' a → BothMarked t m d img right own [] w w' a
+    pub both_sectors : {right : Bool} {own : List ℕ} {a : Option Bool} → ChainsMarked (sectors_of t img) 0 right own w w' a → BothMarked t m d img right own [] w w' a
     unfolding sector_space
     both_sectors {a = a} c =
         let r : Wrote w w' 0 (sector_count_of t img) = c.wrote in
@@ -88,7 +86,7 @@ module _ {t : Tables} {m : Minis} {d : Directory} {img : Bytes} where
         }
 
     -- chains of mini sectors
-    pub both_minis : {right : Bool} {own : List ℕ} {a : Marked} → ChainsMarked (minis_in t img) (sector_count_of t img) right own w w' a → BothMarked t m d img right [] own w w' a
+    pub both_minis : {right : Bool} {own : List ℕ} {a : Option Bool} → ChainsMarked (minis_in t img) (sector_count_of t img) right own w w' a → BothMarked t m d img right [] own w w' a
     unfolding sector_space
     both_minis {a = a} c =
         let r = c.wrote in
@@ -108,20 +106,19 @@ module _ {t : Tables} {m : Minis} {d : Directory} {img : Bytes} where
         }
 
   -- chains that are all right, and then others
-  pub both_then : {right : Bool} {os₁ om₁ os₂ om₂ w w₁ w₂ : List ℕ} {a b : Marked} → BothMarked t m d img true os₁ om₁ w w₁ a → BothMarked t m d img right os₂ om₂ w₁ w₂ b
-      → BothMarked t m d img right (os₁ ++ os₂) (om₁ ++ om₂) w w₂ (and_then a b)
+  pub both_then : {right : Bool} {os₁ om₁ os₂ om₂ w w₁ w₂ : List ℕ} {a b : Bool} → BothMarked t m d img true os₁ om₁ w w₁ (Some a)
+      → BothMarked t m d img right os₂ om₂ w₁ w₂ (Some b) → BothMarked t m d img right (os₁ ++ os₂) (om₁ ++ om₂) w w₂ (Some (a || b))
   both_then {w = w} {w₁} {w₂} {a} {b} p q =
       record {
-        answer = broken_two a b p.answer ∙ q.answer;
+        answer = q.answer;
         stands = q.stands;
         owners = λ h.
-            let k : is_broken b ≡ false = q.answer ∙ ap not h in
             let x = p.owners refl in
             let y = q.owners h in
             record {
               large = x.large || y.large;
               small = x.small || y.small;
-              either = shared_two a b p.answer k ∙ four (is_shared a) (is_shared b) x.large x.small y.large y.small x.either y.either;
+              either = four a b x.large x.small y.large y.small x.either y.either;
               in_sectors_lem = owns_both (sectors_of t img) 0 w w₁ w₂ x.in_sectors_lem y.in_sectors_lem;
               in_minis_lem = owns_both (minis_in t img) (sector_count_of t img) w w₁ w₂ x.in_minis_lem y.in_minis_lem;
             };
@@ -129,5 +126,5 @@ module _ {t : Tables} {m : Minis} {d : Directory} {img : Bytes} where
       }
 
   -- one of them is none
-  pub both_broken : {right : Bool} (os om : List ℕ) {w w' : List ℕ} → right ≡ false → Wrote w w' 0 (both t img) → BothMarked t m d img right os om w w' Broken
+  pub both_broken : {right : Bool} (os om : List ℕ) {w w' : List ℕ} → right ≡ false → Wrote w w' 0 (both t img) → BothMarked t m d img right os om w w' None
   both_broken os om h r = record { answer = sym (rw h); stands = λ e. absurd (clash e h); owners = λ e. absurd (clash e h); wrote = r }

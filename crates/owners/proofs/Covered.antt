@@ -1,6 +1,6 @@
 -- The test of one unit that group 18 has nothing against, by the number that stands for it.
 use Prim.Native.Nat.{ℕ, ◌+◌, ◌<◌}
-use mathlib.Core.Path.{◌≡◌, refl, sym, ap, ◌∙◌}
+use mathlib.Core.Path.{◌≡◌, refl, sym, ◌∙◌}
 use mathlib.Core.Logic.{inl, inr}
 use mathlib.Core.Bool.{Bool, true, false, not, ◌&&◌, ◌||◌, or-true, or-false}
 use mathlib.Core.List.{List, [], ◌++◌}
@@ -11,7 +11,7 @@ use lib.Seq.{length-take-le, get_or-take, get_or-drop}
 use borrow.Author.Tests.{lt-ltb, le-ltb, le-leb, lt-leb, ne_eqb, ltb-true}
 use Rattle.format.specs.Basics.Bytes.{Bytes}
 use Rattle.format.specs.Basics.Lists.{all_below, member}
-use Rattle.format.specs.Layout.Chain.{FREE, END, FATSECT, DIFSECT, is_free}
+use Rattle.format.specs.Layout.Chain.{FREE, END, FATSECT, DIFSECT}
 use Rattle.format.specs.Layout.Geometry.{Geometry, sector_count}
 use Rattle.format.specs.Layout.Space.{Space}
 use Rattle.format.specs.Layout.Tables.{fat_cell, fat_sectors, difat_sectors, sector_space}

@@ -1,5 +1,6 @@
 -- The answer on streams and owners, by what the walks and the test of all units said.
 use Prim.Native.Nat.{ℕ}
+use Rattle.std.specs.Prelude.{Ok, Err}
 use mathlib.Core.Path.{◌≡◌, refl, sym, ap, ◌∙◌, ap₂}
 use mathlib.Core.Bool.{Bool, true, false, not, ◌&&◌, ◌||◌, and-false}
 use mathlib.Core.List.{List, []}
@@ -16,21 +17,20 @@ use Rattle.tables.specs.Views.{volume_of}
 use Rattle.tables.specs.declared.Tables.{Tables}
 use Rattle.directory.specs.Listed.{entries_of}
 use Rattle.directory.specs.declared.Directory.{Directory as Where}
-use Rattle.system_chains.specs.System.{system_chains}
 use Rattle.owners.specs.Streams.{BothOwn, OnlySystem, all_covered, owners_answer}
-use Rattle.owners.specs.declared.rules.Owners.TheVariants.{Broken, Wrong, Right}
+use Rattle.kinds.specs.declared.Refusal.TheVariants.{Streams, Owners}
 use Rattle.owners.proofs.Groups.{sectors_owned, minis_owned}
 
 module _ (chains owners : Bool) where
-  pub says_broken : chains ≡ false → Broken ≡ owners_answer chains owners
+  pub says_broken : chains ≡ false → Err Streams ≡ owners_answer chains owners
   unfolding owners_answer
   says_broken h = sym (rw h)
 
-  pub says_wrong : chains ≡ true → owners ≡ false → Wrong ≡ owners_answer chains owners
+  pub says_wrong : chains ≡ true → owners ≡ false → Err Owners ≡ owners_answer chains owners
   unfolding owners_answer
   says_wrong h k = sym (rw (h, k))
 
-  pub says_right : chains ≡ true → owners ≡ true → Right ≡ owners_answer chains owners
+  pub says_right : chains ≡ true → owners ≡ true → Ok tt ≡ owners_answer chains owners
   unfolding owners_answer
   says_right h k = sym (rw (h, k))
 

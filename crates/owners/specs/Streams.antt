@@ -1,5 +1,5 @@
 -- The streams of both spaces: marking their chains, and the answer on owners.
-use Rattle.std.specs.Prelude.{ℕ, ◌+◌, ◌≤◌, ◌≡◌, Bool, true, false, not, cond, ◌&&◌, ◌||◌, List, [], ◌++◌}
+use Rattle.std.specs.Prelude.{ℕ, ◌+◌, ◌≤◌, ◌≡◌, Bool, true, false, not, cond, ◌&&◌, ◌||◌, Option, Result, Ok, Err, List, [], ◌++◌}
 use Rattle.format.specs.Basics.Bytes.{Bytes}
 use Rattle.format.specs.Basics.Lists.{all_below, join_below}
 use Rattle.format.specs.Layout.Space.{Space}
@@ -16,14 +16,13 @@ use Rattle.tables.specs.Work.{Wrote}
 use Rattle.tables.specs.Views.{volume_of, sector_count_of, cells_of, sectors_of}
 use Rattle.tables.specs.declared.Tables.{Tables}
 use Rattle.chains.specs.Answers.{is_broken, is_shared, Markable}
-use Rattle.chains.specs.declared.Marked.{Marked}
 use Rattle.directory.specs.Listed.{DirectoryListed}
 use Rattle.directory.specs.declared.Directory.{Directory}
 use Rattle.stream_chains.specs.Asked.{right_from, sectors_from, minis_from}
 use Rattle.minis.specs.declared.Minis.{Minis}
 use Rattle.system_chains.specs.System.{SectorsMarkable, SystemOwned}
-use Rattle.owners.specs.declared.rules.Owners.{Owners}
-use Rattle.owners.specs.declared.rules.Owners.TheVariants.{Broken, Wrong, Right}
+use Rattle.kinds.specs.declared.Refusal.{Refusal}
+use Rattle.kinds.specs.declared.Refusal.TheVariants.{Streams, Owners}
 
 -- ---- marking
 
@@ -56,19 +55,19 @@ pub record BothOwn (t : Tables) (img : Bytes) (sectors minis before after : List
   pub in_minis_lem : Owns (minis_in t img) (sector_count_of t img) minis small before after
 
 -- Chains of both kinds have been marked: `right` says whether all of them are chains, `sectors` and `minis` are their units.
-pub record BothMarked (t : Tables) (m : Minis) (d : Directory) (img : Bytes) (right : Bool) (sectors minis before after : List ℕ) (a : Marked) : Type 0 where
+pub record BothMarked (t : Tables) (m : Minis) (d : Directory) (img : Bytes) (right : Bool) (sectors minis before after : List ℕ) (a : Option Bool) : Type 0 where
   pub answer : is_broken a ≡ not right
   pub stands : right ≡ true → StreamsMarkable t m d img after
   pub owners : right ≡ true → BothOwn t img sectors minis before after (is_shared a)
   pub wrote : Wrote before after 0 (sector_count_of t img + (minis_in t img).limit)
 
 -- the chains of the streams among n entries from x on have been marked; and those of all entries
-abbrev pub BlockMarked : Tables → Minis → Directory → Bytes → (x n : ℕ) → List ℕ → List ℕ → Marked → Type 0
+abbrev pub BlockMarked : Tables → Minis → Directory → Bytes → (x n : ℕ) → List ℕ → List ℕ → Option Bool → Type 0
 BlockMarked t m d img x n before after a =
     let v = volume_of t.geometry img in
     BothMarked t m d img (all_below n (right_from v x)) (join_below n (sectors_from v x)) (join_below n (minis_from v x)) before after a
 
-abbrev pub StreamsMarked : Tables → Minis → Directory → Bytes → List ℕ → List ℕ → Marked → Type 0
+abbrev pub StreamsMarked : Tables → Minis → Directory → Bytes → List ℕ → List ℕ → Option Bool → Type 0
 StreamsMarked t m d img before after a =
     let v = volume_of t.geometry img in
     BothMarked t m d img (stream_rules v) (join_below v.directory.count (own_sectors v)) (owned_minis v) before after a
@@ -97,5 +96,5 @@ pub record OnlySystem (t : Tables) (img : Bytes) (work : List ℕ) (shared : Boo
   pub minis : Owning (minis_in t img).cell (minis_in t img).limit [] (marks_at (sector_count_of t img) work) false
 
 -- the answer: a stream's chain is wrong; or a unit has two owners, or none though its cell is not free; or neither
-unfoldable pub owners_answer : Bool → Bool → Owners
-owners_answer chains owners = cond chains (cond owners Right Wrong) Broken
+unfoldable pub owners_answer : Bool → Bool → Result Unit Refusal
+owners_answer chains owners = cond chains (cond owners (Ok tt) (Err Owners)) (Err Streams)

@@ -6,13 +6,11 @@ ghost use Rattle.directory.specs.Listed.{entries_of};
 ghost use Rattle.owners.specs.Streams.{StreamsMarkable, BlockMarked, StreamsMarked, CellsRight, all_covered};
 
 use cells::all_covered;
-use chains::Marked;
 use directory::Directory;
 use kinds::EntryId;
 use lanes::mark_lanes;
-use le::least;
 use minis::Minis;
-use stream_chains::{Lanes, gather, split};
+use stream_chains::{gather, split};
 use tables::Tables;
 
 pub mod rules;
@@ -26,7 +24,7 @@ fn mark_block(
     d: Directory,
     x: EntryId,
     end: usize,
-) -> Marked
+) -> Option<bool>
     requires streams_markable { StreamsMarkable t m d img.now work.old }
     requires x_le_end { (x.0 ≤ end) × (end ≤ (entries_of d img.now).count) × (end ≤ x.0 + 32) }
     ensures { BlockMarked t m d img.now x.0 (end - x.0) work.old work.new result }
@@ -38,37 +36,26 @@ fn mark_block(
     let mut sl = [0u32; 32];
     let mut lh = [0u32; 32];
     let mut ll = [0u32; 32];
-    let s = split(
+    let c = split(
         &starts, &sizes, k, t.geometry, t.sectors, &mut sh, &mut sl, &mut lh, &mut ll,
-    );
-    let Lanes::Ready(c) = s else {
-        return Marked::Broken;
-    };
-    let a = mark_lanes(work, t.sectors, m.units, &mut sh, &mut sl, c.small);
-    if a.is_broken() {
-        return Marked::Broken;
-    }
-    a.and_then(mark_lanes(work, 0, t.sectors, &mut lh, &mut ll, c.large))
+    )?;
+    let small = mark_lanes(work, t.sectors, m.units, &mut sh, &mut sl, c.small)?;
+    let large = mark_lanes(work, 0, t.sectors, &mut lh, &mut ll, c.large)?;
+    Some(small | large)
 }
 
-// Marks the chains of all streams, 32 entries at a time.
-pub fn mark_streams(img: &[u8], work: &mut [u32], t: Tables, m: Minis, d: Directory) -> Marked
+// Marks the chains of all streams, 32 entries at a time. Says whether a unit had a mark already; nothing where a stream has no chain.
+pub fn mark_streams(img: &[u8], work: &mut [u32], t: Tables, m: Minis, d: Directory) -> Option<bool>
     requires { StreamsMarkable t m d img.now work.old }
     ensures { StreamsMarked t m d img.now work.old work.new result }
 {
     let n = d.count();
-    let mut all = Marked::Fresh;
-    let mut x = EntryId::ROOT;
-    while x.index() < n {
-        let end = least(x.index() + 32, n);
-        let one = mark_block(img, work, t, m, d, x, end);
-        if one.is_broken() {
-            return Marked::Broken;
-        }
-        all = all.and_then(one);
-        x = EntryId(end as u32);
+    let mut shared = false;
+    for x in (0..n).step_by(32) {
+        let end = n.min(x + 32);
+        shared |= mark_block(img, work, t, m, d, EntryId(x as u32), end)?;
     }
-    all
+    Some(shared)
 }
 
 // Whether every unit has a mark, or a free cell, or is a sector of the tables' own.

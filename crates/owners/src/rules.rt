@@ -8,18 +8,12 @@ ghost use Rattle.owners.specs.Streams.{StreamsMarkable, CellsRight, OnlySystem, 
 
 use super::{mark_streams, units_covered};
 use directory::Directory;
+use kinds::Refusal;
 use minis::Minis;
 use tables::Tables;
 
-// A stream's chain is wrong; or a unit has two owners, or none though its cell is not free; or neither.
-#[derive(Clone, Copy)]
-pub enum Owners {
-    Broken,
-    Wrong,
-    Right,
-}
-
-// The system's chains are marked already; `shared` says whether two of these share a sector.
+// Refused where a stream's chain is wrong, or where a unit has two owners, or none though its cell is not free. The system's chains are marked
+// already; `shared` says whether two of these share a sector.
 pub fn owner_rules(
     img: &[u8],
     work: &mut [u32],
@@ -27,7 +21,7 @@ pub fn owner_rules(
     m: Minis,
     d: Directory,
     shared: bool,
-) -> Owners
+) -> Result<(), Refusal>
     requires streams_markable { StreamsMarkable t m d img.now work.old }
     requires cells_right { CellsRight t img.now }
     requires only_system { OnlySystem t img.now work.old shared }
@@ -36,13 +30,10 @@ pub fn owner_rules(
     ensures wrote { Wrote work.old work.new 0
         (sector_count_of t img.now + (minis_in t img.now).limit) }
 {
-    let a = mark_streams(img, work, t, m, d);
-    if a.is_broken() {
-        return Owners::Broken;
-    }
+    let also = mark_streams(img, work, t, m, d).ok_or(Refusal::Streams)?;
     let covered = units_covered(img, work, t, m, d);
-    if !(shared | a.is_shared()) & covered {
-        return Owners::Right;
+    if !(shared | also) & covered {
+        return Ok(());
     }
-    Owners::Wrong
+    Err(Refusal::Owners)
 }

@@ -4,6 +4,7 @@ use mathlib.Core.Path.{◌≡◌, refl, ap, ap₂, ◌∙◌}
 use mathlib.Core.Bool.{true}
 use mathlib.Core.List.{List, [], ◌∷◌, ◌++◌}
 use lib.ListN.{length, take}
+use Rattle.std.proofs.Common.{Result}
 use Rattle.format.specs.Basics.Lists.{all}
 use Rattle.format.specs.Basics.Bytes.{Bytes}
 use Rattle.format.specs.Layout.Entry.{is_stream}
@@ -17,7 +18,7 @@ use Rattle.format.specs.Calls.Cursor.{Cursor as Place}
 use Rattle.format.specs.Calls.CursorMoves.{cursor_call, cursor_after}
 use Rattle.format.specs.Claims.Cursor.{Lent, work_fits, room, rest_at, handed_at, handed_all, cursor_at_end, numbers_at}
 use Rattle.cursor_laws.proofs.Pieces.{cursor_reads}
-use Rattle.queries.specs.declared.read.Read.{Read}
+use Rattle.kinds.specs.declared.Refusal.{Refusal}
 use Rattle.queries.specs.Replies.{read_reply}
 use Rattle.paging.specs.declared.cursor.Cursor.{Cursor}
 use Rattle.paging.specs.Cursors.{cursor_of}
@@ -25,7 +26,7 @@ use Rattle.paging.specs.Cursors.{cursor_of}
 -- the buffers that a read is lent; what it gives, and what it leaves in the cursor and in the out buffer
 pub record Piece : Type 0 where
   pub lent : Lent
-  pub read : Read
+  pub read : Result ℕ Refusal
   pub cursor : Cursor
   pub out : Bytes
 

@@ -7,8 +7,7 @@ ghost use Rattle.queries.specs.Replies.{read_reply};
 ghost use Rattle.paging.specs.Cursors.{cursor_of};
 
 use cfb::read_at;
-use kinds::EntryId;
-use queries::read::Read;
+use kinds::{EntryId, Refusal};
 
 #[derive(Clone, Copy)]
 pub struct Cursor {
@@ -19,17 +18,17 @@ pub struct Cursor {
 // What a read at a cursor gives, and the cursor after it.
 #[derive(Clone, Copy)]
 pub struct Step {
-    pub read: Read,
+    pub read: Result<usize, Refusal>,
     pub cursor: Cursor,
 }
 
 // How many bytes a read handed over; a refusal hands over none.
-fn count(r: Read) -> u64
+fn count(r: Result<usize, Refusal>) -> u64
     ensures { result ≡ (read_reply r).count }
 {
     match r {
-        Read::Done(n) => n as u64,
-        Read::Refused(_) => 0,
+        Ok(n) => n as u64,
+        Err(_) => 0,
     }
 }
 
@@ -54,7 +53,12 @@ pub fn read_from(c: Cursor, image: &[u8], work: &mut [u32], out: &mut [u8]) -> S
 }
 
 // The same at a cursor that is lent and moved in place.
-pub fn read_next(c: &mut Cursor, image: &[u8], work: &mut [u32], out: &mut [u8]) -> Read
+pub fn read_next(
+    c: &mut Cursor,
+    image: &[u8],
+    work: &mut [u32],
+    out: &mut [u8],
+) -> Result<usize, Refusal>
     ensures result_value { read_reply result
         ≡ reply image.now (cursor_call (cursor_of c.old) out.old work.old) }
     ensures c_after { cursor_of c.new

@@ -8,8 +8,8 @@ ghost use Rattle.queries.specs.Replies.{find_reply, read_reply};
 ghost use Rattle.paging.specs.Cursors.{cursor_of};
 
 use super::cursor::{Cursor, read_next};
-use queries::find::Find;
-use queries::read::Read;
+use kinds::Refusal;
+use queries::find::Object;
 
 #[derive(Clone, Copy)]
 pub struct View<'a> {
@@ -24,7 +24,7 @@ pub fn open<'a>(image: &'a [u8]) -> View<'a>
 }
 
 // The entry that a path leads to.
-pub fn find<'a>(view: View<'a>, work: &mut [u32], path: &[u16]) -> Find
+pub fn find<'a>(view: View<'a>, work: &mut [u32], path: &[u16]) -> Result<Object, Refusal>
     ensures result_value { find_reply result ≡ reply view.entry.image.now (find_call path.now work.old) }
     ensures work_after { work.new ≡ work_after view.entry.image.now (find_call path.now work.old) }
 {
@@ -32,7 +32,13 @@ pub fn find<'a>(view: View<'a>, work: &mut [u32], path: &[u16]) -> Find
 }
 
 // Bytes of the stream that a path leads to, from an offset on.
-pub fn read<'a>(view: View<'a>, work: &mut [u32], path: &[u16], offset: u64, out: &mut [u8]) -> Read
+pub fn read<'a>(
+    view: View<'a>,
+    work: &mut [u32],
+    path: &[u16],
+    offset: u64,
+    out: &mut [u8],
+) -> Result<usize, Refusal>
     ensures result_value { read_reply result
         ≡ reply view.entry.image.now (read_call path.now offset out.old work.old) }
     ensures out_after { out.new
@@ -44,7 +50,12 @@ pub fn read<'a>(view: View<'a>, work: &mut [u32], path: &[u16], offset: u64, out
 }
 
 // The next bytes at a cursor, which moves on.
-pub fn read_on<'a>(view: View<'a>, c: &mut Cursor, work: &mut [u32], out: &mut [u8]) -> Read
+pub fn read_on<'a>(
+    view: View<'a>,
+    c: &mut Cursor,
+    work: &mut [u32],
+    out: &mut [u8],
+) -> Result<usize, Refusal>
     ensures result_value { read_reply result
         ≡ reply view.entry.image.now (cursor_call (cursor_of c.old) out.old work.old) }
     ensures c_after { cursor_of c.new

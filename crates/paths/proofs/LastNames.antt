@@ -5,7 +5,6 @@ use mathlib.Core.Logic.{◌≢◌, inl, inr}
 use mathlib.Core.List.{List, [], ◌∷◌, ◌++◌}
 use mathlib.Core.Bool.{Bool, true, false, cond}
 use native.Mathlib.Omega.{arith}
-use native.Mathlib.Decide.{ℕ_discrete}
 use borrow.Author.Tests.{eq-eqb, ne_eqb}
 use lib.Dec.{eqb}
 use lib.ListN.{length, get_or, take, drop, length-append}
@@ -106,31 +105,6 @@ after_parted (u ∷ us) i a w =
         let z : suc (i - 1) ≡ i = omega arith in
         let s = last_split (u ∷ us) (i - 1) (omega (arith, a.inside)) e (λ j b c. a.behind j (omega arith) c) in
         parted_by (u ∷ us) i a.inside (s ∙ rw (z, q)) w
-
--- ---- the search for the last slash, from the end on
-
-pub record NoSlash (p : Path) (i : ℕ) : Type 0 where
-  pub most : i ≤ length p
-  pub none : (j : ℕ) → i ≤ j → j < length p → get_or p j 0 ≢ slash
-
-pub slash_start : (p : Path) → NoSlash p (length p)
-slash_start p = record { most = omega arith; none = λ j a b. absurd (omega arith) }
-
-module _ {p : Path} {i : ℕ} (n : NoSlash p i) where
-  pub slash_found : get_or p (i - 1) 0 ≡ slash → AfterSlash p i
-  slash_found e = record { inside = n.most; behind = n.none; before = inr e }
-
-  pub slash_step : 0 < i → get_or p (i - 1) 0 ≢ slash → NoSlash p (i - 1)
-  slash_step h e = record {
-    most = omega (arith, n.most);
-    none = λ j a b. elim (ℕ_discrete j (i - 1)) [
-      | yes q ↦ rw q e
-      | no q ↦ n.none j (omega arith) b
-    ];
-  }
-
-  pub slash_none : i ≡ 0 → AfterSlash p 0
-  slash_none z = record { inside = omega arith; behind = λ j a b. n.none j (omega arith) b; before = inl refl }
 
 -- ---- the storage of the last name
 

@@ -1,12 +1,15 @@
 -- One name further from an entry, and a whole path name by name.
-use Prim.Native.Nat.{ℕ, ◌+◌, ◌≤◌, ◌<◌}
+use Prim.Native.Nat.{ℕ, ◌+◌, ◌<◌}
 use mathlib.Core.Path.{◌≡◌, refl, ap, sym, ◌∙◌}
 use mathlib.Core.Logic.{◌≢◌, inl, inr}
 use mathlib.Core.Bool.{Bool, true, false, cond, ◌&&◌, ◌||◌}
 use native.Mathlib.Omega.{arith}
 use borrow.Author.Tests.{eqb-true}
 use lib.Dec.{eqb}
-use lib.ListN.{length, drop}
+use lib.ListN.{length, get_or, drop, drop_of_length-le}
+use lib.Seq.{drop-cons}
+use mathlib.Core.List.{List}
+use native.Mathlib.Numerals.{add-one}
 use Rattle.format.specs.Basics.Bytes.{Bytes, part, all_zero}
 use Rattle.format.specs.Layout.Name.{Name, name_equal}
 use Rattle.format.specs.Layout.Entry.{NOSTREAM, name, left, right, child, is_blank, is_storage, is_stream}
@@ -14,7 +17,7 @@ use Rattle.format.specs.Layout.Directory.{Directory}
 use Rattle.format.specs.Layout.Tree.{Forest}
 use Rattle.format.specs.Rules.Entries.{blank_fields, storage_fields, stream_fields, common_fields, entry_fields, entry_right, entry_rules}
 use Rattle.format.specs.Rules.Trees.{sound, is_object, every_node, tree_rules}
-use Rattle.format.specs.Calls.Paths.{Path, well_formed}
+use Rattle.format.specs.Calls.Paths.{Path, split, well_formed}
 use Rattle.format.specs.Calls.Find.{Child, missing, present, or_else, child_named, Found, refused, found_child, enter, descend, resolve}
 use Rattle.theory.specs.TreeViews.{rows, left_of, right_of, child_of, at, sound_at}
 use Rattle.theory.specs.TreeFind.{Searchable, reached}
@@ -26,8 +29,7 @@ use Rattle.theory.proofs.Trees.Rules.{rules_apart}
 use Rattle.theory.proofs.Trees.Find.{searchable_root, searchable_object}
 use Rattle.theory.proofs.Trees.Paths.{resolve_formed, descend_refused}
 use Rattle.entry_rules.proofs.Fields.{fields_other}
-use Rattle.paths.specs.Found.{first_name}
-use Rattle.paths.proofs.Splits.{names_none, names_from, from_start, from_name, from_end}
+use Rattle.paths.proofs.Splits.{names_split, names_none}
 
 -- ---- below every entry a search may start
 
@@ -111,18 +113,18 @@ module _ (d : Directory) where
   unfolding descend
   way_none p w h = sym (resolve_formed d p w ∙ rw (names_none p h))
 
-  pub way_start : (p : Path) → well_formed p ≡ true → length p ≢ 0 → resolve d p ≡ descend d (reached d 0) (names_from p 0)
-  way_start p w h = resolve_formed d p w ∙ ap (descend d (reached d 0)) (from_start p h)
+  pub way_start : (p : Path) → well_formed p ≡ true → length p ≢ 0 → resolve d p ≡ descend d (reached d 0) (split p)
+  way_start p w h = resolve_formed d p w ∙ ap (descend d (reached d 0)) (names_split p h)
 
-  module _ (p : Path) (i x : ℕ) (e : resolve d p ≡ descend d (reached d x) (names_from p i)) where
-    pub way_on : i ≤ length p → (f : Found) → f ≡ enter d (reached d x) (first_name (drop i p))
-        → resolve d p ≡ descend d f (names_from p (i + (length (first_name (drop i p)) + 1)))
+  module _ (p : Path) (ns : List Name) (i x : ℕ) (e : resolve d p ≡ descend d (reached d x) (drop i ns)) where
+    module _ {n : Name} (h : i < length ns) (k : n ≡ get_or ns i n) where
+      pub way_on : (f : Found) → f ≡ enter d (reached d x) n → resolve d p ≡ descend d f (drop (i + 1) ns)
+      unfolding descend
+      way_on f z = e ∙ rw (drop-cons ns i n h, ← k, z, add-one)
+
+      pub way_refused : (a : ℕ) → refused a ≡ enter d (reached d x) n → refused a ≡ resolve d p
+      way_refused a z = sym (way_on (refused a) z ∙ descend_refused d a (drop (i + 1) ns))
+
+    pub way_end : i ≡ length ns → reached d x ≡ resolve d p
     unfolding descend
-    way_on h f z = e ∙ rw (from_name p i h, z)
-
-    pub way_refused : i ≤ length p → (a : ℕ) → refused a ≡ enter d (reached d x) (first_name (drop i p)) → refused a ≡ resolve d p
-    way_refused h a z = sym (way_on h (refused a) z ∙ descend_refused d a (names_from p (i + (length (first_name (drop i p)) + 1))))
-
-    pub way_end : length p < i → reached d x ≡ resolve d p
-    unfolding descend
-    way_end h = sym (e ∙ rw (from_end p i h))
+    way_end h = sym (e ∙ rw (drop_of_length-le ns {i = i} (omega arith)))

@@ -17,41 +17,40 @@ use Rattle.volume.specs.declared.Volume.{Volume}
 use Rattle.queries.specs.declared.find.Object.{Object}
 use Rattle.streams.specs.Found.{StreamFound}
 use Rattle.streams.specs.Listed.{OpenStream}
-use Rattle.streams.specs.declared.FoundStream.TheVariants.{At, Refused}
 use Rattle.pulse_laws.specs.Pulse.{is_pulse_stream}
 use Rattle.pulse_laws.specs.Calls.{contents_at, reader_answer, pulses_answer, summary_answer}
 use Rattle.pulse_records.specs.declared.Trailer.{Trailer}
 use Rattle.pulse.specs.Parsed.{trailer_for, parsed_as}
 use Rattle.pulse.specs.Found.{PulsesAt}
-use Rattle.pulse.specs.declared.stream.Parsed.TheVariants.{Pulses, Other}
+use Rattle.std.specs.Prelude.{Some, None, Ok, Err}
 use Rattle.pulse.proofs.WorkLengths.{summary_long}
 
 -- ---- what parsing says
 
-parsed_other : (s : Bytes) → Other ≡ parsed_as s → is_pulse_stream s ≡ false
+parsed_other : (s : Bytes) → None ≡ parsed_as s → is_pulse_stream s ≡ false
 unfolding parsed_as
 parsed_other s e = go (is_pulse_stream s) e
   where
-    go : (b : Bool) → Other ≡ cond b (Pulses (trailer_for s)) Other → b ≡ false
+    go : (b : Bool) → None ≡ cond b (Some (trailer_for s)) None → b ≡ false
     go true h = absurd (let z : ◌≡◌ {A = ℕ} 0 1 = cc in omega arith)
     go false h = refl
 
-parsed_pulses : (s : Bytes) (t : Trailer) → Pulses t ≡ parsed_as s → (is_pulse_stream s ≡ true) × (t ≡ trailer_for s)
+parsed_pulses : (s : Bytes) (t : Trailer) → Some t ≡ parsed_as s → (is_pulse_stream s ≡ true) × (t ≡ trailer_for s)
 unfolding parsed_as
 parsed_pulses s t e = go (is_pulse_stream s) e
   where
-    go : (b : Bool) → Pulses t ≡ cond b (Pulses (trailer_for s)) Other → (b ≡ true) × (t ≡ trailer_for s)
+    go : (b : Bool) → Some t ≡ cond b (Some (trailer_for s)) None → (b ≡ true) × (t ≡ trailer_for s)
     go true h = (refl, cc)
     go false h = absurd (let z : ◌≡◌ {A = ℕ} 0 1 = cc in omega arith)
 
 -- ---- the stream at a path
 
 module _ (img : Bytes) (path : Path) (w : List ℕ) where
-  pub find_refused : (a : Refusal) → StreamFound img path w (Refused a) → summary_answer img path w ≡ refusal_number a
+  pub find_refused : (a : Refusal) → StreamFound img path w (Err a) → summary_answer img path w ≡ refusal_number a
   unfolding summary_answer reader_answer
   find_refused a h = rw h (first_refused a _)
 
-  module _ (e : Object) (f : StreamFound img path w (At e)) where
+  module _ (e : Object) (f : StreamFound img path w (Ok e)) where
     abbrev s : Bytes
     s = contents (own_volume img) img e.id.0
 
@@ -63,11 +62,11 @@ module _ (img : Bytes) (path : Path) (w : List ℕ) where
     unfolding summary_answer reader_answer pulses_answer first_of
     parsed_as_lem b h = let k : is_pulse_stream (contents_at img path) ≡ b = ap is_pulse_stream (sym same_bytes) ∙ h in rw (f.0, k)
 
-    pub found_other : Other ≡ parsed_as s → summary_answer img path w ≡ 40
+    pub found_other : None ≡ parsed_as s → summary_answer img path w ≡ 40
     found_other h = parsed_as_lem false (parsed_other s h)
 
     -- its units are listed in the work buffer by now
-    pub found_pulses : {v : Volume} {w₁ : List ℕ} (t : Trailer) → length w₁ ≡ length w → OpenStream v img w₁ e → Pulses t ≡ parsed_as s
+    pub found_pulses : {v : Volume} {w₁ : List ℕ} (t : Trailer) → length w₁ ≡ length w → OpenStream v img w₁ e → Some t ≡ parsed_as s
         → PulsesAt v img path w₁ (record { object = e; trailer = t })
     found_pulses {w₁ = w₁} t n l h =
         let q = parsed_pulses s t h in

@@ -21,7 +21,7 @@ use Rattle.tables.specs.Work.{Wrote}
 use Rattle.tables.proofs.WorkLaws.{wrote_two}
 use Rattle.volume.specs.Opened.{work_left}
 use Rattle.volume.specs.declared.Volume.{Volume}
-use Rattle.volume.specs.declared.Opened.TheVariants.{Refused, Ready}
+use Rattle.std.specs.Prelude.{Ok, Err}
 use Rattle.volume.proofs.Opening.{left_cleared}
 use Rattle.opened.specs.OpenVolume.{OpenVolume}
 use Rattle.opened.specs.Opening.{OpeningRight}
@@ -38,7 +38,7 @@ left_is img n w = refl
 
 -- ---- what validation refuses is refused
 
-module _ (img : Bytes) (w w₁ : List ℕ) (a : Refusal) (o : OpeningRight img w w₁ (Refused a)) where
+module _ (img : Bytes) (w w₁ : List ℕ) (a : Refusal) (o : OpeningRight img w w₁ (Err a)) where
   pub summary_number : (path : Path) → summary_answer img path w ≡ refusal_number a
   unfolding summary_answer reader_answer answer work_of
   summary_number path = rw (sym o.0, first_refused a) (first_refused a _)
@@ -70,7 +70,7 @@ module _ {v : Volume} {img : Bytes} {w : List ℕ} (s : OpenVolume v img w) (pat
       (late_call (set_length path (longer (contents_at img path)) w) refl))
 
 -- so closing leaves the work buffer as the answer says
-module _ {v : Volume} {img : Bytes} {w w₁ : List ℕ} (o : OpeningRight img w w₁ (Ready v)) where
+module _ {v : Volume} {img : Bytes} {w w₁ : List ℕ} (o : OpeningRight img w w₁ (Ok v)) where
   pub opened_long : length w₁ ≡ length w
   opened_long = o.1.1.long
 

@@ -11,9 +11,9 @@ use Rattle.format.specs.Basics.Lists.{all_below, list_below, sum}
 use Rattle.pulse_laws.specs.Pulse.{distance_for, distance, count, total, record_place, zero_at, ticks_at, record_right, ticks_below, is_pulse_stream}
 use Rattle.pulse_records.specs.Records.{pulse_in, right_at, right_from, ticks_from, sum_from, trailer_in}
 use Rattle.pulse_records.specs.declared.TotalTicks.{TotalTicks}
-use Rattle.pulse_records.specs.declared.sums.Sum.TheVariants.{Ticks, Wrong}
+use Rattle.pulse_records.specs.declared.Trailer.{Trailer}
+use Rattle.std.specs.Prelude.{Some, None}
 use Rattle.pulse.specs.Parsed.{trailer_for, parsed_as}
-use Rattle.pulse.specs.declared.stream.Parsed.TheVariants.{Pulses, Other}
 use Rattle.pulse.proofs.Pieces.{u16_piece, u32_piece, u64_piece, sum_says, wrong_says}
 
 pub pulse_read : (s : Bytes) (at : ℕ) → pulse_in (part s at 8) 0 ≡ pulse_in s at
@@ -34,21 +34,21 @@ trailer_read s h =
 -- ---- what it is
 
 -- the trailer agrees with itself and with the length
-abbrev pub agrees : Bytes → Bool
+abbrev agrees : Bytes → Bool
 agrees s = eqb (distance s) (distance_for (count s)) && leb (distance s) (length s)
 
-abbrev pub first_record : Bytes → ℕ
+abbrev first_record : Bytes → ℕ
 first_record s = length s - distance s
 
 module _ (s : Bytes) where
-  pub short_other : length s < 16 → Other ≡ parsed_as s
+  pub short_none : length s < 16 → None ≡ parsed_as s
   unfolding parsed_as is_pulse_stream
-  short_other h = rw (lt-leb 16 (length s) h)
+  short_none h = rw (lt-leb 16 (length s) h)
 
   module _ (h : 16 ≤ length s) where
-    pub unlike_other : agrees s ≡ false → Other ≡ parsed_as s
+    unlike : agrees s ≡ false → None ≡ parsed_as s
     unfolding parsed_as is_pulse_stream
-    unlike_other a = rw (le-leb 16 (length s) h, a)
+    unlike a = rw (le-leb 16 (length s) h, a)
 
     module _ (a : agrees s ≡ true) where
       right_are : all_below (count s) (right_from s (first_record s)) ≡ all_below (count s) (record_right s)
@@ -59,13 +59,32 @@ module _ (s : Bytes) where
       unfolding ticks_from ticks_below ticks_at record_place
       ticks_are = refl
 
-      pub wrong_other : Wrong ≡ sum_from s (first_record s) (count s) 0 → Other ≡ parsed_as s
+      wrong : None ≡ sum_from s (first_record s) (count s) 0 → None ≡ parsed_as s
       unfolding parsed_as is_pulse_stream
-      wrong_other e = rw (le-leb 16 (length s) h, a, sym right_are ∙ wrong_says s (first_record s) (count s) 0 e)
+      wrong e = rw (le-leb 16 (length s) h, a, sym right_are ∙ wrong_says s (first_record s) (count s) 0 e)
 
-      pub summed_parsed : (t : TotalTicks) → Ticks t ≡ sum_from s (first_record s) (count s) 0 → cond (eqb (total s) t.0) (Pulses (trailer_for s)) Other ≡ parsed_as s
+      summed : (t : TotalTicks) → Some t ≡ sum_from s (first_record s) (count s) 0 → cond (eqb (total s) t.0) (Some (trailer_for s)) None ≡ parsed_as s
       unfolding parsed_as is_pulse_stream
-      summed_parsed t e =
+      summed t e =
           let q = sum_says s (first_record s) (count s) 0 t e in
           let m : t.0 ≡ ticks_below s (count s) = omega (arith, q.1, ticks_are) in
           rw (le-leb 16 (length s) h, a, sym right_are ∙ q.0, m)
+
+-- the same of the trailer and the size that are at hand
+module _ (s : Bytes) {t : Trailer} {n : ℕ} (e : t ≡ trailer_for s) (l : length s ≡ n) (h : 16 ≤ n) where
+  pub unlike_none : eqb t.distance (distance_for t.count.0) && leb t.distance n ≡ false → None ≡ parsed_as s
+  unfolding trailer_for
+  unlike_none a = unlike s (omega arith) (rw (e, ← l) at a)
+
+  module _ (a : eqb t.distance (distance_for t.count.0) && leb t.distance n ≡ true) where
+    right : agrees s ≡ true
+    unfolding trailer_for
+    right = rw (e, ← l) at a
+
+    pub wrong_none : None ≡ sum_from s (n - t.distance) t.count.0 0 → None ≡ parsed_as s
+    unfolding trailer_for
+    wrong_none w = wrong s (omega arith) right (rw (e, ← l) at w)
+
+    pub summed_parsed : (u : TotalTicks) → Some u ≡ sum_from s (n - t.distance) t.count.0 0 → cond (eqb t.total.0 u.0) (Some t) None ≡ parsed_as s
+    unfolding trailer_for
+    summed_parsed u w = rw e (summed s (omega arith) right u (rw (e, ← l) at w))

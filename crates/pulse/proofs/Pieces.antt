@@ -11,7 +11,7 @@ use Rattle.theory.proofs.ByteTests.{part_part}
 use Rattle.theory.proofs.Tests.{clash, false_of, both, below_at, below_of, below_ext}
 use Rattle.pulse_records.specs.Records.{right_at, right_from, ticks_from, sum_from}
 use Rattle.pulse_records.specs.declared.TotalTicks.{TotalTicks}
-use Rattle.pulse_records.specs.declared.sums.Sum.TheVariants.{Ticks, Wrong}
+use Rattle.std.specs.Prelude.{Option, Some, None}
 use Rattle.pulse_records.proofs.Summing.{sum_next, sum_most, Summing, summing_next}
 
 -- ---- a piece is read by itself
@@ -49,7 +49,7 @@ module _ (s : Bytes) (at n : ℕ) where
   pub sum_piece : (before : ℕ) → sum_from piece 0 n before ≡ sum_from s at n before
   unfolding sum_from
   sum_piece before =
-      ap₂ (λ (t : Bool) (m : ℕ). cond t (Ticks (record { 0 = before + m })) Wrong) (below_ext n (right_from s at) (right_from piece 0) right_piece)
+      ap₂ (λ (t : Bool) (m : ℕ). cond {A = Option TotalTicks} t (Some (record { 0 = before + m })) None) (below_ext n (right_from s at) (right_from piece 0) right_piece)
       (ap sum (list_below_ext n (ticks_from s at) (ticks_from piece 0) ticks_piece))
 
 -- ---- the sum of a piece is added to that of the records before it
@@ -64,7 +64,7 @@ module _ (s : Bytes) (first k : ℕ) where
   ticks_behind j = let e : first + 8 * k + 8 * j + 4 ≡ first + 8 * (k + j) + 4 = omega arith in ap (u32at s) e
 
 -- what a sum says
-pub sum_says : (s : Bytes) (at n before : ℕ) (t : TotalTicks) → Ticks t ≡ sum_from s at n before
+pub sum_says : (s : Bytes) (at n before : ℕ) (t : TotalTicks) → Some t ≡ sum_from s at n before
     → (all_below n (right_from s at) ≡ true) × (t.0 ≡ before + sum (list_below n (ticks_from s at)))
 unfolding sum_from
 sum_says s at n before t e = go (all_below n (right_from s at)) e
@@ -72,15 +72,15 @@ sum_says s at n before t e = go (all_below n (right_from s at)) e
     m : ℕ
     m = before + sum (list_below n (ticks_from s at))
 
-    go : (b : Bool) → Ticks t ≡ cond b (Ticks (record { 0 = m })) Wrong → (b ≡ true) × (t.0 ≡ m)
+    go : (b : Bool) → ◌≡◌ {A = Option TotalTicks} (Some t) (cond b (Some (record { 0 = m })) None) → (b ≡ true) × (t.0 ≡ m)
     go true h = (refl, let q : t ≡ record { 0 = m } = cc in ap (λ x. x.0) q)
     go false h = absurd (let z : ◌≡◌ {A = ℕ} 0 1 = cc in omega arith)
 
-pub wrong_says : (s : Bytes) (at n before : ℕ) → Wrong ≡ sum_from s at n before → all_below n (right_from s at) ≡ false
+pub wrong_says : (s : Bytes) (at n before : ℕ) → None ≡ sum_from s at n before → all_below n (right_from s at) ≡ false
 unfolding sum_from
 wrong_says s at n before e = go (all_below n (right_from s at)) e
   where
-    go : (b : Bool) → Wrong ≡ cond b (Ticks (record { 0 = before + sum (list_below n (ticks_from s at)) })) Wrong → b ≡ false
+    go : (b : Bool) → ◌≡◌ {A = Option TotalTicks} None (cond b (Some (record { 0 = before + sum (list_below n (ticks_from s at)) })) None) → b ≡ false
     go true h = absurd (let z : ◌≡◌ {A = ℕ} 0 1 = cc in omega arith)
     go false h = refl
 
@@ -102,10 +102,10 @@ module _ {s : Bytes} {first count before k total : ℕ} (u : Summing s first cou
       let b : total + sum (list_below (suc n) (ticks_from s (first + 8 * k))) ≡ total + m + ticks_from s first (k + n) = omega (arith, sum_next s (first + 8 * k) n, ticks_behind s first k n) in
       rw (a, b) q
 
-  pub summing_piece : (n : ℕ) (t : TotalTicks) → k + n ≤ count → Ticks t ≡ sum_from s (first + 8 * k) n total → Summing s first count before (k + n) t.0
+  pub summing_piece : (n : ℕ) (t : TotalTicks) → k + n ≤ count → Some t ≡ sum_from s (first + 8 * k) n total → Summing s first count before (k + n) t.0
   summing_piece n t h e = let a = sum_says s (first + 8 * k) n total t e in rw a.1 (behind n h a.0)
 
-  pub piece_wrong : (n : ℕ) → k + n ≤ count → Wrong ≡ sum_from s (first + 8 * k) n total → Wrong ≡ sum_from s first count before
+  pub piece_wrong : (n : ℕ) → k + n ≤ count → None ≡ sum_from s (first + 8 * k) n total → None ≡ sum_from s first count before
   unfolding sum_from
   piece_wrong n h e =
       let f = false_of (all_below count (right_from s first))

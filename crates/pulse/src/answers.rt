@@ -1,9 +1,10 @@
 // What the calls on pulse streams answer.
 ghost use Rattle.std.specs.Prelude.{◌≡◌};
 ghost use Rattle.pulse.specs.Replies.{pulse_number};
+ghost use Rattle.pulse.specs.declared.answers.PulseRefusal.TheVariants.{File};
 
-use kinds::{Refusal, refusal_number};
-use pulse_records::{Pulse, Records, TotalTicks};
+use kinds::Refusal;
+use pulse_records::{Records, TotalTicks};
 
 // Why a call is refused: as any call on the file; no pulse stream; no ticks to add; no record of that number.
 #[derive(Clone, Copy)]
@@ -14,15 +15,24 @@ pub enum PulseRefusal {
     NoRecord,
 }
 
-// The paper's number of a refusal.
-pub fn pulse_number(a: PulseRefusal) -> u32
-    ensures { result ≡ pulse_number a }
-{
-    match a {
-        PulseRefusal::File(b) => refusal_number(b),
-        PulseRefusal::NotPulses => 40,
-        PulseRefusal::NoTicks => 41,
-        PulseRefusal::NoRecord => 42,
+impl From<Refusal> for PulseRefusal {
+    ghost from_gives = { λ a r. r ≡ File a };
+
+    fn from(a: Refusal) -> PulseRefusal {
+        PulseRefusal::File(a)
+    }
+}
+
+impl From<PulseRefusal> for u32 {
+    ghost from_gives = { λ a r. r ≡ pulse_number a };
+
+    fn from(a: PulseRefusal) -> u32 {
+        match a {
+            PulseRefusal::File(b) => u32::from(b),
+            PulseRefusal::NotPulses => 40,
+            PulseRefusal::NoTicks => 41,
+            PulseRefusal::NoRecord => 42,
+        }
     }
 }
 
@@ -31,22 +41,4 @@ pub fn pulse_number(a: PulseRefusal) -> u32
 pub struct Totals {
     pub count: Records,
     pub total: TotalTicks,
-}
-
-#[derive(Clone, Copy)]
-pub enum Summary {
-    Done(Totals),
-    Refused(PulseRefusal),
-}
-
-#[derive(Clone, Copy)]
-pub enum Record {
-    Done(Pulse),
-    Refused(PulseRefusal),
-}
-
-#[derive(Clone, Copy)]
-pub enum Added {
-    Done,
-    Refused(PulseRefusal),
 }

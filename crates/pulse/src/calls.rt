@@ -8,14 +8,13 @@ ghost use Rattle.pulse_records.specs.Records.{pulse_of};
 ghost use Rattle.pulse.specs.Found.{PulsesAt, PulsesFound};
 ghost use Rattle.pulse.specs.Replies.{summary_reply_of, record_reply_of, added_reply_of};
 
-use super::answers::{Added, PulseRefusal, Record, Summary, Totals};
-use super::stream::{Parsed, parse, read_pulse};
-use kinds::Answer;
+use super::answers::{PulseRefusal, Totals};
+use super::stream::{parse, read_pulse};
 use opened::{overwrite_opened, set_length_opened};
 use pulse_records::trailers::put_tail;
 use pulse_records::{Pulse, Records, Trailer};
 use queries::find::Object;
-use streams::{FoundStream, find_stream, open_stream};
+use streams::{find_stream, open_stream};
 use volume::Volume;
 
 // ---- finding
@@ -27,73 +26,66 @@ pub struct PulseStream {
     pub trailer: Trailer,
 }
 
-#[derive(Clone, Copy)]
-pub enum FoundPulses {
-    At(PulseStream),
-    Refused(PulseRefusal),
-}
-
 // The pulse stream that a path leads to. Its units are listed then.
-fn find_pulses(image: &[u8], work: &mut [u32], v: Volume, path: &[u16]) -> FoundPulses
+fn find_pulses(
+    image: &[u8],
+    work: &mut [u32],
+    v: Volume,
+    path: &[u16],
+) -> Result<PulseStream, PulseRefusal>
     requires { OpenVolume v image.now work.old }
     ensures pulses_found { PulsesFound v image.now path.now work.old work.new result }
     ensures open_volume { OpenVolume v image.now work.new }
     ensures wrote { Wrote work.old work.new 0 (work_need (length image.now)) }
 {
-    match find_stream(image, work, v, path) {
-        FoundStream::Refused(a) => FoundPulses::Refused(PulseRefusal::File(a)),
-        FoundStream::At(e) => {
-            open_stream(image, work, v, e);
-            match parse(image, work, v, e) {
-                Parsed::Other => FoundPulses::Refused(PulseRefusal::NotPulses),
-                Parsed::Pulses(t) => FoundPulses::At(PulseStream {
-                    object: e,
-                    trailer: t,
-                }),
-            }
-        }
-    }
+    let object = find_stream(image, work, v, path)?;
+    open_stream(image, work, v, object);
+    let trailer = parse(image, work, v, object).ok_or(PulseRefusal::NotPulses)?;
+    Ok(PulseStream { object, trailer })
 }
 
 // ---- reading
 
 // How many records the pulse stream at a path has, and how many ticks.
-pub fn summary_in(image: &[u8], work: &mut [u32], v: Volume, path: &[u16]) -> Summary
+pub fn summary_in(
+    image: &[u8],
+    work: &mut [u32],
+    v: Volume,
+    path: &[u16],
+) -> Result<Totals, PulseRefusal>
     requires { OpenVolume v image.now work.old }
     ensures result_value { summary_reply_of result ≡ summary_reply image.now path.now work.old }
     ensures open_volume { OpenVolume v image.now work.new }
     ensures wrote { Wrote work.old work.new 0 (work_need (length image.now)) }
 {
-    match find_pulses(image, work, v, path) {
-        FoundPulses::Refused(a) => Summary::Refused(a),
-        FoundPulses::At(s) => {
-            let t = s.trailer;
-            let count = t.count;
-            let total = t.total;
-            Summary::Done(Totals { count, total })
-        }
-    }
+    let t = find_pulses(image, work, v, path)?.trailer;
+    Ok(Totals {
+        count: t.count,
+        total: t.total,
+    })
 }
 
 // The pulse of the record of a number.
-pub fn record_in(image: &[u8], work: &mut [u32], v: Volume, path: &[u16], number: Records) -> Record
+pub fn record_in(
+    image: &[u8],
+    work: &mut [u32],
+    v: Volume,
+    path: &[u16],
+    number: Records,
+) -> Result<Pulse, PulseRefusal>
     requires { OpenVolume v image.now work.old }
     ensures result_value { record_reply_of result ≡ record_reply image.now path.now number.0 work.old }
     ensures open_volume { OpenVolume v image.now work.new }
     ensures wrote { Wrote work.old work.new 0 (work_need (length image.now)) }
 {
-    match find_pulses(image, work, v, path) {
-        FoundPulses::Refused(a) => Record::Refused(a),
-        FoundPulses::At(s) => {
-            let e = s.object;
-            let t = s.trailer;
-            if !number.below(t.count) {
-                return Record::Refused(PulseRefusal::NoRecord);
-            }
-            let first = (e.size - t.distance as u64) as usize;
-            Record::Done(read_pulse(image, work, v, e, first + number.bytes()))
-        }
+    let s = find_pulses(image, work, v, path)?;
+    let e = s.object;
+    let t = s.trailer;
+    if !number.below(t.count) {
+        return Err(PulseRefusal::NoRecord);
     }
+    let first = (e.size - t.distance as u64) as usize;
+    Ok(read_pulse(image, work, v, e, first + number.bytes()))
 }
 
 // ---- adding
@@ -106,7 +98,7 @@ fn append(
     path: &[u16],
     s: PulseStream,
     p: Pulse,
-) -> Added
+) -> Result<(), PulseRefusal>
     requires pulses_at { PulsesAt v image.old path.now work.old s }
     requires le_ticks { 1 ≤ p.ticks.0 }
     ensures result_value { added_reply_of result ≡ add_reply image.old path.now (pulse_of p) work.old }
@@ -116,10 +108,7 @@ fn append(
 {
     let e = s.object;
     let t = s.trailer;
-    match set_length_opened(image, work, v, path, e.size + 8) {
-        Answer::Refused(a) => return Added::Refused(PulseRefusal::File(a)),
-        Answer::Done => {}
-    }
+    set_length_opened(image, work, v, path, e.size + 8)?;
     let mut tail = [0u8; 24];
     put_tail(
         &mut tail,
@@ -127,25 +116,28 @@ fn append(
         t.count.plus(Records::ONE),
         t.total.plus(p.ticks),
     );
-    overwrite_opened(image, work, v, path, e.size - 16, &tail);
-    Added::Done
+    // The bytes end where the stream does now, so this is not refused.
+    let _ = overwrite_opened(image, work, v, path, e.size - 16, &tail);
+    Ok(())
 }
 
 // Adds a pulse to the pulse stream at a path.
-pub fn add_in(image: &mut [u8], work: &mut [u32], v: Volume, path: &[u16], p: Pulse) -> Added
+pub fn add_in(
+    image: &mut [u8],
+    work: &mut [u32],
+    v: Volume,
+    path: &[u16],
+    p: Pulse,
+) -> Result<(), PulseRefusal>
     requires { OpenVolume v image.old work.old }
     ensures result_value { added_reply_of result ≡ add_reply image.old path.now (pulse_of p) work.old }
     ensures image_after { image.new ≡ image_added image.old path.now (pulse_of p) work.old }
     ensures open_volume { OpenVolume v image.new work.new }
     ensures wrote { Wrote work.old work.new 0 (work_need (length image.old)) }
 {
-    match find_pulses(image, work, v, path) {
-        FoundPulses::Refused(a) => Added::Refused(a),
-        FoundPulses::At(s) => {
-            if !p.ticks.some() {
-                return Added::Refused(PulseRefusal::NoTicks);
-            }
-            append(image, work, v, path, s, p)
-        }
+    let s = find_pulses(image, work, v, path)?;
+    if !p.ticks.some() {
+        return Err(PulseRefusal::NoTicks);
     }
+    append(image, work, v, path, s, p)
 }

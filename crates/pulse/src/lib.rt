@@ -10,58 +10,56 @@ pub mod answers;
 pub mod calls;
 pub mod stream;
 
-use answers::{Added, PulseRefusal, Record, Summary};
+use answers::{PulseRefusal, Totals};
 use calls::{add_in, record_in, summary_in};
 use opened::{close, open_image};
 use pulse_records::{Pulse, Records, Ticks, Valve};
-use volume::Opened;
 
 // How many records the pulse stream at a path has, and how many ticks.
-pub fn summary(image: &[u8], work: &mut [u32], path: &[u16]) -> Summary
+pub fn summary(image: &[u8], work: &mut [u32], path: &[u16]) -> Result<Totals, PulseRefusal>
     ensures result_value { summary_reply_of result ≡ summary_reply image.now path.now work.old }
     ensures work_after { work.new
         ≡ work_after_pulse image.now (summary_answer image.now path.now work.old) work.old }
 {
-    match open_image(image, work) {
-        Opened::Refused(a) => Summary::Refused(PulseRefusal::File(a)),
-        Opened::Ready(v) => {
-            let r = summary_in(image, work, v, path);
-            close(image, work, v);
-            r
-        }
-    }
+    let v = open_image(image, work)?;
+    let r = summary_in(image, work, v, path);
+    close(image, work, v);
+    r
 }
 
 // The pulse of the record of a number, the first being 0.
-pub fn record(image: &[u8], work: &mut [u32], path: &[u16], number: Records) -> Record
+pub fn record(
+    image: &[u8],
+    work: &mut [u32],
+    path: &[u16],
+    number: Records,
+) -> Result<Pulse, PulseRefusal>
     ensures result_value { record_reply_of result ≡ record_reply image.now path.now number.0 work.old }
     ensures work_after { work.new
         ≡ work_after_pulse image.now (record_answer image.now path.now number.0 work.old) work.old }
 {
-    match open_image(image, work) {
-        Opened::Refused(a) => Record::Refused(PulseRefusal::File(a)),
-        Opened::Ready(v) => {
-            let r = record_in(image, work, v, path, number);
-            close(image, work, v);
-            r
-        }
-    }
+    let v = open_image(image, work)?;
+    let r = record_in(image, work, v, path, number);
+    close(image, work, v);
+    r
 }
 
 // Adds a pulse to the pulse stream at a path: a record behind the others, and its ticks to the total.
-pub fn add(image: &mut [u8], work: &mut [u32], path: &[u16], valve: Valve, ticks: Ticks) -> Added
+pub fn add(
+    image: &mut [u8],
+    work: &mut [u32],
+    path: &[u16],
+    valve: Valve,
+    ticks: Ticks,
+) -> Result<(), PulseRefusal>
     ensures result_value { added_reply_of result ≡ add_reply image.old path.now (pulse_for valve ticks) work.old }
     ensures image_after { image.new ≡ image_added image.old path.now (pulse_for valve ticks) work.old }
     ensures work_after { work.new
         ≡ work_after_pulse image.old (add_answer image.old path.now (pulse_for valve ticks) work.old)
         work.old }
 {
-    match open_image(image, work) {
-        Opened::Refused(a) => Added::Refused(PulseRefusal::File(a)),
-        Opened::Ready(v) => {
-            let r = add_in(image, work, v, path, Pulse { valve, ticks });
-            close(image, work, v);
-            r
-        }
-    }
+    let v = open_image(image, work)?;
+    let r = add_in(image, work, v, path, Pulse { valve, ticks });
+    close(image, work, v);
+    r
 }

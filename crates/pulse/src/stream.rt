@@ -6,7 +6,7 @@ ghost use Rattle.streams.specs.Listed.{OpenStream};
 ghost use Rattle.pulse_records.specs.Records.{pulse_in, sum_from};
 ghost use Rattle.pulse.specs.Parsed.{trailer_for, parsed_as};
 
-use pulse_records::sums::{Sum, add_records, pulse_at};
+use pulse_records::sums::{add_records, pulse_at};
 use pulse_records::trailers::trailer_at;
 use pulse_records::{Pulse, Records, TotalTicks, Trailer};
 use queries::find::Object;
@@ -15,7 +15,7 @@ use volume::Volume;
 
 // ---- records
 
-// The records that are read at once, and the bytes that they take.
+// The records that are read at once, as many as `add_all` steps by, and the bytes that they take.
 const PIECE: Records = Records(64);
 
 const PIECE_BYTES: usize = 512;
@@ -30,7 +30,7 @@ fn add_piece(
     n: Records,
     before: TotalTicks,
     piece: &mut [u8],
-) -> Sum
+) -> Option<TotalTicks>
     requires open_stream { OpenStream v image.now work.now e }
     requires n_bound { (at + 8 * n.0 ≤ e.size) × (8 * n.0 ≤ length piece.old) }
     requires n_bound_2 { before.0 + n.0 * 0x1_0000_0000 < 0x1_0000_0000_0000_0000 }
@@ -50,23 +50,18 @@ fn add_all(
     first: usize,
     count: Records,
     piece: &mut [u8],
-) -> Sum
+) -> Option<TotalTicks>
     requires open_stream { OpenStream v image.now work.now e }
     requires count_bound { (first + 8 * count.0 ≤ e.size) × (512 ≤ length piece.old) }
     ensures { result ≡ sum_from (contents (own_volume image.now) image.now e.id.0) first count.0 0 }
 {
     let mut total = TotalTicks::NONE;
-    let mut k = Records::NONE;
-    while k.below(count) {
+    for start in (0..count.0).step_by(64) {
+        let k = Records(start);
         let n = count.from(k, PIECE);
-        let sum = add_piece(image, work, v, e, first + k.bytes(), n, total, piece);
-        let Sum::Ticks(t) = sum else {
-            return Sum::Wrong;
-        };
-        total = t;
-        k = k.plus(n);
+        total = add_piece(image, work, v, e, first + k.bytes(), n, total, piece)?;
     }
-    Sum::Ticks(total)
+    Some(total)
 }
 
 // The pulse of the record at a place.
@@ -94,33 +89,24 @@ fn read_trailer(image: &[u8], work: &[u32], v: Volume, e: Object) -> Trailer
     trailer_at(&bytes)
 }
 
-// What a stream is: a pulse stream with this trailer, or another.
-#[derive(Clone, Copy)]
-pub enum Parsed {
-    Pulses(Trailer),
-    Other,
-}
-
-// Parses a stream: room for a trailer; the trailer agrees with itself, the length and the records; each record is right.
-pub fn parse(image: &[u8], work: &[u32], v: Volume, e: Object) -> Parsed
+// The trailer of a pulse stream: there is room for one; it agrees with itself, the length and the records; each record is right. Nothing where the
+// stream is another.
+pub fn parse(image: &[u8], work: &[u32], v: Volume, e: Object) -> Option<Trailer>
     requires { OpenStream v image.now work.now e }
     ensures { result ≡ parsed_as (contents (own_volume image.now) image.now e.id.0) }
 {
     if e.size < 16 {
-        return Parsed::Other;
+        return None;
     }
     let t = read_trailer(image, work, v, e);
     if !t.agrees(e.size) {
-        return Parsed::Other;
+        return None;
     }
     let first = (e.size - t.distance as u64) as usize;
     let mut piece = [0u8; PIECE_BYTES];
-    let sum = add_all(image, work, v, e, first, t.count, &mut piece);
-    let Sum::Ticks(total) = sum else {
-        return Parsed::Other;
-    };
-    if !t.total.equals(total) {
-        return Parsed::Other;
+    let total = add_all(image, work, v, e, first, t.count, &mut piece)?;
+    if t.total != total {
+        return None;
     }
-    Parsed::Pulses(t)
+    Some(t)
 }

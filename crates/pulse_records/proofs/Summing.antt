@@ -10,7 +10,7 @@ use Rattle.theory.proofs.Tests.{clash, false_of, and_true_of, below_at}
 use Rattle.theory.proofs.Bytes.{u32_lt}
 use Rattle.pulse_laws.proofs.PulseStreams.{sum_snoc}
 use Rattle.pulse_records.specs.Records.{pulse_in, right_at, right_from, ticks_from, sum_from}
-use Rattle.pulse_records.specs.declared.sums.Sum.TheVariants.{Ticks, Wrong}
+use Rattle.std.specs.Prelude.{Some, None}
 
 module _ (b : Bytes) (first : ℕ) where
   pub sum_next : (k : ℕ) → sum (list_below (suc k) (ticks_from b first)) ≡ sum (list_below k (ticks_from b first)) + ticks_from b first k
@@ -51,7 +51,7 @@ pub summing_start : (b : Bytes) (first n before : ℕ) → Summing b first n bef
 unfolding all_below list_below sum
 summing_start b first n before = record { within = omega arith; right = refl; ticks = omega arith }
 
-pub summing_wrong : (b : Bytes) (first n before k : ℕ) → k < n → right_from b first k ≡ false → Wrong ≡ sum_from b first n before
+pub summing_wrong : (b : Bytes) (first n before k : ℕ) → k < n → right_from b first k ≡ false → None ≡ sum_from b first n before
 unfolding sum_from
 summing_wrong b first n before k l e =
     let f = false_of (all_below n (right_from b first)) (λ h. clash (below_at n (right_from b first) h k l) e) in
@@ -72,7 +72,7 @@ module _ {b : Bytes} {first n before k total : ℕ} (s : Summing b first n befor
   pub summing_fits : AreBytes b → k < n → before + n * 0x1_0000_0000 < 0x1_0000_0000_0000_0000 → total + ticks_from b first k < 0x1_0000_0000_0000_0000
   summing_fits h l f = omega (arith, s.ticks, sum_most b first h k, ticks_low b first h k)
 
-  pub summing_end : n ≤ k → Ticks (record { 0 = total }) ≡ sum_from b first n before
+  pub summing_end : n ≤ k → Some (record { 0 = total }) ≡ sum_from b first n before
   unfolding sum_from
   summing_end h =
       let e : k ≡ n = omega (arith, s.within) in

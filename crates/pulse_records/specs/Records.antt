@@ -1,12 +1,11 @@
 -- Records and a trailer in any bytes, as the code reads them.
-use Rattle.std.specs.Prelude.{ℕ, ◌+◌, ◌*◌, Bool, cond, ◌&&◌, eqb, leb}
+use Rattle.std.specs.Prelude.{ℕ, ◌+◌, ◌*◌, Bool, cond, ◌&&◌, Option, Some, None, eqb, leb}
 use Rattle.format.specs.Basics.Bytes.{Bytes, u16at, u32at, u64at}
 use Rattle.format.specs.Basics.Lists.{all_below, list_below, sum}
 use Rattle.pulse_laws.specs.Pulse.{Pulse}
 use Rattle.pulse_records.specs.declared.Pulse.{Pulse as PulseRead}
 use Rattle.pulse_records.specs.declared.Trailer.{Trailer}
-use Rattle.pulse_records.specs.declared.sums.Sum.{Sum}
-use Rattle.pulse_records.specs.declared.sums.Sum.TheVariants.{Ticks, Wrong}
+use Rattle.pulse_records.specs.declared.TotalTicks.{TotalTicks}
 
 -- the pulse that the code's one stands for
 abbrev pub pulse_of : PulseRead → Pulse
@@ -29,9 +28,9 @@ unfoldable pub ticks_from : Bytes → (first number : ℕ) → ℕ
 ticks_from b first k = u32at b (first + 8 * k + 4)
 
 -- the ticks of n records on top of others, where each record is right
-unfoldable pub sum_from : Bytes → (first n before : ℕ) → Sum
+unfoldable pub sum_from : Bytes → (first n before : ℕ) → Option TotalTicks
 sum_from b first n before =
-    cond (all_below n (right_from b first)) (Ticks (record { 0 = before + sum (list_below n (ticks_from b first)) })) Wrong
+    cond (all_below n (right_from b first)) (Some (record { 0 = before + sum (list_below n (ticks_from b first)) })) None
 
 -- ---- a trailer of 16 bytes
 

@@ -33,7 +33,7 @@ pub struct Pulse {
 }
 
 // The ticks of many pulses.
-#[derive(Clone, Copy)]
+#[derive(Clone, Copy, PartialEq, Eq)]
 pub struct TotalTicks(pub u64);
 
 impl TotalTicks {
@@ -45,12 +45,6 @@ impl TotalTicks {
         ensures { result.0 ≡ self.0 + t.0 }
     {
         TotalTicks(self.0 + t.0 as u64)
-    }
-
-    pub fn equals(self, other: TotalTicks) -> bool
-        ensures { result ≡ eqb self.0 other.0 }
-    {
-        self.0 == other.0
     }
 }
 
@@ -84,11 +78,7 @@ impl Records {
         requires { n.0 ≤ self.0 }
         ensures { result.0 ≡ min (self.0 - n.0) most.0 }
     {
-        let left = self.0 - n.0;
-        if left < most.0 {
-            return Records(left);
-        }
-        most
+        Records(most.0.min(self.0 - n.0))
     }
 
     // The bytes that they take.

@@ -26,29 +26,20 @@ fn is_right(bytes: &[u8], at: usize) -> bool
     (zero == 0) & p.ticks.some()
 }
 
-// The ticks of records, added to those before them.
-#[derive(Clone, Copy)]
-pub enum Sum {
-    Ticks(TotalTicks),
-    Wrong,
-}
-
-// Adds up the ticks of the first n records, each of which has to be right.
-pub fn add_records(bytes: &[u8], n: Records, before: TotalTicks) -> Sum
+// Adds up the ticks of the first n records on top of those before them; nothing where one of the records is not right.
+pub fn add_records(bytes: &[u8], n: Records, before: TotalTicks) -> Option<TotalTicks>
     requires n_in_bounds { 8 * n.0 ≤ length bytes.now }
     requires n_bound { before.0 + n.0 * 0x1_0000_0000 < 0x1_0000_0000_0000_0000 }
     ensures { result ≡ sum_from bytes.now 0 n.0 before.0 }
 {
     let mut total = before;
-    let mut k = Records::NONE;
-    while k.below(n) {
-        let at = k.bytes();
+    for k in 0..n.0 {
+        let at = Records(k).bytes();
         if !is_right(bytes, at) {
-            return Sum::Wrong;
+            return None;
         }
         let p = pulse_at(bytes, at);
         total = total.plus(p.ticks);
-        k = k.plus(Records::ONE);
     }
-    Sum::Ticks(total)
+    Some(total)
 }

@@ -3,6 +3,7 @@ use Prim.Native.Nat.{ℕ, ◌<◌}
 use mathlib.Core.Path.{◌≡◌, sym, ◌∙◌, ap, ap₂, subst}
 use mathlib.Core.Bool.{true}
 use mathlib.Core.List.{List, []}
+use Rattle.std.specs.Prelude.{Result, Ok, Err}
 use Rattle.format.specs.Basics.Bytes.{Bytes}
 use Rattle.format.specs.Layout.Geometry.{Geometry}
 use Rattle.format.specs.Layout.Entry.{kind}
@@ -23,16 +24,12 @@ use Rattle.kinds.specs.Numbers.{refusal_number}
 use Rattle.kinds.specs.declared.EntryId.{EntryId}
 use Rattle.kinds.specs.declared.Refusal.{Refusal}
 use Rattle.directory.specs.Listed.{entries_of, DirectoryListed}
-use Rattle.paths.specs.Found.{found_of, Inside}
-use Rattle.paths.specs.declared.Found.{Found as Way}
-use Rattle.paths.specs.declared.Found.TheVariants.{At, Refused as Stopped}
+use Rattle.paths.specs.Found.{found_of}
 use Rattle.volume.specs.declared.Volume.{Volume as Opened}
 use Rattle.queries.specs.Inside.{Open, reply_in, ObjectOf, FindRight}
 use Rattle.queries.specs.Replies.{find_reply}
 use Rattle.queries.proofs.Answers.{refused_in}
 use Rattle.queries.specs.declared.find.Object.{Object}
-use Rattle.queries.specs.declared.find.Find.{Find}
-use Rattle.queries.specs.declared.find.Find.TheVariants.{Entry, Refused}
 
 -- the entries by the list are those of the volume
 pub same_entries : {v : Opened} {img : Bytes} {w : List ℕ} → Open v img w → entries_of v.directory img ≡ (volume (geometry_of v.tables.geometry) img).directory
@@ -70,24 +67,21 @@ module _ {v : Opened} {img : Bytes} {w : List ℕ} (o : Open v img w) where
       let i : y.id.0 ≡ x.0 = ap (λ (u : EntryId). u.0) z.0 in
       rw i (subst (λ d. x.0 < d.count) q l, (z.1.0 ∙ ap (λ d. kind (d.entry x.0)) q, z.1.1 ∙ ap (λ d. size_of d x.0) q))
 
-  module _ (path : Path) (r : Way) (e : found_of (entries_of v.directory img) r ≡ resolve (entries_of v.directory img) path) where
+  module _ (path : Path) (r : Result EntryId Refusal) (e : found_of (entries_of v.directory img) r ≡ resolve (entries_of v.directory img) path) where
     says : found_of (volume g img).directory r ≡ resolve (volume g img).directory path
     says = subst (λ d. found_of d r ≡ resolve d path) (same_entries o) e
 
-    pub find_found : {x : EntryId} (y : Object) → r ≡ At x → y.id ≡ x → ObjectOf (volume g img) y → FindRight (volume g img) path (Entry y)
-    find_found {x} y k z h =
-        let i : y.id.0 ≡ x.0 = ap (λ (u : EntryId). u.0) z in
-        (rw i (subst (λ u. found_of (volume g img).directory u ≡ resolve (volume g img).directory path) k says), h)
+  pub find_found : (path : Path) {x : EntryId} (y : Object) → found_of (entries_of v.directory img) (Ok x) ≡ resolve (entries_of v.directory img) path → y.id ≡ x
+      → ObjectOf (volume g img) y → FindRight (volume g img) path (Ok y)
+  find_found path {x} y e z h = (rw z (says path (Ok x) e), h)
 
-    pub find_refused : {a : Refusal} → r ≡ Stopped a → FindRight (volume g img) path (Refused a)
-    find_refused {a} k = subst (λ u. found_of (volume g img).directory u ≡ resolve (volume g img).directory path) k says
-
-pub found_inside : (e : Directory) (r : Way) {x : EntryId} → Inside e r → r ≡ At x → x.0 < e.count
-found_inside e r {x} i k = subst (λ u. Inside e u) k i
+  pub find_refused : (path : Path) (a : Refusal) → found_of (entries_of v.directory img) (Err a) ≡ resolve (entries_of v.directory img) path
+      → FindRight (volume g img) path (Err a)
+  find_refused path a e = says path (Err a) e
 
 -- the reply that it stands for
-pub find_says : (g : Geometry) (v : Volume) (path : Path) (f : Find) → FindRight v path f → find_reply f ≡ reply_in g v (find path [])
+pub find_says : (g : Geometry) (v : Volume) (path : Path) (f : Result Object Refusal) → FindRight v path f → find_reply f ≡ reply_in g v (find path [])
 unfolding found_reply stream_size
-find_says g v path (Entry e) h =
+find_says g v path (Ok e) h =
     ap₂ (λ k s. record { number = 0; entry = e.id.0; type = k; size = s; count = 0 }) h.1.1.0 h.1.1.1 ∙ found_reply_lem v path g e.id.0 h.0
-find_says g v path (Refused a) h = refused_reply v path g a h
+find_says g v path (Err a) h = refused_reply v path g a h

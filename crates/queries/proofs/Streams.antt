@@ -11,7 +11,6 @@ use Rattle.format.specs.Basics.Bytes.{Bytes}
 use Rattle.format.specs.Layout.Entry.{kind, is_stream, start}
 use Rattle.format.specs.Layout.Volume.{Volume}
 use Rattle.format.specs.Layout.Stream.{stream_size}
-use Rattle.format.specs.Calls.Paths.{Path}
 use Rattle.entries.specs.Entry.{entry_at}
 use Rattle.directory.specs.Listed.{entries_of, place_of, Placed}
 use Rattle.directory.proofs.Places.{placed, place_inside}
@@ -22,10 +21,9 @@ use Rattle.spaces.specs.Units.{kind_of, number_in, unit_of}
 use Rattle.spaces.specs.declared.Kind.{Kind}
 use Rattle.spaces.specs.declared.Unit.{Unit}
 use Rattle.spaces.proofs.Units.{unit_as}
-use Rattle.queries.specs.Inside.{Open, ObjectOf, FindRight}
+use Rattle.queries.specs.Inside.{Open, ObjectOf}
 use Rattle.queries.specs.Streams.{StreamAt}
 use Rattle.queries.specs.declared.find.Object.{Object}
-use Rattle.queries.specs.declared.find.Find.TheVariants.{Entry}
 use Rattle.queries.proofs.Finds.{same_entries, find_asks}
 
 -- ---- by its type
@@ -37,9 +35,6 @@ module _ (vol : Volume) (e : Object) (h : ObjectOf vol e) where
 
   pub object_other : e.entry_type.0 ≢ 2 → is_stream (vol.directory.entry e.id.0) ≡ false
   object_other k = ne_eqb (kind (vol.directory.entry e.id.0)) 2 (λ z. k (h.1.0 ∙ z))
-
-pub find_stream : (vol : Volume) (path : Path) (e : Object) → FindRight vol path (Entry e) → e.entry_type.0 ≡ 2 → StreamAt vol e
-find_stream vol path e h k = object_stream vol e h.1 k
 
 -- ---- where it stands
 

@@ -9,7 +9,7 @@ ghost use Rattle.queries.specs.Inside.{Open, FindRight};
 use directory::{Directory, place};
 use entries::{entry_type, size};
 use kinds::{EntryId, EntryType, Refusal};
-use paths::{Found, find_entry};
+use paths::find_entry;
 use volume::Volume;
 
 // An entry: its number, its type and its size.
@@ -18,12 +18,6 @@ pub struct Object {
     pub id: EntryId,
     pub entry_type: EntryType,
     pub size: u64,
-}
-
-#[derive(Clone, Copy)]
-pub enum Find {
-    Entry(Object),
-    Refused(Refusal),
 }
 
 // The entry of a number.
@@ -43,24 +37,11 @@ pub fn object_at(img: &[u8], work: &[u32], d: Directory, x: EntryId) -> Object
 }
 
 // The entry that a path leads to, or the refusal.
-pub fn find_in(path: &[u16], img: &[u8], work: &[u32], v: Volume) -> Find
+pub fn find_in(path: &[u16], img: &[u8], work: &[u32], v: Volume) -> Result<Object, Refusal>
     requires { Open v img.now work.now }
     ensures { FindRight (volume_in v img.now) path.now result }
 {
     let d = v.directory;
-    match find_entry(path, img, work, d) {
-        Found::At(x) => Find::Entry(object_at(img, work, d, x)),
-        Found::Refused(a) => Find::Refused(a),
-    }
-}
-
-// The refusal of a find that found no entry. Nobody comes here with an entry, so its arm may give any refusal.
-pub fn refusal(f: Find) -> Refusal
-    requires { (a : Refusal) × (f ≡ Find.Refused a) }
-    ensures { f ≡ Find.Refused result }
-{
-    match f {
-        Find::Entry(_) => Refusal::NotFound,
-        Find::Refused(a) => a,
-    }
+    let x = find_entry(path, img, work, d)?;
+    Ok(object_at(img, work, d, x))
 }

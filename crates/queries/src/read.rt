@@ -9,19 +9,13 @@ ghost use Rattle.queries.specs.Inside.{Open, reply_in, out_in};
 ghost use Rattle.queries.specs.Streams.{StreamAt};
 ghost use Rattle.queries.specs.Replies.{read_reply};
 
-use super::find::{Find, Object, find_in, object_at, refusal};
+use super::find::{Object, find_in, object_at};
 use directory::place;
-use kinds::{EntryId, Refusal};
+use kinds::{EntryId, Numbered, Refusal};
 use le::least;
 use reading::read_units;
 use spaces::{kind_for, start_unit};
 use volume::Volume;
-
-#[derive(Clone, Copy)]
-pub enum Read {
-    Done(usize),
-    Refused(Refusal),
-}
 
 // Reads a stream's bytes, as many as the out buffer has room for.
 pub fn read_stream(img: &[u8], work: &[u32], v: Volume, e: Object, offset: usize, out: &mut [u8])
@@ -34,7 +28,7 @@ pub fn read_stream(img: &[u8], work: &[u32], v: Volume, e: Object, offset: usize
     read_units(img, work, v, first, e.size as usize, offset, out);
 }
 
-// Reads from a stream that was looked up, from an offset on.
+// Reads from a stream that was looked up, from an offset on: how many bytes.
 pub fn read_object(
     img: &[u8],
     work: &[u32],
@@ -42,7 +36,7 @@ pub fn read_object(
     e: Object,
     offset: u64,
     out: &mut [u8],
-) -> Read
+) -> Result<usize, Refusal>
     requires fact { Open v img.now work.now }
     requires stream_at { StreamAt (volume_in v img.now) e }
     ensures result_value { read_reply result
@@ -52,11 +46,11 @@ pub fn read_object(
         (read_at_call e.id.0 offset out.old []) }
 {
     if e.size < offset {
-        return Read::Refused(Refusal::Beyond);
+        return Err(Refusal::Beyond);
     }
     let n = least((e.size - offset) as usize, out.len());
     read_stream(img, work, v, e, offset as usize, &mut out[..n]);
-    Read::Done(n)
+    Ok(n)
 }
 
 // Reads from the stream that a path leads to, from an offset on.
@@ -67,7 +61,7 @@ pub fn read_in(
     v: Volume,
     offset: u64,
     out: &mut [u8],
-) -> Read
+) -> Result<usize, Refusal>
     requires { Open v img.now work.now }
     ensures result_value { read_reply result
         ≡ reply_in (geometry_of v.tables.geometry) (volume_in v img.now) (read_call path.now offset out.old []) }
@@ -75,12 +69,9 @@ pub fn read_in(
         ≡ out_in (geometry_of v.tables.geometry) (volume_in v img.now) img.now
         (read_call path.now offset out.old []) }
 {
-    let f = find_in(path, img, work, v);
-    let Find::Entry(e) = f else {
-        return Read::Refused(refusal(f));
-    };
+    let e = find_in(path, img, work, v)?;
     if !e.entry_type.is_stream() {
-        return Read::Refused(Refusal::NotAStream);
+        return Err(Refusal::NotAStream);
     }
     read_object(img, work, v, e, offset, out)
 }
@@ -93,7 +84,7 @@ pub fn read_at_in(
     entry: EntryId,
     position: u64,
     out: &mut [u8],
-) -> Read
+) -> Result<usize, Refusal>
     requires { Open v img.now work.now }
     ensures result_value { read_reply result
         ≡ reply_in (geometry_of v.tables.geometry) (volume_in v img.now) (read_at_call entry.0 position out.old []) }
@@ -103,11 +94,11 @@ pub fn read_at_in(
 {
     let d = v.directory;
     if !entry.below(d.count()) {
-        return Read::Refused(Refusal::BadEntry);
+        return Err(Refusal::BadEntry);
     }
     let object = object_at(img, work, d, entry);
     if !object.entry_type.is_stream() {
-        return Read::Refused(Refusal::BadEntry);
+        return Err(Refusal::BadEntry);
     }
     read_object(img, work, v, object, position, out)
 }

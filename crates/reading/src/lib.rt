@@ -22,10 +22,8 @@ fn unit_after(img: &[u8], work: &[u32], v: Volume, start: Unit, n: usize, k: usi
     ensures { result ≡ unit_of (kind_of start) (get_or (units_from v img.now start n) k 0) }
 {
     let mut u = start;
-    let mut i = 0;
-    while i < k {
+    for _i in 0..k {
         u = cell_of(img, work, v, u);
-        i += 1;
     }
     u
 }
@@ -52,6 +50,7 @@ pub fn read_units(
     }
     let n = units_for(size as u64, bytes as u64) as usize;
     let mut u = unit_after(img, work, v, start, n, offset / bytes);
+    // Each step reads what is left of the unit at hand, as far as there is room.
     let mut o = offset % bytes;
     let mut i = 0;
     while i < end {

@@ -8,6 +8,7 @@ use native.Mathlib.Omega.{arith}
 use lib.Dec.{eqb}
 use lib.ListN.{length}
 use borrow.Author.Tests.{eqb-true, eq-eqb}
+use Rattle.std.proofs.Common.{Err}
 use Rattle.format.specs.Basics.Bytes.{Bytes}
 use Rattle.format.specs.Layout.Geometry.{Geometry}
 use Rattle.format.specs.Layout.Entry.{NOSTREAM, kind, is_stream}
@@ -43,8 +44,6 @@ use Rattle.kinds.specs.declared.Refusal.{Refusal}
 use Rattle.tables.specs.Work.{Wrote}
 use Rattle.directory.specs.Listed.{count_of, entries_of, DirectoryListed}
 use Rattle.directory.proofs.Places.{count_most}
-use Rattle.paths.specs.declared.Found.{Found}
-use Rattle.paths.specs.declared.Found.TheVariants.{At, Refused}
 use Rattle.volume.specs.declared.Volume.{Volume as Opened}
 use Rattle.spaces.specs.Spaces.{volume_in}
 use Rattle.queries.specs.declared.find.Object.{Object}
@@ -186,14 +185,10 @@ removal_short {v} o = omega (arith, count_most (find_asks o).0, o.ready.room)
 
 -- ---- what the search says
 
-module _ {v : Opened} {img : Bytes} {w : List ℕ} (o : Open v img w) (p : Path) (f : Found) (r : RemovalRight (entries_of v.directory img) p f) where
-  pub found_removable : {x : EntryId} → f ≡ At x → RemovableAt (entries_of v.directory img) p x.0
-  found_removable q = subst (λ (u : Found). RemovalRight (entries_of v.directory img) p u) q r
-
-  pub refused_right : {a : Refusal} → f ≡ Refused a
-      → (refusal_number a ≡ answer_in (geometry_of v.tables.geometry) (volume_in v img) (remove p []))
-      × (img ≡ image_in (geometry_of v.tables.geometry) (volume_in v img) img (remove p []))
-  unfolding answer_in
-  refused_right {a} q =
-      let e = subst (λ (u : Found). RemovalRight (entries_of v.directory img) p u) q r ∙ ap (λ (d : Directory). remove_answer d (resolve d p)) (same_entries o) in
-      (e, image_refused (geometry_of v.tables.geometry) (volume_in v img) img (remove p []) a (sym e))
+pub refused_right : {v : Opened} {img : Bytes} {w : List ℕ} (o : Open v img w) (p : Path) (a : Refusal) → RemovalRight (entries_of v.directory img) p (Err a)
+    → (refusal_number a ≡ answer_in (geometry_of v.tables.geometry) (volume_in v img) (remove p []))
+    × (img ≡ image_in (geometry_of v.tables.geometry) (volume_in v img) img (remove p []))
+unfolding answer_in
+refused_right {v} {img} o p a r =
+    let e = r ∙ ap (λ (d : Directory). remove_answer d (resolve d p)) (same_entries o) in
+    (e, image_refused (geometry_of v.tables.geometry) (volume_in v img) img (remove p []) a (sym e))

@@ -1,11 +1,12 @@
 -- What a removal answers, by the entry that the path leads to.
 use Prim.Native.Nat.{ℕ, ◌<◌}
-use mathlib.Core.Path.{◌≡◌, refl, sym, ap, ◌∙◌, subst}
+use mathlib.Core.Path.{◌≡◌, refl, sym, ap, ◌∙◌}
 use mathlib.Core.Logic.{◌≢◌}
 use mathlib.Core.Bool.{Bool, true, false, not, cond, ◌&&◌}
 use native.Mathlib.Decide.{ℕ_discrete}
 use lib.Dec.{eqb}
 use borrow.Author.Tests.{eqb-true, eq-eqb, ne_eqb}
+use Rattle.std.proofs.Common.{Err}
 use Rattle.format.specs.Layout.Entry.{NOSTREAM, is_storage, is_stream}
 use Rattle.format.specs.Layout.Directory.{Directory}
 use Rattle.format.specs.Layout.Tree.{is_empty}
@@ -20,11 +21,8 @@ use Rattle.theory.proofs.Tests.{below_at, clash}
 use Rattle.theory.proofs.Trees.Grow.{grow_none}
 use Rattle.theory.proofs.Trees.Stand.{stand, standing}
 use Rattle.frame.proofs.EntryFacts.{stream_fields_of, stream_fields_say}
-use Rattle.kinds.specs.declared.EntryId.{EntryId}
 use Rattle.kinds.specs.declared.Refusal.{Refusal}
-use Rattle.paths.specs.Found.{found_of, Inside}
-use Rattle.paths.specs.declared.Found.{Found}
-use Rattle.paths.specs.declared.Found.TheVariants.{At, Refused}
+use Rattle.paths.specs.Found.{found_of}
 use Rattle.paths.proofs.Steps.{blank_child, searchable_below}
 use Rattle.removal.specs.Leads.{holds_some, RemovableAt, RemovalRight}
 
@@ -73,11 +71,6 @@ module _ (e : Directory) (f : entry_rules e ≡ true) (t : tree_rules e ≡ true
 
 -- ---- as the code finds it
 
-module _ (e : Directory) (p : Path) (r : Found) (a : found_of e r ≡ resolve e p) (b : Inside e r) where
-  pub found_entry : {x : EntryId} → r ≡ At x → (x.0 < e.count) × (reached e x.0 ≡ resolve e p)
-  found_entry q = (subst (λ (u : Found). Inside e u) q b, subst (λ (u : Found). found_of e u ≡ resolve e p) q a)
-
-  pub found_none : {x : Refusal} → r ≡ Refused x → RemovalRight e p r
-  unfolding remove_answer
-  found_none {x} q =
-      subst (λ (u : Found). RemovalRight e p u) (sym q) (ap (remove_answer e) (subst (λ (u : Found). found_of e u ≡ resolve e p) q a))
+pub found_none : (e : Directory) (p : Path) (a : Refusal) → found_of e (Err a) ≡ resolve e p → RemovalRight e p (Err a)
+unfolding remove_answer
+found_none e p a q = ap (remove_answer e) q

@@ -27,24 +27,19 @@ use Rattle.theory.proofs.Trees.Ways.{slot_onward}
 use Rattle.theory.proofs.Trees.PathWays.{root_way}
 use Rattle.frame.proofs.Accepted.{accepted_kept}
 use Rattle.kinds.specs.Sizes.{geometry_of}
-use Rattle.kinds.specs.Numbers.{refusal_number}
 use Rattle.kinds.specs.declared.EntryId.{EntryId}
-use Rattle.kinds.specs.declared.Refusal.{Refusal}
 use Rattle.directory.specs.Listed.{entries_of, DirectoryListed, Ruled}
 use Rattle.directory.specs.declared.Directory.{Directory as Where}
 use Rattle.entry_rules.proofs.Ruled.{ruled}
 use Rattle.lookup.specs.Slots.{slot_of, Seated, SeatRight}
 use Rattle.lookup.specs.declared.Slot.{Slot as Place}
-use Rattle.lookup.specs.declared.Seat.{Seat}
 use Rattle.lookup.specs.declared.Seat.TheVariants.{Free, Taken}
-use Rattle.paths.specs.Parents.{parent_of, ParentInside, ParentAt}
-use Rattle.paths.specs.declared.Parent.{Parent}
-use Rattle.paths.specs.declared.Parent.TheVariants.{At, Refused}
+use Rattle.paths.specs.Parents.{ParentAt}
 use Rattle.paths.proofs.Steps.{searchable_below}
 use Rattle.paths.proofs.Parents.{found_formed}
 use Rattle.tree_edits.specs.Removable.{Removable}
 use Rattle.removal.specs.Leads.{LeadsTo}
-use Rattle.removal.proofs.Parents.{not_refused, not_missing, child_is}
+use Rattle.removal.proofs.Parents.{not_missing, child_is}
 
 module _ (d : Where) (img : Bytes) (acc : Accepted (geometry_of d.geometry) img) where
   abbrev g : Geometry
@@ -97,21 +92,10 @@ module _ (d : Where) (img : Bytes) (acc : Accepted (geometry_of d.geometry) img)
 
 -- ---- what the searches say
 
-module _ (e : Directory) (p : Path) (m : LeadsTo e p) (r : Parent) (a : parent_of e r ≡ resolve_parent e p) (b : ParentInside e p r) where
-  pub parent_below : {s : EntryId} {i : ℕ} → r ≡ At s i → ParentAt e p s.0 i
-  parent_below {s} {i} q =
-      let k = subst (λ (u : Parent). ParentInside e p u) q b in
-      record { found = subst (λ (u : Parent). parent_of e u ≡ resolve_parent e p) q a; inside = k.0; last = k.1 }
+module _ (e : Directory) (p : Path) (m : LeadsTo e p) (s i : ℕ) (b : ParentAt e p s i) (n : Name) (l : n ≡ last_name p) where
+  pub seat_free : (h : Place) → SeatRight e n s (Free h) → ⊥
+  seat_free h a = not_missing e p m s b.found (subst (λ (k : Name). child_named e k (at e (child_of e s)) ≡ missing) l a.0)
 
-  pub parent_refused : {x : Refusal} → r ≡ Refused x → ⊥
-  parent_refused {x} q = not_refused e p m (refusal_number x) (subst (λ (u : Parent). parent_of e u ≡ resolve_parent e p) q a)
-
-module _ (e : Directory) (p : Path) (m : LeadsTo e p) (s i : ℕ) (b : ParentAt e p s i) (n : Name) (l : n ≡ last_name p) (r : Seat) (a : SeatRight e n s r) where
-  pub seat_free : {h : Place} → r ≡ Free h → ⊥
-  seat_free q =
-      not_missing e p m s b.found (subst (λ (k : Name). child_named e k (at e (child_of e s)) ≡ missing) l (subst (SeatRight e n s) q a).0)
-
-  pub seat_taken : {x : EntryId} {h : Place} → r ≡ Taken x h → Seated e s x.0 (slot_of h) × (x.0 ≡ m.entry)
-  seat_taken {x} q =
-      let k = subst (SeatRight e n s) q a in
-      (k.1.0, child_is e p m s b.found x.0 (at e (child_of e x.0)) (subst (λ (u : Name). child_named e u (at e (child_of e s)) ≡ present x.0 (at e (child_of e x.0))) l k.0))
+  pub seat_taken : (x : EntryId) (h : Place) → SeatRight e n s (Taken x h) → Seated e s x.0 (slot_of h) × (x.0 ≡ m.entry)
+  seat_taken x h a =
+      (a.1.0, child_is e p m s b.found x.0 (at e (child_of e x.0)) (subst (λ (u : Name). child_named e u (at e (child_of e s)) ≡ present x.0 (at e (child_of e x.0))) l a.0))

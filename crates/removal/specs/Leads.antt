@@ -1,5 +1,5 @@
 -- A path that leads to an entry which can be removed.
-use Rattle.std.specs.Prelude.{ℕ, ◌<◌, ◌≡◌, ◌≢◌, Bool, not, ◌&&◌, eqb}
+use Rattle.std.specs.Prelude.{ℕ, ◌<◌, ◌≡◌, ◌≢◌, Bool, not, ◌&&◌, Result, Ok, Err, eqb}
 use Rattle.format.specs.Layout.Entry.{NOSTREAM, is_storage}
 use Rattle.format.specs.Layout.Directory.{Directory}
 use Rattle.format.specs.Calls.Paths.{Path}
@@ -8,8 +8,8 @@ use Rattle.format.specs.Calls.Answer.{remove_answer}
 use Rattle.theory.specs.TreeViews.{child_of}
 use Rattle.theory.specs.TreeFind.{reached}
 use Rattle.kinds.specs.Numbers.{refusal_number}
-use Rattle.paths.specs.declared.Found.{Found}
-use Rattle.paths.specs.declared.Found.TheVariants.{At, Refused}
+use Rattle.kinds.specs.declared.EntryId.{EntryId}
+use Rattle.kinds.specs.declared.Refusal.{Refusal}
 
 -- it is not the root, and has nothing below it
 pub record LeadsTo (e : Directory) (p : Path) : Type 0 where
@@ -29,6 +29,6 @@ pub record RemovableAt (e : Directory) (p : Path) (x : ℕ) : Type 0 where
   pub leads : LeadsTo e p
   pub entry : leads.entry ≡ x
 
-abbrev pub RemovalRight : Directory → Path → Found → Type 0
-RemovalRight e p (At x) = RemovableAt e p x.0
-RemovalRight e p (Refused a) = refusal_number a ≡ remove_answer e (resolve e p)
+abbrev pub RemovalRight : Directory → Path → Result EntryId Refusal → Type 0
+RemovalRight e p (Ok x) = RemovableAt e p x.0
+RemovalRight e p (Err a) = refusal_number a ≡ remove_answer e (resolve e p)

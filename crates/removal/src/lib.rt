@@ -20,9 +20,9 @@ ghost use Rattle.removal.specs.Leads.{LeadsTo, holds_some, RemovalRight};
 
 use directory::{Directory, child_of, type_of};
 use edits::resize::change_length;
-use kinds::{Answer, EntryId, Refusal};
+use kinds::{EntryId, Refusal};
 use lookup::{Seat, find_slot};
-use paths::{Found, Parent, find_entry, find_parent};
+use paths::{find_entry, find_parent};
 use queries::find::object_at;
 use tree_edits::remove_entry;
 use volume::Volume;
@@ -39,23 +39,25 @@ fn filled(img: &[u8], work: &[u32], d: Directory, x: EntryId) -> bool
 }
 
 // The entry that a path leads to, if it can be removed, or the refusal.
-pub fn find_removable(path: &[u16], img: &[u8], work: &[u32], d: Directory) -> Found
+pub fn find_removable(
+    path: &[u16],
+    img: &[u8],
+    work: &[u32],
+    d: Directory,
+) -> Result<EntryId, Refusal>
     requires directory_listed { DirectoryListed d img.now work.now }
     requires img_value { entry_rules (entries_of d img.now) ≡ true }
     requires img_value_2 { tree_rules (entries_of d img.now) ≡ true }
     ensures { RemovalRight (entries_of d img.now) path.now result }
 {
-    let f = find_entry(path, img, work, d);
-    let Found::At(x) = f else {
-        return f;
-    };
+    let x = find_entry(path, img, work, d)?;
     if filled(img, work, d, x) {
-        return Found::Refused(Refusal::NotEmpty);
+        return Err(Refusal::NotEmpty);
     }
-    if x.0 == 0 {
-        return Found::Refused(Refusal::RootRemoved);
+    if x.is_root() {
+        return Err(Refusal::RootRemoved);
     }
-    Found::At(x)
+    Ok(x)
 }
 
 // ---- the entry
@@ -71,8 +73,7 @@ fn remove_below(path: &[u16], img: &mut [u8], work: &mut [u32], d: Directory, s:
     ensures image { img.new ≡ entry_removed (volume (geometry_of d.geometry) img.old) img.old path.now }
     ensures wrote { Wrote work.old work.new 0 (count_of d) }
 {
-    let r = find_slot(&path[i..], img, work, d, s);
-    let Seat::Taken(x, h) = r else {
+    let Seat::Taken(x, h) = find_slot(&path[i..], img, work, d, s) else {
         return;
     };
     let field = h.field;
@@ -89,11 +90,10 @@ pub fn remove_found(path: &[u16], img: &mut [u8], work: &mut [u32], d: Directory
     ensures image { img.new ≡ entry_removed (volume (geometry_of d.geometry) img.old) img.old path.now }
     ensures wrote { Wrote work.old work.new 0 (count_of d) }
 {
-    let p = find_parent(path, img, work, d);
-    let Parent::At(s, i) = p else {
+    let Ok(p) = find_parent(path, img, work, d) else {
         return;
     };
-    remove_below(path, img, work, d, s, i);
+    remove_below(path, img, work, d, p.storage, p.name);
 }
 
 // ---- the call
@@ -106,26 +106,21 @@ fn release_units(img: &mut [u8], work: &mut [u32], v: Volume, x: EntryId)
     ensures wrote { Wrote work.old work.new 0 v.stream }
 {
     let e = object_at(img, work, v.directory, x);
-    let t = e.entry_type;
-    if t.is_stream() & (e.size != 0) {
+    if e.entry_type.is_stream() & (e.size != 0) {
         change_length(img, work, v, e, 0);
     }
 }
 
 // Removes the object that a path leads to: a stream, or a storage with nothing in it.
-pub fn remove_in(path: &[u16], img: &mut [u8], work: &mut [u32], v: Volume) -> Answer
+pub fn remove_in(path: &[u16], img: &mut [u8], work: &mut [u32], v: Volume) -> Result<(), Refusal>
     requires { Open v img.old work.old }
     ensures answer { number_of result ≡ answer_in (geometry_of v.tables.geometry) (volume_in v img.old) (remove path.now []) }
     ensures image { img.new
         ≡ image_in (geometry_of v.tables.geometry) (volume_in v img.old) img.old (remove path.now []) }
     ensures wrote { Wrote work.old work.new 0 v.stream }
 {
-    match find_removable(path, img, work, v.directory) {
-        Found::Refused(a) => Answer::Refused(a),
-        Found::At(x) => {
-            release_units(img, work, v, x);
-            remove_found(path, img, work, v.directory);
-            Answer::Done
-        }
-    }
+    let x = find_removable(path, img, work, v.directory)?;
+    release_units(img, work, v, x);
+    remove_found(path, img, work, v.directory);
+    Ok(())
 }

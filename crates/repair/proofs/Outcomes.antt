@@ -4,6 +4,7 @@ use mathlib.Core.Path.{◌≡◌, sym, ap, ◌∙◌, subst}
 use mathlib.Core.Bool.{Bool, true, false, cond, ◌||◌}
 use mathlib.Core.List.{List}
 use native.Mathlib.Omega.{arith}
+use Rattle.std.proofs.Common.{Ok, Err}
 use lib.Dec.{eqb}
 use lib.ListN.{length}
 use Rattle.format.specs.Basics.Bytes.{Bytes}
@@ -23,10 +24,8 @@ use Rattle.kinds.specs.Sizes.{geometry_of}
 use Rattle.kinds.specs.Numbers.{refusal_number}
 use Rattle.tables.specs.Work.{Wrote}
 use Rattle.tables.proofs.WorkLaws.{wrote_none, wrote_cleared}
-use Rattle.volume.specs.Opened.{OpenedRight, Readied, work_left}
+use Rattle.volume.specs.Opened.{OpenedRight, work_left}
 use Rattle.volume.specs.declared.Volume.{Volume}
-use Rattle.volume.specs.declared.Opened.{Opened}
-use Rattle.volume.specs.declared.Opened.TheVariants.{Refused, Ready}
 use Rattle.repair.specs.Room.{Tried}
 use Rattle.repair.proofs.Replies.{refused_reply, done_reply}
 
@@ -52,24 +51,13 @@ module _ {img after : Bytes} {work : List ℕ} (k : Tried img after work) where
   answer_is : repair_answer g img after work ≡ verdict (version_of after) after (length work)
   answer_is = judged g img after work (omega (arith, after_long)) ∙ rw (version_is, k.outcome)
 
-  module _ {w : List ℕ} {r : Opened} (o : OpenedRight (version_of after) after work w r) where
-    module _ (a : Refusal) (q : r ≡ Refused a) where
-      refused : OpenedRight (version_of after) after work w (Refused a)
-      refused = subst (λ x. OpenedRight (version_of after) after work w x) q o
+  module _ {w : List ℕ} where
+    pub refused_outcome : (a : Refusal) → OpenedRight (version_of after) after work w (Err a) → (plain (refusal_number a) ≡ repair_reply img after work) × Wrote work w 0 (work_need (length img))
+    refused_outcome a o = (
+      refused_reply img after work a (o.0 ∙ sym answer_is),
+      rw after_long at (left_wrote (verdict (version_of after) after (length work)) after work w (rw after_long k.room) o.1),
+    )
 
-      pub refused_outcome : (plain (refusal_number a) ≡ repair_reply img after work) × Wrote work w 0 (work_need (length img))
-      refused_outcome = (
-        refused_reply img after work a (refused.0 ∙ sym answer_is),
-        rw after_long at (left_wrote (verdict (version_of after) after (length work)) after work w (rw after_long k.room) refused.1),
-      )
-
-    module _ (v : Volume) (q : r ≡ Ready v) where
-      ready : OpenedRight (version_of after) after work w (Ready v)
-      ready = subst (λ x. OpenedRight (version_of after) after work w x) q o
-
-      pub ready_lists : Readied v after w
-      ready_lists = ready.1.1.0
-
-      pub ready_outcome : {n : ℕ} → n ≡ differences (volume (geometry_of v.tables.geometry) after) img after
-          → (counted n ≡ repair_reply img after work) × Wrote work w 0 (work_need (length img))
-      ready_outcome e = (done_reply img after work (answer_is ∙ ready.0) e (ready.1.0 ∙ version_is) k.outcome, rw after_long at ready.1.1.1.1)
+    pub ready_outcome : (v : Volume) {n : ℕ} → OpenedRight (version_of after) after work w (Ok v) → n ≡ differences (volume (geometry_of v.tables.geometry) after) img after
+        → (counted n ≡ repair_reply img after work) × Wrote work w 0 (work_need (length img))
+    ready_outcome v o e = (done_reply img after work (answer_is ∙ o.0) e (o.1.0 ∙ version_is) k.outcome, rw after_long at o.1.1.1.1)

@@ -4,6 +4,10 @@ use mathlib.Core.Path.{◌≡◌, refl, sym, ap, ◌∙◌}
 use mathlib.Core.Logic.{◌≢◌}
 use mathlib.Core.List.{List}
 use lib.ListN.{length}
+use Rattle.std.proofs.Common.{Result, Ok, Err, true, false}
+use Rattle.std.specs.Result.{is_ok}
+use Rattle.theory.proofs.Tests.{clash}
+use Rattle.repair.specs.Replies.{repair_reply_of}
 use Rattle.format.specs.Basics.Bytes.{Bytes}
 use Rattle.format.specs.Layout.Geometry.{Geometry}
 use Rattle.format.specs.Layout.Volume.{volume}
@@ -50,7 +54,7 @@ module _ (img spare : Bytes) (work : List ℕ) where
   unfolding image_repaired_by
   refused_image a e = rw (← e) (sym (on_some (refusal_number a) (repaired g img) img (refusal_some a)))
 
-  pub image_kept : (a : Refusal) → plain (refusal_number a) ≡ repair_reply img spare work → img ≡ image_repaired img spare work
+  image_kept : (a : Refusal) → plain (refusal_number a) ≡ repair_reply img spare work → img ≡ image_repaired img spare work
   unfolding plain
   image_kept a e = refused_image a (ap (λ (r : Reply). r.number) e ∙ reply_number)
 
@@ -63,9 +67,19 @@ module _ (img spare : Bytes) (work : List ℕ) where
       rw (e, p, q)
       (sym (on_none (repair_answer g img spare work) (counted (differences (volume g (repaired g img)) img (repaired g img))) (plain (repair_answer g img spare work)) z))
 
-  pub image_done : (n : ℕ) {after : Bytes} → counted n ≡ repair_reply img spare work → after ≡ repaired g img → after ≡ image_repaired img spare work
+  image_done : (n : ℕ) {after : Bytes} → counted n ≡ repair_reply img spare work → after ≡ repaired g img → after ≡ image_repaired img spare work
   unfolding image_repaired_by counted
   image_done n e q = q ∙ sym (on_none (repair_answer g img spare work) (repaired g img) img (sym reply_number ∙ sym (ap (λ (r : Reply). r.number) e)))
+
+  -- ---- by the code's answer
+
+  pub image_written : (r : Result ℕ Refusal) {after : Bytes} → repair_reply_of r ≡ repair_reply img spare work → is_ok r ≡ true → after ≡ repaired g img → after ≡ image_repaired img spare work
+  image_written (Ok n) e k q = image_done n e q
+  image_written (Err a) e k q = absurd (clash k refl)
+
+  pub image_left : (r : Result ℕ Refusal) → repair_reply_of r ≡ repair_reply img spare work → is_ok r ≡ false → img ≡ image_repaired img spare work
+  image_left (Ok n) e k = absurd (clash refl k)
+  image_left (Err a) e k = image_kept a e
 
 -- ---- other buffers that are long enough would do
 

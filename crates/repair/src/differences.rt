@@ -12,7 +12,7 @@ ghost use Rattle.repair_writes.specs.Cells.{table_in, TableRoom};
 use directory::{Directory, place};
 use entries::colour;
 use header::fat_count;
-use kinds::{EntryId, Geometry};
+use kinds::{EntryId, Geometry, Numbered};
 use le::u32_at;
 use spaces::listed_place;
 use volume::Volume;
@@ -25,13 +25,11 @@ fn cells_differ(img: &[u8], after: &[u8], work: &[u32], g: Geometry, list: usize
         ≡ length (pick_below n (cell_differs (table_in (geometry_of g) work.now list n n) img.now after.now)) }
 {
     let mut count: u64 = 0;
-    let mut u = 0;
-    while u < n {
+    for u in 0..n {
         let p = listed_place(work, g, list, 4 * u);
         if u32_at(img, p) != u32_at(after, p) {
             count += 1;
         }
-        u += 1;
     }
     count
 }
@@ -45,13 +43,11 @@ fn colours_differ(img: &[u8], after: &[u8], work: &[u32], d: Directory) -> u64
 {
     let n = d.count();
     let mut count: u64 = 0;
-    let mut x = EntryId::ROOT;
-    while x.below(n) {
+    for x in EntryId::ROOT.until(n) {
         let p = place(work, d, x);
         if colour(img, p) != colour(after, p) {
             count += 1;
         }
-        x = x.next();
     }
     count
 }

@@ -13,43 +13,39 @@ ghost use Rattle.repair.specs.Room.{RepairRoom, Tried};
 use differences::count_differences;
 use header::{length_allowed, version_of, work_need};
 use kinds::{Geometry, Refusal};
-use le::{copy, fill_zero, zero_first};
+use le::zero_first;
 use repair_steps::outcome;
-use volume::{Opened, open_volume};
+use volume::open_volume;
 
 pub mod differences;
 
-// How many cells and colour bytes differ from what they were, or why nothing was written.
-#[derive(Clone, Copy)]
-pub enum Repair {
-    Done(u64),
-    Refused(Refusal),
-}
-
-// What is answered, once the outcome stands in a buffer of its own: it keeps every rule, or not.
-fn validate_outcome(image: &[u8], after: &[u8], work: &mut [u32]) -> Repair
+// What is answered, once the outcome stands in a buffer of its own: how many cells and colour bytes differ, or why it does not keep every rule.
+fn validate_outcome(image: &[u8], after: &[u8], work: &mut [u32]) -> Result<u64, Refusal>
     requires { Tried image.now after.now work.old }
     ensures reply { repair_reply_of result ≡ repair_reply image.now after.now work.old }
     ensures wrote { Wrote work.old work.new 0 (work_need (length image.now)) }
 {
-    match open_volume(after, work) {
-        Opened::Refused(a) => Repair::Refused(a),
-        Opened::Ready(v) => Repair::Done(count_differences(image, after, work, v)),
-    }
+    let v = open_volume(after, work)?;
+    Ok(count_differences(image, after, work, v))
 }
 
 // Makes the outcome in a buffer of the image's length, has it validated, and copies it back where it is accepted.
-fn repair_by(image: &mut [u8], work: &mut [u32], after: &mut [u8], g: Geometry) -> Repair
+fn repair_by(
+    image: &mut [u8],
+    work: &mut [u32],
+    after: &mut [u8],
+    g: Geometry,
+) -> Result<u64, Refusal>
     requires { RepairRoom (geometry_of g) image.old work.old after.old }
     ensures reply { repair_reply_of result ≡ repair_reply image.old after.old work.old }
     ensures image { image.new ≡ image_repaired image.old after.old work.old }
     ensures wrote { Wrote work.old work.new 0 (work_need (length image.old)) }
 {
-    copy(after, image);
+    after.copy_from_slice(image);
     outcome(after, work, g);
     let r = validate_outcome(image, after, work);
-    if let Repair::Done(_) = r {
-        copy(image, after);
+    if r.is_ok() {
+        image.copy_from_slice(after);
     }
     r
 }
@@ -59,11 +55,12 @@ fn clear(bytes: &mut [u8], n: usize)
     requires { n ≤ length bytes.old }
     ensures { bytes.new ≡ work_cleared n bytes.old }
 {
-    fill_zero(&mut bytes[..n]);
+    bytes[..n].fill(0);
 }
 
-// Repairs an image by the four steps, or refuses and leaves it as it was. What it used of the two buffers is zero afterwards.
-pub fn repair_image(image: &mut [u8], work: &mut [u32], spare: &mut [u8]) -> Repair
+// Repairs an image by the four steps, or refuses and leaves it as it was: how many cells and colour bytes have changed. What it used of the two
+// buffers is zero afterwards.
+pub fn repair_image(image: &mut [u8], work: &mut [u32], spare: &mut [u8]) -> Result<u64, Refusal>
     ensures result_value { repair_reply_of result ≡ repair_reply image.old spare.old work.old }
     ensures image_after { image.new ≡ image_repaired image.old spare.old work.old }
     ensures work_after { work.new ≡ work_repaired image.old spare.old work.old }
@@ -72,12 +69,12 @@ pub fn repair_image(image: &mut [u8], work: &mut [u32], spare: &mut [u8]) -> Rep
     let g = version_of(image);
     let n = image.len();
     if !length_allowed(n, g) {
-        return Repair::Refused(Refusal::BadLength);
+        return Err(Refusal::BadLength);
     }
     let need = work_need(n);
     let enough = (need <= work.len()) & (n <= spare.len());
     if !enough {
-        return Repair::Refused(Refusal::ShortWork);
+        return Err(Refusal::ShortWork);
     }
     let r = repair_by(image, work, &mut spare[..n], g);
     clear(spare, n);

@@ -1,7 +1,10 @@
 -- What is asked, test by test.
-use mathlib.Core.Path.{◌≡◌, refl, sym}
-use mathlib.Core.Bool.{Bool, true, false}
+use mathlib.Core.Path.{◌≡◌, refl, sym, ap, ◌∙◌}
+use mathlib.Core.Bool.{Bool, true, false, ◌&&◌}
 use mathlib.Core.List.{List}
+use native.Mathlib.Omega.{arith}
+use Rattle.std.proofs.Common.{Option, Some, None, Result}
+use Rattle.std.specs.Result.{result_ok}
 use Prim.Native.Nat.{ℕ}
 use Rattle.format.specs.Basics.Bytes.{Bytes}
 use Rattle.format.specs.Layout.Geometry.{Geometry}
@@ -21,10 +24,9 @@ use Rattle.kinds.specs.Sizes.{geometry_of}
 use Rattle.tables.specs.Stages.{TablesLeft}
 use Rattle.tables.proofs.WorkLaws.{wrote_two}
 use Rattle.chains.specs.Answers.{length_answer}
-use Rattle.chains.specs.declared.Length.TheVariants.{Never}
-use Rattle.volume.specs.Passed.{EntriesLeft, SystemLeft}
-use Rattle.volume.specs.declared.entry_stage.Entries.{Entries}
-use Rattle.volume.specs.declared.mini_stage.SystemTables.{SystemTables}
+use Rattle.kinds.specs.declared.Refusal.{Refusal}
+use Rattle.volume.specs.Passed.{EntriesLeft, SystemLeft, entries_answer}
+use Rattle.volume.specs.declared.mini_stage.System.{System}
 
 module _ (g : Geometry) (img : Bytes) where
   -- ---- groups 10 and 11
@@ -55,7 +57,7 @@ module _ (g : Geometry) (img : Bytes) where
   unfolding directory_holds volume
   cells_right h = rw h
 
-  pub never : (n : ℕ) → cell_rules (sector_space g img) ≡ false → Never ≡ length_answer (directory_holds (volume g img)) n
+  pub never : (n : ℕ) → cell_rules (sector_space g img) ≡ false → None ≡ length_answer (directory_holds (volume g img)) n
   unfolding length_answer
   never n h = sym (rw (cells_wrong h))
 
@@ -69,18 +71,24 @@ module _ (g : Geometry) (img : Bytes) where
 
   -- ---- 14 to 16
 
-  pub fields_wrong : entry_rules (directory g img) ≡ false → entries_hold (volume g img) ≡ false
-  unfolding entries_hold volume
-  fields_wrong h = rw h
+  pub entries_wrong : (r : Result Unit Refusal) → r ≡ entries_answer (entry_rules (directory g img)) (tree_rules (directory g img)) → None ≡ result_ok r → entries_hold (volume g img) ≡ false
+  unfolding entries_hold volume entries_answer
+  entries_wrong r e h = go (entry_rules (directory g img)) (tree_rules (directory g img)) (h ∙ ap result_ok e)
+    where
+      go : (f t : Bool) → None ≡ result_ok (entries_answer f t) → (f && t && mini_tables (volume g img)) ≡ false
+      go false t k = refl
+      go true false k = refl
+      go true true k = absurd (let z : ◌≡◌ {A = ℕ} 0 1 = cc in omega arith)
 
-  pub trees_wrong : (entry_rules (directory g img) ≡ true) × (tree_rules (directory g img) ≡ false) → entries_hold (volume g img) ≡ false
-  unfolding entries_hold volume
-  trees_wrong h = rw (h.0, h.1)
-
-  pub entries_right : (entry_rules (directory g img) ≡ true) × (tree_rules (directory g img) ≡ true) → entries_hold (volume g img) ≡ mini_tables (volume g img)
-  unfolding entries_hold volume
-  entries_right h = rw (h.0, h.1)
+  pub entries_right : {u : Unit} (r : Result Unit Refusal) → r ≡ entries_answer (entry_rules (directory g img)) (tree_rules (directory g img)) → Some u ≡ result_ok r → entries_hold (volume g img) ≡ mini_tables (volume g img)
+  unfolding entries_hold volume entries_answer
+  entries_right {u} r e h = go (entry_rules (directory g img)) (tree_rules (directory g img)) (h ∙ ap result_ok e)
+    where
+      go : (f t : Bool) → Some u ≡ result_ok (entries_answer f t) → (f && t && mini_tables (volume g img)) ≡ mini_tables (volume g img)
+      go true true k = refl
+      go false t k = absurd (let z : ◌≡◌ {A = ℕ} 0 1 = cc in omega arith)
+      go true false k = absurd (let z : ◌≡◌ {A = ℕ} 0 1 = cc in omega arith)
 
 -- groups 14 and 15 hold: the rest of 16 decides, on what they left
-pub later : {g : Sizes} {img : Bytes} {n : ℕ} {a b : Bool} {w w₁ w₂ : List ℕ} {e : Entries} {r : SystemTables} → a ≡ b → EntriesLeft (geometry_of g) img n w w₁ e → SystemLeft g img b w₁ w₂ r → SystemLeft g img a w w₂ r
+pub later : {g : Sizes} {img : Bytes} {n : ℕ} {a b : Bool} {w w₁ w₂ : List ℕ} {e : Result Unit Refusal} {r : Option System} → a ≡ b → EntriesLeft (geometry_of g) img n w w₁ e → SystemLeft g img b w₁ w₂ r → SystemLeft g img a w w₂ r
 later {g} {img} {w₂ = w₂} {r = r} h l s = record { answer = rw h s.answer; wrote = wrote_two l.wrote s.wrote }

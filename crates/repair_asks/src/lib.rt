@@ -13,13 +13,13 @@ ghost use Rattle.tables.specs.Stages.{TablesLeft};
 ghost use Rattle.chains.specs.Answers.{length_answer};
 ghost use Rattle.volume.specs.Passed.{TablesHold, SystemLeft};
 
-use chains::{Length, cell_rules, directory_length};
+use chains::{cell_rules, directory_length};
 use header::header_rules;
 use kinds::Geometry;
 use tables::Tables;
 use tables::sectors::table_rules;
-use volume::entry_stage::{Entries, entry_tests};
-use volume::mini_stage::{SystemTables, system_tables};
+use volume::entry_stage::entry_tests;
+use volume::mini_stage::{System, system_tables};
 
 // Groups 10 and 11. The FAT's sectors stand listed after them.
 pub fn tables_hold(img: &[u8], work: &mut [u32], g: Geometry) -> bool
@@ -35,7 +35,7 @@ pub fn tables_hold(img: &[u8], work: &mut [u32], g: Geometry) -> bool
 }
 
 // Groups 12 and 13: how many sectors the directory has. The FAT's cells are copied to the start of the work buffer.
-pub fn directory_holds(img: &[u8], work: &mut [u32], t: Tables) -> Length
+pub fn directory_holds(img: &[u8], work: &mut [u32], t: Tables) -> Option<usize>
     requires { FatListed t img.now work.old }
     ensures answer { result
         ≡ length_answer (directory_holds (volume_of t.geometry img.now))
@@ -43,19 +43,16 @@ pub fn directory_holds(img: &[u8], work: &mut [u32], t: Tables) -> Length
     ensures wrote { Wrote work.old work.new 0 (sector_count_of t img.now) }
 {
     if !cell_rules(img, work, t) {
-        return Length::Never;
+        return None;
     }
     directory_length(img, work, t)
 }
 
 // Groups 14, 15 and 16 but for the cells from K on. The system's lists stand after them, and its chains are marked.
-pub fn entries_hold(img: &[u8], work: &mut [u32], g: Geometry, n: usize) -> SystemTables
+pub fn entries_hold(img: &[u8], work: &mut [u32], g: Geometry, n: usize) -> Option<System>
     requires { TablesHold (geometry_of g) img.now work.old n }
     ensures { SystemLeft g img.now (entries_hold (volume_of g img.now)) work.old work.new result }
 {
-    match entry_tests(img, work, g, n) {
-        Entries::WrongFields => SystemTables::Wrong,
-        Entries::WrongTrees => SystemTables::Wrong,
-        Entries::Right => system_tables(img, work, g, n),
-    }
+    entry_tests(img, work, g, n).ok()?;
+    system_tables(img, work, g, n)
 }

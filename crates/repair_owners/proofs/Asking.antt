@@ -4,6 +4,7 @@ use mathlib.Core.Path.{◌≡◌, refl, sym, ap}
 use mathlib.Core.Bool.{Bool, true, false, ◌&&◌}
 use mathlib.Core.List.{List}
 use lib.Dec.{leb}
+use Rattle.std.proofs.Common.{Option, Some, None}
 use lib.ListN.{length}
 use Rattle.format.specs.Basics.Bytes.{Bytes}
 use Rattle.format.specs.Basics.Lists.{all_below}
@@ -23,11 +24,9 @@ use Rattle.tables.specs.Work.{Wrote}
 use Rattle.tables.specs.Views.{volume_of}
 use Rattle.tables.proofs.WorkLaws.{wrote_two}
 use Rattle.minis.specs.Listed.{minis_of}
-use Rattle.volume.specs.Passed.{SystemLeft}
+use Rattle.volume.specs.Passed.{SystemRight, SystemLeft}
 use Rattle.volume.specs.declared.mini_stage.System.{System}
-use Rattle.volume.specs.declared.mini_stage.SystemTables.{SystemTables}
-use Rattle.volume.specs.declared.mini_stage.SystemTables.TheVariants.{Wrong, Right}
-use Rattle.volume.proofs.MiniStage.{system_tables, system_minis}
+use Rattle.volume.proofs.MiniStage.{system_minis}
 use Rattle.repair_laws.proofs.Heads.{entries_minis}
 use Rattle.repair_owners.specs.Streams.{system_holds, StreamsLeft, streams_freed}
 
@@ -37,14 +36,14 @@ module _ (g : Sizes) (img : Bytes) {w w₁ : List ℕ} (o : Wrote w w₁ 0 (work
   abbrev v : Volume
   v = volume (geometry_of g) img
 
-  pub tables_wrong : tables_hold (geometry_of g) img ≡ false → SystemLeft g img (system_holds (geometry_of g) img) w w₁ Wrong
+  pub tables_wrong : tables_hold (geometry_of g) img ≡ false → SystemLeft g img (system_holds (geometry_of g) img) w w₁ None
   tables_wrong h = record { answer = rw h; wrote = o }
 
   module _ (h : tables_hold (geometry_of g) img ≡ true) where
-    pub directory_wrong : directory_holds v ≡ false → SystemLeft g img (system_holds (geometry_of g) img) w w₁ Wrong
+    pub directory_wrong : directory_holds v ≡ false → SystemLeft g img (system_holds (geometry_of g) img) w w₁ None
     directory_wrong d = record { answer = rw (h, d); wrote = o }
 
-    pub entries_decide : directory_holds v ≡ true → {w₂ : List ℕ} {r : SystemTables} → SystemLeft g img (entries_hold v) w₁ w₂ r → SystemLeft g img (system_holds (geometry_of g) img) w w₂ r
+    pub entries_decide : directory_holds v ≡ true → {w₂ : List ℕ} {r : Option System} → SystemLeft g img (entries_hold v) w₁ w₂ r → SystemLeft g img (system_holds (geometry_of g) img) w w₂ r
     entries_decide d l = record { answer = rw (h, d) l.answer; wrote = wrote_two o l.wrote }
 
 -- ---- groups 10 to 17
@@ -84,16 +83,16 @@ module _ (g : Geometry) (img : Bytes) where
 
 -- ---- what the tables that were found are called with, and what they leave
 
-module _ {g : Sizes} {img : Bytes} {b : Bool} {w w₁ : List ℕ} {r : SystemTables} (l : SystemLeft g img b w w₁ r) {s : System} (e : r ≡ Right s) where
+module _ {g : Sizes} {img : Bytes} {b : Bool} {w : List ℕ} {s : System} (r : SystemRight g img b w (Some s)) where
   -- the values of the mini FAT's cells below K
   pub mini_cells_lem : entries_hold (volume (geometry_of g) img) ≡ true → all_below (minis_of s.minis img).limit (mini_cell_right (minis_of s.minis img)) ≡ true
   mini_cells_lem h =
       let q = volume (geometry_of g) img in
-      rw (system_minis l e)
+      rw (system_minis r)
       (both (mini_fat_chain q && mini_stream_chain q && leb q.minis.limit q.minis.cells) (all_below q.minis.limit (mini_cell_right q.minis)) (entries_minis q h)).1
 
   pub freed_own : streams_freed (volume_of s.tables.geometry img) img ≡ streams_freed (volume (geometry_of g) img) img
-  freed_own = ap (λ t. streams_freed (volume_of t.geometry img) img) (system_tables l e)
+  freed_own = ap (λ t. streams_freed (volume_of t.geometry img) img) r.1.0
 
 -- ---- group 17 and the cells
 

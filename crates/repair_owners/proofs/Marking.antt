@@ -1,11 +1,12 @@
 -- The chains of all streams are marked, and what is marked is what is owned.
-use Prim.Native.Nat.{ℕ, ◌+◌, ◌≤◌, ◌<◌}
-use mathlib.Core.Path.{◌≡◌, sym, ap, ◌∙◌}
+use Prim.Native.Nat.{ℕ, ◌+◌, ◌≤◌}
+use mathlib.Core.Path.{◌≡◌, refl, sym, ap, ◌∙◌}
 use mathlib.Core.Bool.{Bool, true, false, not, not-not}
 use mathlib.Core.List.{List, []}
 use native.Mathlib.Omega.{arith}
 use lib.ListN.{length}
-use borrow.Author.Tests.{not-true}
+use Rattle.std.proofs.Common.{Option, Some, None}
+use Rattle.std.specs.Prelude.{is_some}
 use Rattle.format.specs.Basics.Bytes.{Bytes}
 use Rattle.format.specs.Layout.Geometry.{Geometry, sector_count}
 use Rattle.format.specs.Layout.Tables.{sector_space}
@@ -16,7 +17,6 @@ use Rattle.format.specs.Rules.Streams.{stream_rules}
 use Rattle.kinds.specs.Sizes.{geometry_of}
 use Rattle.tables.specs.Work.{Wrote}
 use Rattle.chains.specs.Answers.{is_broken}
-use Rattle.chains.specs.declared.Marked.{Marked}
 use Rattle.minis.specs.Listed.{minis_of}
 use Rattle.system_chains.specs.System.{system_chains}
 use Rattle.owners.specs.Streams.{minis_in, StreamsMarked as AllMarked}
@@ -27,7 +27,11 @@ use Rattle.volume.proofs.Outcomes.{wrote_ours}
 use Rattle.repair_writes.specs.Cells.{MarksSay}
 use Rattle.repair_owners.specs.Streams.{chain_sectors, StreamsMarked, StreamsLeft}
 
-module _ (s : System) (img : Bytes) {w w' : List ℕ} {a : Marked} (h : SystemMarked s.tables s.directory s.minis img w s.shared)
+some_right : (a : Option Bool) → is_some a ≡ not (is_broken a)
+some_right None = refl
+some_right (Some shared) = refl
+
+module _ (s : System) (img : Bytes) {w w' : List ℕ} {a : Option Bool} (h : SystemMarked s.tables s.directory s.minis img w s.shared)
     (x : AllMarked s.tables s.minis s.directory img w w' a) where
   abbrev g : Geometry
   g = geometry_of s.tables.geometry
@@ -50,9 +54,9 @@ module _ (s : System) (img : Bytes) {w w' : List ℕ} {a : Marked} (h : SystemMa
     all_marked : StreamsMarked s img w'
     all_marked = record { lists = lists_kept x.wrote h.lists (omega (arith, before_lists)); sectors = sectors_say; minis = minis_say }
 
-  pub streams_left : (b : Bool) → b ≡ is_broken a → StreamsLeft s img w w' (not b)
-  streams_left b f =
-      let k : not b ≡ stream_rules (volume g img) = ap not (f ∙ x.answer) ∙ not-not (stream_rules (volume g img)) in
+  pub streams_left : StreamsLeft s img w w' (is_some a)
+  streams_left =
+      let k : is_some a ≡ stream_rules (volume g img) = some_right a ∙ ap not x.answer ∙ not-not (stream_rules (volume g img)) in
       record { answer = k; marked = λ q. all_marked (sym k ∙ q); wrote = wrote }
 
 -- ---- where everything stands

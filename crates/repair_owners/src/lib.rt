@@ -15,13 +15,12 @@ ghost use Rattle.minis.specs.Listed.{minis_of};
 ghost use Rattle.volume.specs.Passed.{SystemMarked, SystemLeft};
 ghost use Rattle.repair_owners.specs.Streams.{system_holds, StreamsMarked, StreamsLeft, streams_freed};
 
-use chains::Length;
 use kinds::Geometry;
 use minis::cells_rest;
 use repair_asks::{directory_holds, entries_hold, tables_hold};
 use repair_writes::free_unowned;
 use tables::tables_of;
-use volume::mini_stage::{System, SystemTables};
+use volume::mini_stage::System;
 
 // ---- marks
 
@@ -30,24 +29,22 @@ fn mark_streams(img: &[u8], work: &mut [u32], s: System) -> bool
     requires { SystemMarked s.tables s.directory s.minis img.now work.old s.shared }
     ensures { StreamsLeft s img.now work.old work.new result }
 {
-    !owners::mark_streams(img, work, s.tables, s.minis, s.directory).is_broken()
+    owners::mark_streams(img, work, s.tables, s.minis, s.directory).is_some()
 }
 
 // ---- what is asked
 
 // Groups 10 to 16 but for the mini FAT's cells from K on.
-fn system_holds(img: &[u8], work: &mut [u32], g: Geometry) -> SystemTables
+fn system_holds(img: &[u8], work: &mut [u32], g: Geometry) -> Option<System>
     requires image_sized { ImageSized (geometry_of g) img.now }
     requires img_in_bounds { W img.now ≤ length work.old }
     ensures { SystemLeft g img.now (system_holds (geometry_of g) img.now) work.old work.new result }
 {
     if !tables_hold(img, work, g) {
-        return SystemTables::Wrong;
+        return None;
     }
     let t = tables_of(img, g);
-    let Length::Is(n) = directory_holds(img, work, t) else {
-        return SystemTables::Wrong;
-    };
+    let n = directory_holds(img, work, t)?;
     entries_hold(img, work, g, n)
 }
 
@@ -84,7 +81,7 @@ pub fn free_owners(img: &mut [u8], work: &mut [u32], g: Geometry)
     ensures image { img.new ≡ fourth_step (geometry_of g) img.old }
     ensures wrote { Wrote work.old work.new 0 (work_need (length img.old)) }
 {
-    let SystemTables::Right(s) = system_holds(img, work, g) else {
+    let Some(s) = system_holds(img, work, g) else {
         return;
     };
     if cells_rest(img, work, s.minis) {

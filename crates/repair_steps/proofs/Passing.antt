@@ -4,6 +4,7 @@ use mathlib.Core.Path.{◌≡◌, sym, ◌∙◌, ap}
 use mathlib.Core.Bool.{Bool, true}
 use mathlib.Core.List.{List}
 use lib.ListN.{length}
+use Rattle.std.proofs.Common.{Some}
 use Rattle.format.specs.Basics.Bytes.{Bytes}
 use Rattle.format.specs.Layout.Geometry.{Geometry, sector_count, cells_in}
 use Rattle.format.specs.Layout.Volume.{volume, directory_sectors_of}
@@ -15,12 +16,9 @@ use Rattle.tables.specs.Work.{Wrote}
 use Rattle.tables.specs.Listed.{FatListedAt, list_place, tables_of}
 use Rattle.minis.specs.Listed.{MiniListed}
 use Rattle.minis.proofs.ListLaws.{cells_cover, cells_short}
-use Rattle.volume.specs.Passed.{TablesHold, SystemLeft}
+use Rattle.volume.specs.Passed.{TablesHold, SystemRight}
 use Rattle.volume.specs.declared.mini_stage.System.{System}
-use Rattle.volume.specs.declared.mini_stage.SystemTables.{SystemTables}
-use Rattle.volume.specs.declared.mini_stage.SystemTables.TheVariants.{Right}
 use Rattle.volume.proofs.Verdicts.{cells_listed}
-use Rattle.volume.proofs.MiniStage.{system_tables, system_marked}
 use Rattle.repair_asks.proofs.Asked.{tables_say, cells_say, directory_says}
 use Rattle.repair_laws.specs.Tables.{Tabled}
 use Rattle.repair_laws.proofs.Tabled.{tabled_of, first_tables}
@@ -86,13 +84,13 @@ module _ (s : Sizes) {A : Bytes} {w : List ℕ} (p : TablesPassed (geometry_of s
 
 -- ---- the third
 
-module _ (s : Sizes) {C : Bytes} {b : Bool} {w w₁ : List ℕ} {r : SystemTables} (l : SystemLeft s C b w w₁ r) {y : System} (e : r ≡ Right y) where
+module _ (s : Sizes) {C : Bytes} {b : Bool} {w₁ : List ℕ} {y : System} (r : SystemRight s C b w₁ (Some y)) where
   -- the mini FAT's sizes are the image's
   same : y.minis.geometry ≡ s
-  same = (system_marked l e).lists.same ∙ ap (λ t. t.geometry) (system_tables l e)
+  same = r.1.1.lists.same ∙ ap (λ t. t.geometry) r.1.0
 
   listed : MiniListed y.minis C w₁
-  listed = (system_marked l e).lists.minis
+  listed = r.1.1.lists.minis
 
   pub rest_room : TableRoom (geometry_of s) w₁ y.minis.list (length C) (cells_in (geometry_of s) * y.minis.sectors)
   rest_room = rw same at (mini_room listed)

@@ -9,7 +9,6 @@ ghost use Rattle.header.specs.Sized.{ImageSized, W};
 ghost use Rattle.tables.specs.Work.{Wrote};
 ghost use Rattle.repair_steps.specs.Passed.{TablesPassed, DirectoryPassed};
 
-use chains::Length;
 use header::fat_count;
 use kinds::Geometry;
 use minis::cells_rest;
@@ -18,7 +17,6 @@ use repair_owners::{free_marked, free_owners};
 use repair_writes::{blacken_entries, free_rest};
 use tables::tables_of;
 use volume::entry_stage::open_directory;
-use volume::mini_stage::SystemTables;
 
 // Steps 3 and 4.
 fn repair_entries(img: &mut [u8], work: &mut [u32], g: Geometry, n: usize)
@@ -26,7 +24,7 @@ fn repair_entries(img: &mut [u8], work: &mut [u32], g: Geometry, n: usize)
     ensures image { img.new ≡ third_step (geometry_of g) img.old }
     ensures wrote { Wrote work.old work.new 0 (work_need (length img.old)) }
 {
-    let SystemTables::Right(s) = entries_hold(img, work, g, n) else {
+    let Some(s) = entries_hold(img, work, g, n) else {
         return;
     };
     let m = s.minis;
@@ -48,7 +46,7 @@ fn repair_directory(img: &mut [u8], work: &mut [u32], g: Geometry)
     ensures wrote { Wrote work.old work.new 0 (work_need (length img.old)) }
 {
     let t = tables_of(img, g);
-    let Length::Is(n) = directory_holds(img, work, t) else {
+    let Some(n) = directory_holds(img, work, t) else {
         return;
     };
     let d = open_directory(img, work, g, n);

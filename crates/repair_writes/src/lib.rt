@@ -19,7 +19,7 @@ use chains::is_mark;
 use directory::{Directory, place};
 use entries::entry_type;
 use entry_writes::put_black;
-use kinds::{EntryId, Geometry, Sector};
+use kinds::{EntryId, Geometry, Numbered, Sector};
 use le::{put_u32, u32_at};
 use spaces::listed_place;
 
@@ -50,10 +50,8 @@ pub fn free_rest(img: &mut [u8], work: &[u32], g: Geometry, list: usize, from: u
     requires from_le_to { from ≤ to }
     ensures { img.new ≡ rest_freed (table_in (geometry_of g) work.now list from to) img.old }
 {
-    let mut u = from;
-    while u < to {
+    for u in from..to {
         free_cell(img, work, g, list, u);
-        u += 1;
     }
 }
 
@@ -67,12 +65,10 @@ pub fn free_unowned(img: &mut [u8], work: &[u32], g: Geometry, list: usize, n: u
         ≡ release (table_in (geometry_of g) work.now list n n)
         (pick_below n (may_free (geometry_of g) work.now list at img.old)) img.old }
 {
-    let mut u = 0;
-    while u < n {
+    for u in 0..n {
         if may_free(img, work, g, list, at, u) {
             free_cell(img, work, g, list, u);
         }
-        u += 1;
     }
 }
 
@@ -94,12 +90,10 @@ pub fn blacken_entries(img: &mut [u8], work: &[u32], d: Directory)
     ensures { img.new ≡ blackened (volume_of d.geometry img.old) img.old }
 {
     let n = d.count();
-    let mut x = EntryId::ROOT;
-    while x.below(n) {
+    for x in EntryId::ROOT.until(n) {
         let p = place(work, d, x);
         if has_colour(img, p) {
             put_black(img, p);
         }
-        x = x.next();
     }
 }

@@ -2,9 +2,7 @@
 #![tactic(auto)]
 
 use cfb::list;
-use kinds::refusal_number;
 use le::u32_at;
-use queries::list::List;
 
 // The line of a refusal.
 fn print_refused(n: u32) -> bool {
@@ -18,13 +16,13 @@ fn print_list(image: &[u8]) -> bool {
     let mut work = [0u32; 1664];
     let mut out = io::large_buffer();
     match list(image, &mut work, &mut out) {
-        List::Done(n) => {
+        Ok(n) => {
             if 65536 < n {
                 return false;
             }
             io::write_all(1, &out[..n])
         }
-        List::Refused(a) => print_refused(refusal_number(a)),
+        Err(a) => print_refused(u32::from(a)),
     }
 }
 
@@ -52,8 +50,9 @@ fn one() -> bool {
 
 // A proved loop has to end: no run uses up the turns.
 fn main() {
-    let mut turns: u32 = 1000000;
-    while 0 < turns && one() {
-        turns -= 1;
+    for _ in 0..1000000 {
+        if !one() {
+            return;
+        }
     }
 }

@@ -11,7 +11,7 @@ ghost use Rattle.spaces.specs.Units.{kind_of, number_in, unit_of};
 ghost use Rattle.spaces.specs.Spaces.{kind_for, space_at, unit_bytes, unit_count, listed_place, listed_space, CellListed, UnitListed};
 
 use entries::{start_mini, start_sector};
-use kinds::{CUTOFF, Geometry, MiniSector, Sector};
+use kinds::{CUTOFF, ChainUnit, Geometry, MiniSector, Numbered, Sector};
 use minis::mini_cell;
 use tables::cell_at;
 use volume::Volume;
@@ -114,9 +114,10 @@ pub fn kind_for(n: u64) -> Kind
     ensures { result ≡ kind_for n }
 {
     if n < CUTOFF {
-        return Kind::Minis;
+        Kind::Minis
+    } else {
+        Kind::Sectors
     }
-    Kind::Sectors
 }
 
 // Where a stream of a kind starts, by its entry at a byte place.

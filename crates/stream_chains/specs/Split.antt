@@ -1,5 +1,5 @@
 -- The chains of some streams as lanes: those of mini sectors, and those of sectors.
-use Rattle.std.specs.Prelude.{ℕ, ◌+◌, ◌≤◌, ◌≡◌, false, ◌&&◌, List}
+use Rattle.std.specs.Prelude.{ℕ, ◌+◌, ◌≤◌, ◌≡◌, false, ◌&&◌, Option, Some, None, List}
 use Rattle.format.specs.Basics.Lists.{all_below, join_below}
 use Rattle.format.specs.Layout.Geometry.{mini_bytes}
 use Rattle.format.specs.Layout.Volume.{Volume}
@@ -7,8 +7,6 @@ use Rattle.kinds.specs.declared.Geometry.{Geometry as Sizes}
 use Rattle.lanes.specs.Answers.{LanesShort, lane_right, lane_units}
 use Rattle.stream_chains.specs.Asked.{chain_listed, sectors_listed, minis_listed}
 use Rattle.stream_chains.specs.declared.Counts.{Counts}
-use Rattle.stream_chains.specs.declared.Lanes.{Lanes}
-use Rattle.stream_chains.specs.declared.Lanes.TheVariants.{Wrong, Ready}
 
 -- a volume of these sizes, with so many sectors
 pub record Measured (v : Volume) (g : Sizes) (sectors : ℕ) : Type 0 where
@@ -30,6 +28,6 @@ pub record SplitReady (g : Sizes) (sectors k : ℕ) (starts sizes : List ℕ) (c
   pub lanes : (v : Volume) → Measured v g sectors → Split v k starts sizes c sh sl lh ll
 
 -- the answer: one of the streams has no chain, or the lanes
-abbrev pub SplitAnswer : (g : Sizes) (sectors k : ℕ) (starts sizes sh sl lh ll : List ℕ) → Lanes → Type 0
-SplitAnswer g sectors k starts sizes sh sl lh ll Wrong = (v : Volume) → Measured v g sectors → all_below k (chain_listed v starts sizes) ≡ false
-SplitAnswer g sectors k starts sizes sh sl lh ll (Ready c) = SplitReady g sectors k starts sizes c sh sl lh ll
+abbrev pub SplitAnswer : (g : Sizes) (sectors k : ℕ) (starts sizes sh sl lh ll : List ℕ) → Option Counts → Type 0
+SplitAnswer g sectors k starts sizes sh sl lh ll None = (v : Volume) → Measured v g sectors → all_below k (chain_listed v starts sizes) ≡ false
+SplitAnswer g sectors k starts sizes sh sl lh ll (Some c) = SplitReady g sectors k starts sizes c sh sl lh ll

@@ -1,8 +1,7 @@
 // The chains that the streams of some entries ask for: their starts and sizes, read of many entries at once, and the lanes that mark them.
 #![tactic(auto)]
 
-ghost use Rattle.std.specs.Prelude.{◌≡◌, ◌+◌, ◌-◌, ◌≤◌, ◌<◌, length, set};
-ghost use Rattle.format.specs.Basics.Lists.{bit};
+ghost use Rattle.std.specs.Prelude.{◌≡◌, ◌+◌, ◌-◌, ◌≤◌, ◌<◌};
 ghost use Rattle.tables.specs.Views.{volume_of};
 ghost use Rattle.directory.specs.Listed.{count_of, DirectoryListed};
 ghost use Rattle.stream_chains.specs.Asked.{Gathered};
@@ -11,37 +10,9 @@ ghost use Rattle.stream_chains.specs.Split.{SplitReady, SplitAnswer};
 use chains::{sectors_for, units_for};
 use directory::{Directory, place};
 use entries::{entry_type, size, start_sector};
-use kinds::{CUTOFF, EntryId, Geometry, MiniSector, Sector};
-
-// ---- arrays
-
-// Number i of an array. Lent as a slice, the array has its length known.
-fn put(a: &mut [u32], i: usize, v: u32)
-    requires { i < length a.old }
-    ensures { a.new ≡ set a.old i v }
-{
-    a[i] = v;
-}
-
-fn put_wide(a: &mut [u64], i: usize, v: u64)
-    requires { i < length a.old }
-    ensures { a.new ≡ set a.old i v }
-{
-    a[i] = v;
-}
+use kinds::{CUTOFF, EntryId, Geometry, MiniSector, Numbered, Sector};
 
 // ---- starts and sizes
-
-// One more, if it is so.
-fn counted(k: usize, is: bool) -> usize
-    requires { k < 32 }
-    ensures { result ≡ k + bit is }
-{
-    if is {
-        return k + 1;
-    }
-    k
-}
 
 // Start and size of each stream among the entries from x up to `end`, and how many these are. They are read of each entry, so that many come from
 // memory at once.
@@ -59,13 +30,11 @@ pub fn gather(
     ensures { Gathered (volume_of d.geometry img.now) x.0 (end - x.0) result starts.new sizes.new }
 {
     let mut k: usize = 0;
-    let mut y = x;
-    while y.index() < end {
+    for y in x.until(end) {
         let p = place(work, d, y);
-        put(starts, k, start_sector(img, p).0);
-        put_wide(sizes, k, size(img, p, d.geometry));
-        k = counted(k, entry_type(img, p).is_stream());
-        y = y.next();
+        starts[k] = start_sector(img, p).0;
+        sizes[k] = size(img, p, d.geometry);
+        k += usize::from(entry_type(img, p).is_stream());
     }
     k
 }
@@ -79,14 +48,8 @@ pub struct Counts {
     pub large: usize,
 }
 
-// One of the streams has no chain; or the lanes stand in the arrays.
-#[derive(Clone, Copy)]
-pub enum Lanes {
-    Wrong,
-    Ready(Counts),
-}
-
 // The lane of stream j, behind those of the streams before it. One of 0 bytes has none, and a chain of more sectors than there are is no chain.
+// How many lanes there are then; nothing where the stream has no chain.
 fn add_lane(
     starts: &[u32; 32],
     sizes: &[u64; 32],
@@ -98,7 +61,7 @@ fn add_lane(
     sl: &mut [u32; 32],
     lh: &mut [u32; 32],
     ll: &mut [u32; 32],
-) -> Lanes
+) -> Option<Counts>
     requires j_bound { (j < 32) × (1 < g.bytes) × (sectors < 0x1000_0000) }
     requires split_ready { SplitReady g sectors j starts.now sizes.now c sh.old sl.old lh.old ll.old }
     ensures { SplitAnswer g sectors (j + 1) starts.now sizes.now
@@ -106,35 +69,34 @@ fn add_lane(
 {
     let start = starts[j];
     let size = sizes[j];
-    let small = c.small;
-    let large = c.large;
     if size == 0 {
         if start == Sector::END.0 {
-            return Lanes::Ready(c);
+            return Some(c);
         }
-        return Lanes::Wrong;
+        return None;
     }
     if size < CUTOFF {
-        put(sh, small, start);
-        put(sl, small, units_for(size, MiniSector::BYTES as u64) as u32);
-        return Lanes::Ready(Counts {
-            small: small + 1,
-            large,
+        sh[c.small] = start;
+        sl[c.small] = units_for(size, MiniSector::BYTES as u64) as u32;
+        return Some(Counts {
+            small: c.small + 1,
+            ..c
         });
     }
     let n = sectors_for(size, g);
     if (sectors as u64) < n {
-        return Lanes::Wrong;
+        return None;
     }
-    put(lh, large, start);
-    put(ll, large, n as u32);
-    Lanes::Ready(Counts {
-        small,
-        large: large + 1,
+    lh[c.large] = start;
+    ll[c.large] = n as u32;
+    Some(Counts {
+        large: c.large + 1,
+        ..c
     })
 }
 
-// The lanes of the first k streams: of mini sectors, with starts `sh` and units to go `sl`, and of sectors, with `lh` and `ll`.
+// The lanes of the first k streams: of mini sectors, with starts `sh` and units to go `sl`, and of sectors, with `lh` and `ll`. How many there
+// are; nothing where one of the streams has no chain.
 pub fn split(
     starts: &[u32; 32],
     sizes: &[u64; 32],
@@ -145,20 +107,14 @@ pub fn split(
     sl: &mut [u32; 32],
     lh: &mut [u32; 32],
     ll: &mut [u32; 32],
-) -> Lanes
+) -> Option<Counts>
     requires { (k ≤ 32) × (1 < g.bytes) × (sectors < 0x1000_0000) }
     ensures { SplitAnswer g sectors k starts.now sizes.now
         sh.new sl.new lh.new ll.new result }
 {
     let mut c = Counts { small: 0, large: 0 };
-    let mut j: usize = 0;
-    while j < k {
-        let a = add_lane(starts, sizes, j, g, sectors, c, sh, sl, lh, ll);
-        let Lanes::Ready(more) = a else {
-            return Lanes::Wrong;
-        };
-        c = more;
-        j += 1;
+    for j in 0..k {
+        c = add_lane(starts, sizes, j, g, sectors, c, sh, sl, lh, ll)?;
     }
-    Lanes::Ready(c)
+    Some(c)
 }

@@ -2,6 +2,7 @@
 use Prim.Native.Nat.{ℕ}
 use mathlib.Core.Path.{◌≡◌, sym, ◌∙◌}
 use mathlib.Core.List.{List, []}
+use Rattle.std.specs.Prelude.{Ok, Err}
 use native.Mathlib.Omega.{arith}
 use borrow.Author.Tests.{le-ltb}
 use lib.ListN.{length}
@@ -24,7 +25,6 @@ use Rattle.opened.proofs.Validated.{first_alone}
 use Rattle.opened.proofs.Inside.{answer_in_lem}
 use Rattle.opened.proofs.Calls.{opened_zero}
 use Rattle.streams.specs.Found.{StreamFound}
-use Rattle.streams.specs.declared.FoundStream.TheVariants.{At, Refused}
 
 from_start : (g : Geometry) (v : Volume) (path : Path) (work : List ℕ) → answer_in g v (read path 0 [] work) ≡ target_answer v path
 unfolding answer_in beyond
@@ -35,11 +35,11 @@ module _ {v : Opened} {img : Bytes} {w : List ℕ} (s : OpenVolume v img w) (pat
   unfolding work_of
   answer_is = answer_in_lem (version_of img) img (read path 0 [] w) (opened_zero s (length w) s.room) ∙ from_start (version_of img) (own_volume img) path w
 
-  pub stream_refused : (a : Refusal) → target_answer (volume_in v img) path ≡ refusal_number a → StreamFound img path w (Refused a)
+  pub stream_refused : (a : Refusal) → target_answer (volume_in v img) path ≡ refusal_number a → StreamFound img path w (Err a)
   stream_refused a h = answer_is ∙ (rw s.version at h)
 
   pub stream_found_lem : (e : Object) → StreamAt (volume_in v img) e → (target_answer (volume_in v img) path ≡ 0) × (target (volume_in v img) path ≡ e.id.0)
-      → StreamFound img path w (At e)
+      → StreamFound img path w (Ok e)
   stream_found_lem e t h =
       let k : (target_answer (own_volume img) path ≡ 0) × (target (own_volume img) path ≡ e.id.0) = rw s.version at h in
       (answer_is ∙ k.0, (rw s.version at t, sym k.1))

@@ -17,32 +17,21 @@ use chains::units_for;
 use directory::place;
 use kinds::Refusal;
 use le::{copy_part, least};
-use queries::find::{Find, Object, find_in, refusal};
+use queries::find::{Object, find_in};
 use spaces::{Unit, kind_for, start_unit, unit_bytes, unit_place};
 use unitlists::list_units;
 use volume::Volume;
 
-// A stream of an opened volume.
-#[derive(Clone, Copy)]
-pub enum FoundStream {
-    At(Object),
-    Refused(Refusal),
-}
-
 // The stream that a path leads to.
-pub fn find_stream(image: &[u8], work: &[u32], v: Volume, path: &[u16]) -> FoundStream
+pub fn find_stream(image: &[u8], work: &[u32], v: Volume, path: &[u16]) -> Result<Object, Refusal>
     requires { OpenVolume v image.now work.now }
     ensures { StreamFound image.now path.now work.now result }
 {
-    let f = find_in(path, image, work, v);
-    let Find::Entry(e) = f else {
-        return FoundStream::Refused(refusal(f));
-    };
-    let t = e.entry_type;
-    if !t.is_stream() {
-        return FoundStream::Refused(Refusal::NotAStream);
+    let e = find_in(path, image, work, v)?;
+    if !e.entry_type.is_stream() {
+        return Err(Refusal::NotAStream);
     }
-    FoundStream::At(e)
+    Ok(e)
 }
 
 // Lists a stream's units at the start of the work buffer.
@@ -68,6 +57,7 @@ pub fn read_part(image: &[u8], work: &[u32], v: Volume, e: Object, offset: usize
     let kind = kind_for(e.size);
     let bytes = unit_bytes(v, kind);
     let end = out.len();
+    // Each step reads what is left of the unit at hand, as far as there is room.
     let mut i = 0;
     while i < end {
         let at = offset + i;

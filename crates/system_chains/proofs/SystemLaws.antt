@@ -1,7 +1,8 @@
 -- The walks along the chains that the system has, by what `format` says of them.
 use Prim.Native.Nat.{ℕ, ◌+◌, ◌%◌, ◌≤◌, ◌<◌}
+use Rattle.std.specs.Prelude.{Option}
 use mathlib.Core.Path.{◌≡◌, sym, ◌∙◌, ap, ap₂}
-use mathlib.Core.Bool.{true, false}
+use mathlib.Core.Bool.{Bool, true, false}
 use mathlib.Core.List.{List}
 use native.Mathlib.Omega.{arith}
 use lib.Dec.{eqb}
@@ -25,7 +26,6 @@ use Rattle.tables.specs.Work.{Wrote}
 use Rattle.tables.specs.Views.{volume_of, sector_count_of, sectors_of}
 use Rattle.tables.specs.declared.Tables.{Tables}
 use Rattle.chains.specs.Answers.{Markable, UnitsWalked, ChainsMarked}
-use Rattle.chains.specs.declared.Marked.{Marked}
 use Rattle.chains.proofs.Owners.{marked_chain}
 use Rattle.entries.specs.Entry.{entry_at}
 use Rattle.directory.specs.Listed.{entries_of, place_of, DirectoryListed}
@@ -72,7 +72,7 @@ module _ {t : Tables} {img : Bytes} {w : List ℕ} (z : SectorsMarkable t img w)
   in_work = (omega (arith, z.units.room, z.count), omega (arith, z.units.few, z.count))
 
   -- a chain of n sectors from s
-  module _ (n s : ℕ) {w' : List ℕ} {a : Marked} (r : UnitsWalked 0 t.sectors n s w w' a) where
+  module _ (n s : ℕ) {w' : List ℕ} {a : Option Bool} (r : UnitsWalked 0 t.sectors n s w w' a) where
     pub sectors_marked : ChainsMarked (sector_space g img) 0 (chain (fat_cell g img) (sector_count g img) n s) (units (fat_cell g img) n s) w w' a
     unfolding sector_space
     sectors_marked = marked_chain n s z.units (r (sector_space g img) (sym z.count) z.units)

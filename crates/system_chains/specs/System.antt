@@ -1,5 +1,5 @@
 -- The chains that the system has, and the lists that the walks along them need.
-use Rattle.std.specs.Prelude.{ℕ, ◌≤◌, ◌≡◌, Bool, ◌&&◌, List, ◌++◌}
+use Rattle.std.specs.Prelude.{ℕ, ◌≤◌, ◌≡◌, Bool, ◌&&◌, Option, List, ◌++◌}
 use Rattle.format.specs.Basics.Bytes.{Bytes}
 use Rattle.format.specs.Layout.Geometry.{Geometry}
 use Rattle.format.specs.Layout.Volume.{Volume, directory_sectors_of, mini_fat_sectors, mini_stream_sectors}
@@ -10,7 +10,6 @@ use Rattle.tables.specs.Views.{volume_of, sector_count_of, cells_of, sectors_of}
 use Rattle.tables.specs.declared.Tables.{Tables}
 use Rattle.header.specs.Sized.{ImageSized}
 use Rattle.chains.specs.Answers.{Markable, ChainsMarked}
-use Rattle.chains.specs.declared.Marked.{Marked}
 use Rattle.directory.specs.Listed.{DirectoryListed}
 use Rattle.directory.specs.declared.Directory.{Directory}
 
@@ -36,7 +35,7 @@ abbrev pub system_right : Volume → Bool
 system_right v = mini_fat_chain v && mini_stream_chain v
 
 -- all of them have been marked
-abbrev pub SystemWalked : Tables → Bytes → List ℕ → List ℕ → Marked → Type 0
+abbrev pub SystemWalked : Tables → Bytes → List ℕ → List ℕ → Option Bool → Type 0
 SystemWalked t img before after a =
     ChainsMarked (sectors_of t img) 0 (system_right (volume_of t.geometry img)) (system_chains (geometry_of t.geometry) img) before after a
 

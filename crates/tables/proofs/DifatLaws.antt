@@ -5,11 +5,17 @@ use mathlib.Core.Bool.{Bool, true, false}
 use mathlib.Core.List.{List}
 use mathlib.Core.Logic.{inr}
 use native.Mathlib.Numerals.{add-one}
-use native.Mathlib.Nat.{div-lt_iff_lt-mul, mod-lt, mul_comm, mul-le-mul_right}
+use native.Mathlib.Nat.{div-lt_iff_lt-mul, div-eq_of_lt-le, add-mul, zero-add, mod-lt, mul_comm, mul-le-mul_right}
 use native.Mathlib.Omega.{arith}
 use lib.Dec.{eqb}
 use lib.ListN.{length, set}
 use borrow.Author.Tests.{lt-ltb, le-ltb}
+use Rattle.std.specs.Int.{div_ceil}
+use Rattle.std.specs.Bool.{MatchBool}
+use Rattle.std.specs.List.{AllWithin, HoldsAt, range_with_len}
+use Rattle.std.proofs.lemmas.List.FromFn.{length-range_with_len, get_or-range_with_len}
+use Rattle.std.proofs.lemmas.Grind.{div_ceil_times}
+use Rattle.format.specs.Layout.Need.{round_up}
 use Rattle.format.specs.Basics.Lists.{all_below}
 use Rattle.format.specs.Basics.Bytes.{Bytes}
 use Rattle.format.specs.Layout.Geometry.{Geometry, header_difat, sector_count, cells_in, difat_in}
@@ -18,7 +24,7 @@ use Rattle.format.specs.Layout.Header.{fat_count, difat_start, difat_count}
 use Rattle.format.specs.Layout.Tables.{difat_sector, difat_entry}
 use Rattle.format.specs.Rules.Tables.{difat_need, difat_ends, difat_rest, spare_entry_free}
 use Rattle.theory.proofs.RoundUp.{round_enough}
-use Rattle.theory.proofs.Tests.{clash}
+use Rattle.theory.proofs.Tests.{clash, below_of}
 use Rattle.header.specs.Sized.{ImageSized, F, D}
 use Rattle.tables.specs.Words.{word_in}
 use Rattle.tables.specs.Work.{Wrote, Holds}
@@ -28,6 +34,11 @@ use Rattle.theory.proofs.Loops.{below_none, below_more, below_not}
 use Rattle.tables.proofs.WorkLaws.{wrote_none, wrote_set, holds_none, holds_more, holds_kept}
 
 -- ---- the counts
+
+-- a division that rounds up, as code has it
+pub round_up_is : (n d : ℕ) → 0 < d → div_ceil n d ≡ round_up n d
+unfolding round_up
+round_up_is n d h = let b = div_ceil_times n d h in sym (div-eq_of_lt-le d (omega (arith, b)) (omega (arith, b, add-mul (div_ceil n d) 1 d)))
 
 module _ {g : Geometry} {img : Bytes} (z : ImageSized g img) where
   pub difat_some : 127 ≤ difat_in g
@@ -71,12 +82,11 @@ pub record DifatWalk (g : Geometry) (img : Bytes) (w₀ : List ℕ) (at : ℕ) (
   pub good : all_below j (difat_below g img) ≡ true
   pub wrote : Wrote w₀ w at (D img)
   pub holds : Holds w at j (difat_sector g img)
-  pub some : j ≤ D img
 
 module _ {g : Geometry} {img : Bytes} {w₀ : List ℕ} {at : ℕ} where
   pub difat_start_lem : {s : ℕ} → s ≡ difat_start img → at ≤ length w₀ → DifatWalk g img w₀ at w₀ s 0
   difat_start_lem e l =
-      record { here = rw (difat_first g img) e; good = below_none _; wrote = wrote_none _ _ _; holds = holds_none _ _ _ l; some = omega arith }
+      record { here = rw (difat_first g img) e; good = below_none _; wrote = wrote_none _ _ _; holds = holds_none _ _ _ l }
 
   module _ {w : List ℕ} {s j : ℕ} (a : DifatWalk g img w₀ at w s j) where
     pub difat_step : (s' : ℕ) → j < D img → s < sector_count g img → at + D img ≤ length w₀ → s' ≡ word_in g img s (difat_in g) → DifatWalk g img w₀ at (set w (at + j) s) s' (j + 1)
@@ -86,7 +96,6 @@ module _ {g : Geometry} {img : Bytes} {w₀ : List ℕ} {at : ℕ} where
           good = below_more (difat_below g img) j a.good (difat_below_lem g img j (rw (← a.here) h));
           wrote = wrote_set (at + j) s a.wrote (omega arith) (omega arith);
           holds = holds_more s a.holds (omega (arith, a.wrote.long)) a.here;
-          some = omega arith;
         }
 
     pub difat_out : j < D img → sector_count g img ≤ s → DifatListed g img w₀ w at false
@@ -97,10 +106,9 @@ module _ {g : Geometry} {img : Bytes} {w₀ : List ℕ} {at : ℕ} where
           holds = λ e. absurd (clash e refl);
         }
 
-    pub difat_end : D img ≤ j → DifatListed g img w₀ w at (eqb s END)
+    pub difat_end : j ≡ D img → DifatListed g img w₀ w at (eqb s END)
     unfolding difat_ends difat_count
-    difat_end l =
-        let z : j ≡ D img = omega (arith, a.some) in
+    difat_end z =
         record {
           answer = sym (rw (← z, a.good, ← a.here));
           wrote = a.wrote;
@@ -111,7 +119,6 @@ module _ {g : Geometry} {img : Bytes} {w₀ : List ℕ} {at : ℕ} where
 
 -- the buffer has the first k
 pub record FatWalk (g : Geometry) (img : Bytes) (w₀ : List ℕ) (at : ℕ) (w : List ℕ) (k : ℕ) : Type 0 where
-  pub some : k ≤ F img
   pub wrote : Wrote w₀ w at (F img)
   pub holds : Holds w at k (difat_entry g img)
   pub difats : Difats g img w (at + F img)
@@ -120,24 +127,21 @@ pub record FatWalk (g : Geometry) (img : Bytes) (w₀ : List ℕ) (at : ℕ) (w 
 pub difats_kept : {g : Geometry} {img : Bytes} {w w' : List ℕ} {at : ℕ} → Difats g img w (at + F img) → Wrote w w' at (F img) → Difats g img w' (at + F img)
 difats_kept d r = record { counted = d.counted; holds = holds_kept d.holds r (inr (omega arith)); below = d.below }
 
-module _ {g : Geometry} {img : Bytes} {w₀ : List ℕ} {at : ℕ} where
-  pub fat_start : Difats g img w₀ (at + F img) → FatWalk g img w₀ at w₀ 0
-  fat_start d = record { some = omega arith; wrote = wrote_none _ _ _; holds = holds_none _ _ _ (omega (arith, d.holds.room)); difats = d }
-
-  pub fat_step : {w : List ℕ} {k : ℕ} (v : ℕ) → FatWalk g img w₀ at w k → k < F img → v ≡ difat_entry g img k → FatWalk g img w₀ at (set w (at + k) v) (k + 1)
-  fat_step {w} {k} v a l e =
-      record {
-        some = omega arith;
-        wrote = wrote_set (at + k) v a.wrote (omega arith) (omega arith);
-        holds = holds_more v a.holds (omega (arith, a.difats.holds.room)) e;
-        difats = difats_kept a.difats (wrote_set {at = at} {n = F img} (at + k) v (wrote_none w at (F img)) (omega arith) (omega arith));
-      }
-
 -- ---- the entries after these
 
-pub entry_free : (g : Geometry) (img : Bytes) (f i x : ℕ) (b : Bool) → f ≡ F img → x ≡ difat_entry g img (f + i) → eqb x FREE ≡ b → spare_entry_free g img i ≡ b
+pub spare_is : (g : Geometry) (img : Bytes) (f i : ℕ) → f ≡ F img → spare_entry_free g img i ≡ eqb (difat_entry g img (f + i)) FREE
 unfolding spare_entry_free fat_count
-entry_free g img f i x b e d h = rw (← e, ← d) h
+spare_is g img f i e = rw e
+
+-- what a test of the first n numbers says
+pub range_answer : (p : ℕ → Bool) (n : ℕ) (r : Bool)
+    → MatchBool r (AllWithin (λ i. p i ≡ true) (range_with_len 0 n) 0 (length (range_with_len 0 n))) ((k : ℕ) × (k < length (range_with_len 0 n)) × HoldsAt (λ i. p i ≡ false) (range_with_len 0 n) k)
+    → r ≡ all_below n p
+range_answer p n true h =
+    sym (below_of n p (λ k l. rw (get_or-range_with_len 0 n k 0 l, zero-add) at (h k 0 (omega arith) (omega (arith, length-range_with_len 0 n)))))
+range_answer p n false h =
+    let l : h.0 < n = omega (arith, h.1, length-range_with_len 0 n) in
+    sym (below_not p n h.0 l (rw (get_or-range_with_len 0 n h.0 0 l, zero-add) at (h.2 0)))
 
 pub rest_is : (g : Geometry) (img : Bytes) → difat_rest g img ≡ all_below (header_difat + difat_in g * D img - F img) (spare_entry_free g img)
 unfolding difat_rest fat_count difat_count

@@ -1,7 +1,7 @@
 -- The walk that marks the sectors of a list.
 use Prim.Native.Nat.{ℕ, ◌+◌, ◌≤◌, ◌<◌}
 use mathlib.Core.Path.{◌≡◌, refl, sym, ◌∙◌, ap}
-use mathlib.Core.Bool.{true, false}
+use mathlib.Core.Bool.{false}
 use mathlib.Core.List.{List}
 use mathlib.Core.Logic.{inl, inr, ⊎_elim}
 use native.Mathlib.Decide.{ℕ_discrete}
@@ -31,7 +31,6 @@ times_le w at k n s h = count_le s k n (listed w at) h
 
 -- the first k are marked
 pub record ListWalk (w₀ : List ℕ) (n at count v : ℕ) (w : List ℕ) (k : ℕ) : Type 0 where
-  pub some : k ≤ count
   pub wrote : Wrote w₀ w 0 n
   pub marked : ListMarked w₀ w n at k v
 
@@ -39,7 +38,6 @@ module _ {w₀ : List ℕ} {n at count v : ℕ} where
   pub list_start : ListWalk w₀ n at count v w₀ 0
   list_start =
       record {
-        some = omega arith;
         wrote = wrote_none _ _ _;
         marked = record { below = λ k h. absurd (omega arith); marked = λ s l. inl (times_none w₀ at s, refl) };
       }
@@ -52,7 +50,6 @@ module _ {w₀ : List ℕ} {n at count v : ℕ} where
     pub list_step : (u : ℕ) → k < count → n ≤ length w₀ → 0 < v → u ≡ listed w₀ at k → u < n → get_or w u 0 ≤ 0 → ListWalk w₀ n at count v (set w u v) (k + 1)
     list_step u l r p e h z =
         record {
-          some = omega arith;
           wrote = wrote_set u v a.wrote (omega arith) (omega arith);
           marked =
               record {
@@ -95,6 +92,3 @@ module _ {w₀ : List ℕ} {n at count v : ℕ} where
                     (a.marked.marked u h),
               );
         }
-
-    pub list_end : count ≤ k → ListLeft w₀ w n at count v true
-    list_end l = let z : k ≡ count = omega (arith, a.some) in record { wrote = a.wrote; answer = rw (← z) a.marked }

@@ -19,7 +19,7 @@ use Rattle.theory.proofs.Tests.{clash, both, below_at}
 use Rattle.header.specs.Sized.{ImageSized, F, D, W}
 use Rattle.tables.specs.Work.{Wrote, Holds}
 use Rattle.tables.specs.Listed.{FatListedAt, list_place}
-use Rattle.tables.specs.Stages.{Counted, difat_below, DifatArgs, DifatListed, Difats, ListArgs, ListMarked, ListLeft, StageArgs, Built, ListsLeft, MarksLeft, TablesLeft}
+use Rattle.tables.specs.Stages.{Counted, difat_below, DifatListed, Difats, ListMarked, ListLeft, StageArgs, Built, ListsLeft, MarksLeft, TablesLeft}
 use Rattle.tables.proofs.WorkLaws.{wrote_two, wrote_wider, holds_kept, cleared, wrote_cleared}
 use Rattle.tables.proofs.SectorLaws.{Unmarked, apart, few_tables, difats_out, fat_in, sectors_pass}
 
@@ -75,23 +75,12 @@ module _ (g : Geometry) (img : Bytes) where
 
 -- ---- the lists
 
-pub difat_args : {g : Geometry} {img : Bytes} {w : List ℕ} {n f d list : ℕ} → StageArgs g img w n f d list → DifatArgs g img w n (list + f) d
-difat_args a = record { sized = a.counted.sized; count = a.sectors; many = a.difats; room = omega (arith, a.place, a.fats, a.room) }
-
 module _ {g : Geometry} {img : Bytes} {w₁ w₂ : List ℕ} {n f d list : ℕ} (a : StageArgs g img w₁ n f d list) where
   -- what the listing of the DIFAT's sectors left, in the image's own numbers
   pub left_listed : {r : Bool} → DifatListed g img w₁ w₂ (list + f) r → DifatListed g img w₁ w₂ (list + F img) r
   left_listed l = rw a.fats at l
 
   module _ {r : Bool} (l : DifatListed g img w₁ w₂ (list + F img) r) where
-    pub lists_fail : r ≡ false → ListsLeft g img w₁ w₂ list false
-    lists_fail e =
-        record {
-          answer = sym (rw (sym l.answer ∙ e));
-          wrote = wrote_wider list (F img + D img) l.wrote (omega arith) (omega arith);
-          built = λ e. absurd (clash e refl);
-        }
-
     pub lists_difats : r ≡ true → Difats g img w₂ (list + F img)
     lists_difats e = record { counted = a.counted; holds = l.holds e; below = difats_below g img (sym l.answer ∙ e) }
 
@@ -129,19 +118,6 @@ module _ {g : Geometry} {img : Bytes} {w₀ w₁ : List ℕ} {n f d list : ℕ} 
       }
 
 module _ {g : Geometry} {img : Bytes} {w : List ℕ} {n f d list : ℕ} (a : StageArgs g img w n f d list) where
-  pub fat_args : Built g img w list → ListArgs w n list f 1
-  fat_args b =
-      record { apart = omega (arith, apart a, a.sectors); room = omega (arith, b.fats.room, a.fats); mark = omega arith; small = omega (arith, a.sectors, a.counted.sized.few) }
-
-  pub difat_list : {w₂ : List ℕ} → Built g img w list → Wrote w w₂ 0 (sector_count g img) → ListArgs w₂ n (list + f) d 2
-  difat_list b wr =
-      record {
-        apart = omega (arith, apart a, a.sectors);
-        room = omega (arith, b.difats.room, a.fats, a.difats, wr.long);
-        mark = omega arith;
-        small = omega (arith, a.sectors, a.counted.sized.few);
-      }
-
   -- what each marking left, in the image's own numbers
   pub left_fats : {w₂ : List ℕ} {r t : Bool} → ListLeft w w₂ n list f 1 r → r ≡ t → ListLeft w w₂ (sector_count g img) list (F img) 1 t
   left_fats l e = rw (a.sectors, a.fats, e) at l

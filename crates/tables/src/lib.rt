@@ -14,7 +14,7 @@ ghost use Rattle.tables.specs.Listed.{FatListed, TableListed, tables_of};
 
 use cells::{all_free, copy_cells};
 use header::{difat_count, fat_count, sector_count, work_need};
-use kinds::{Geometry, Sector};
+use kinds::{Geometry, Numbered, Sector};
 use le::{least, u32_at};
 
 pub mod sectors;
@@ -83,12 +83,11 @@ pub fn table_free(
     let n = end - low;
     let mut ok = true;
     let mut i = 0;
+    // A turn takes the cells of one block.
     while i < n {
-        let b = block_at(work, g, list, low + i, end);
-        let p = b.place;
-        let k = b.cells;
-        ok = ok & all_free(&img[p..p + 4 * k]);
-        i += k;
+        let Block { place, cells } = block_at(work, g, list, low + i, end);
+        ok &= all_free(&img[place..place + 4 * cells]);
+        i += cells;
     }
     ok
 }
@@ -114,19 +113,17 @@ pub fn copy_table(
 {
     let mut ok = true;
     let mut i = 0;
+    // A turn takes the cells of one block.
     while i < limit {
-        let b = block_at(work, g, list, i, limit);
-        let p = b.place;
-        let k = b.cells;
+        let Block { place, cells } = block_at(work, g, list, i, limit);
         let to = at + i;
-        ok = ok
-            & copy_cells(
-                &mut work[to..to + k],
-                &img[p..p + 4 * k],
-                limit as u32,
-                special,
-            );
-        i += k;
+        ok &= copy_cells(
+            &mut work[to..to + cells],
+            &img[place..place + 4 * cells],
+            limit as u32,
+            special,
+        );
+        i += cells;
     }
     ok
 }

@@ -10,12 +10,12 @@ ghost use Rattle.tables.specs.Listed.{FatListed};
 ghost use Rattle.tables.specs.Stages.{DifatArgs, DifatListed, Difats, ListArgs, ListLeft, TableMarked, TablesLeft};
 ghost use Rattle.tables.specs.Stages.{StageArgs, Built, ListsLeft, MarksLeft};
 
-use super::{Tables, block_at, word_in};
+use super::{Block, Tables, block_at, word_in};
 use cells::marks_agree;
 use header::{
     DIFAT_ENTRIES, difat_count, difat_in_header, difat_start, fat_count, sector_count, work_need,
 };
-use kinds::{Geometry, Sector};
+use kinds::{ChainUnit, Geometry, Numbered, Sector};
 use le::zero_first;
 
 // ---- counts
@@ -35,12 +35,7 @@ pub fn difat_need(g: Geometry, f: usize) -> usize
     requires { (512 ≤ g.bytes) × (g.bytes ≤ 4096) × (f < 0x1_0000_0000) }
     ensures { result ≡ difat_need (geometry_of g) f }
 {
-    let mut over = 0;
-    if DIFAT_ENTRIES < f {
-        over = f - DIFAT_ENTRIES;
-    }
-    let per = g.difat();
-    (over + (per - 1)) / per
+    f.saturating_sub(DIFAT_ENTRIES).div_ceil(g.difat())
 }
 
 // ---- the DIFAT's sectors and entries
@@ -52,14 +47,12 @@ pub fn list_difats(img: &[u8], work: &mut [u32], g: Geometry, n: usize, at: usiz
 {
     let link = g.difat();
     let mut s = difat_start(img);
-    let mut j = 0;
-    while j < d {
+    for j in 0..d {
         if !s.below(n) {
             return false;
         }
         work[at + j] = s.0;
         s = Sector(word_in(img, g, s, link));
-        j += 1;
     }
     s.is_end()
 }
@@ -85,11 +78,8 @@ pub fn list_fats(img: &[u8], work: &mut [u32], g: Geometry, at: usize, f: usize)
     ensures wrote { Wrote work.old work.new at (F img.now) }
     ensures holds { Holds work.new at (F img.now) (difat_entry (geometry_of g) img.now) }
 {
-    let mut k = 0;
-    while k < f {
-        let s = difat_entry(img, work, g, at + f, k);
-        work[at + k] = s.0;
-        k += 1;
+    for k in 0..f {
+        work[at + k] = difat_entry(img, work, g, at + f, k).0;
     }
 }
 
@@ -100,15 +90,7 @@ pub fn difat_rest(img: &[u8], work: &[u32], g: Geometry, at: usize, f: usize, d:
     ensures { result ≡ difat_rest (geometry_of g) img.now }
 {
     let end = DIFAT_ENTRIES + g.difat() * d - f;
-    let mut i = 0;
-    while i < end {
-        let s = difat_entry(img, work, g, at, f + i);
-        if !s.is_free() {
-            return false;
-        }
-        i += 1;
-    }
-    true
+    (0..end).all(|i| difat_entry(img, work, g, at, f + i).is_free())
 }
 
 // ---- marks
@@ -118,17 +100,12 @@ pub fn mark_list(work: &mut [u32], n: usize, at: usize, count: usize, v: u32) ->
     requires { ListArgs work.old n at count v }
     ensures { ListLeft work.old work.new n at count v result }
 {
-    let mut k = 0;
-    while k < count {
+    for k in 0..count {
         let s = Sector(work[at + k]);
-        if !s.below(n) {
-            return false;
-        }
-        if 0 < work[s.index()] {
+        if !s.below(n) || 0 < work[s.index()] {
             return false;
         }
         work[s.index()] = v;
-        k += 1;
     }
     true
 }
@@ -143,12 +120,11 @@ pub fn table_marks(img: &[u8], work: &[u32], t: Tables) -> bool
     let n = t.sectors;
     let mut ok = true;
     let mut i = 0;
+    // A turn takes the cells of one block.
     while i < n {
-        let b = block_at(work, g, t.list, i, n);
-        let p = b.place;
-        let k = b.cells;
-        ok = ok & marks_agree(&img[p..p + 4 * k], &work[i..i + k]);
-        i += k;
+        let Block { place, cells } = block_at(work, g, t.list, i, n);
+        ok &= marks_agree(&img[place..place + 4 * cells], &work[i..i + cells]);
+        i += cells;
     }
     ok
 }
@@ -190,21 +166,14 @@ pub fn mark_tables(
     ensures { MarksLeft (geometry_of g) img.now work.old work.new list result }
 {
     zero_first(work, n);
-    if !mark_list(work, n, list, f, 1) {
-        return false;
-    }
-    if !mark_list(work, n, list + f, d, 2) {
-        return false;
-    }
-    table_marks(
-        img,
-        work,
-        Tables {
-            geometry: g,
-            sectors: n,
-            list: list,
-        },
-    )
+    let t = Tables {
+        geometry: g,
+        sectors: n,
+        list,
+    };
+    mark_list(work, n, list, f, 1)
+        && mark_list(work, n, list + f, d, 2)
+        && table_marks(img, work, t)
 }
 
 // Group 11. Where it holds, the FAT's sectors stand listed in the work buffer.
@@ -218,15 +187,9 @@ pub fn table_rules(img: &[u8], work: &mut [u32], g: Geometry) -> bool
     let n = sector_count(img, g);
     let f = fat_count(img) as usize;
     let d = difat_count(img) as usize;
-    if !table_counts(img, g) {
-        return false;
-    }
-    if n < f + d {
+    if !table_counts(img, g) || n < f + d {
         return false;
     }
     let list = need - (f + d);
-    if !list_tables(img, work, g, n, f, d, list) {
-        return false;
-    }
-    mark_tables(img, work, g, n, f, d, list)
+    list_tables(img, work, g, n, f, d, list) && mark_tables(img, work, g, n, f, d, list)
 }

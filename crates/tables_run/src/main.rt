@@ -19,19 +19,12 @@ fn room() -> [u8; 583680]
 fn within(n: u32) -> usize
     ensures { result ≤ 583680 }
 {
-    let k = n as usize;
-    if k < 583680 {
-        return k;
-    }
-    583680
+    (n as usize).min(583680)
 }
 
 // Writes a number where there is room for it.
 fn put(image: &mut [u8], at: usize, v: u32) {
-    if image.len() < 4 {
-        return;
-    }
-    if image.len() - 4 < at {
+    if image.len() < 4 || image.len() - 4 < at {
         return;
     }
     put_u32(image, at, v);
@@ -40,11 +33,9 @@ fn put(image: &mut [u8], at: usize, v: u32) {
 // Writes so many numbers from a place on, each more than the one before by the step.
 fn fill(image: &mut [u8], place: u32, count: u32, first: u32, step: u32) {
     let mut v = first;
-    let mut i: u32 = 0;
-    while i < count {
+    for i in 0..count {
         put(image, place as usize + 4 * (i as usize), v);
-        v = std::num::wrapping_add_u32(v, step);
-        i += 1;
+        v = v.wrapping_add(step);
     }
 }
 
@@ -66,12 +57,10 @@ fn read_fill(image: &mut [u8]) -> bool {
 
 // So many fills; says whether they were there.
 fn fills(image: &mut [u8], count: u32) -> bool {
-    let mut i = 0;
-    while i < count {
+    for _ in 0..count {
         if !read_fill(image) {
             return false;
         }
-        i += 1;
     }
     true
 }
@@ -104,8 +93,9 @@ fn group() -> bool {
 
 // A proved loop has to end: no run uses up the turns.
 fn main() {
-    let mut turns: u32 = 1000000;
-    while 0 < turns && group() {
-        turns -= 1;
+    for _ in 0..1000000 {
+        if !group() {
+            return;
+        }
     }
 }

@@ -4,16 +4,12 @@ use mathlib.Core.List.{[], ◌∷◌, ◌++◌, append_assoc}
 use Prim.Native.Nat.{ℕ, suc, ◌+◌, ◌-◌, ◌≤◌, ◌<◌}
 use native.Mathlib.Numerals.{add-one}
 use native.Mathlib.Omega.{arith}
-use lib.ListN.{length, take, drop, get_or, set, length-append, length-drop, take-append-drop}
-use lib.Seq.{take_all, take_at, take-append_seam, drop-append_seam, drop-cons, drop-drop, set_at, append_snoc, length-take-le}
+use lib.ListN.{length, take, drop, get_or, set, length-append, take-append-drop}
+use lib.Seq.{take_at, take-append_seam, drop-append_seam, drop-cons, drop-drop, set_at, append_snoc, length-take-le}
 use Rattle.format.specs.Basics.Bytes.{Bytes}
 use Rattle.format.specs.Calls.Read.{over}
 use Rattle.theory.proofs.Sets.{sub_take}
 use Rattle.text.proofs.Over.{over_length, over_lent}
-
--- what a call is lent from a place on
-pub lent_length : (out : Bytes) (k : ℕ) → length (take (length out - k) (drop k out)) ≡ length out - k
-lent_length out k = rw (take_all (length out - k) (drop k out) (omega (arith, length-drop k out))) (length-drop k out)
 
 pub over_set : (a out : Bytes) (v : ℕ) {k : ℕ} → k ≡ length a → k < length out → set (over a out) k v ≡ over (a ++ (v ∷ [])) out
 unfolding over

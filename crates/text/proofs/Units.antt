@@ -8,23 +8,11 @@ use native.Mathlib.Omega.{arith}
 use lib.Dec.{leb}
 use lib.ListN.{length, take, get_or, set, length-append}
 use lib.Seq.{take-suc}
-use borrow.Author.Tests.{lt-ltb, le-ltb, leb-true}
 use Rattle.format.specs.Basics.Bytes.{Bytes}
 use Rattle.format.specs.Layout.Name.{Name}
 use Rattle.format.specs.Calls.Read.{over}
 use Rattle.format.specs.Calls.Text.{hex_digit, print_unit, print_name}
-use Rattle.theory.proofs.Tests.{both}
 use Rattle.text.proofs.Over.{over_sets}
-
--- ---- a digit of base 16
-
-pub digit_low : (d : ℕ) → d < 10 → 0x30 + d ≡ hex_digit d
-unfolding hex_digit
-digit_low d h = sym (rw (lt-ltb d 10 h))
-
-pub digit_high : (d : ℕ) → 10 ≤ d → 0x37 + d ≡ hex_digit d
-unfolding hex_digit
-digit_high d h = sym (rw (le-ltb d 10 h))
 
 -- ---- a unit
 
@@ -53,9 +41,6 @@ unit_most u = go (plain u)
     go false = omega arith
 
 -- ---- a unit, written
-
-pub plain_byte : (u : ℕ) → plain u ≡ true → u ≤ 0x7E
-plain_byte u h = leb-true u 0x7E (both (leb 0x20 u) (leb u 0x7E) h).1
 
 pub length_plain : (u : ℕ) → plain u ≡ true → length (print_unit u) ≡ 1
 length_plain u h = ap length (prints_plain u h)

@@ -3,13 +3,13 @@ use mathlib.Core.Path.{◌≡◌, ap, sym, ◌∙◌}
 use mathlib.Core.List.{◌++◌}
 use Prim.Native.Nat.{ℕ, suc, ◌+◌, ◌-◌, ◌/◌, ◌%◌, ◌^◌, ◌≤◌, ◌<◌}
 use native.Mathlib.Omega.{arith}
-use lib.ListN.{length, take, drop, get_or, set, length-append, length-drop}
+use lib.ListN.{length, take, drop, get_or, set}
 use lib.Seq.{get_or-take, take-take, take-length, length-take-le}
 use Rattle.format.specs.Basics.Bytes.{Bytes}
 use Rattle.format.specs.Calls.Read.{over}
 use Rattle.format.specs.Calls.Text.{decimal}
 use Rattle.text.proofs.Decimals.{last_digit, front_digits}
-use Rattle.text.proofs.Over.{over_length, back_start, back_more}
+use Rattle.text.proofs.Over.{back_start, back_more}
 
 -- n's digits from number i on are written, and those before it are m's
 pub record Writing (out₀ : Bytes) (n : ℕ) (out : Bytes) (i m : ℕ) : Type 0 where
@@ -31,10 +31,6 @@ writing_start out₀ n i r b e =
     }
 
 module _ {out₀ : Bytes} {n : ℕ} {out : Bytes} {i m : ℕ} (w : Writing out₀ n out i m) where
-  pub writing_length : length out ≡ length out₀
-  writing_length =
-      omega (arith, ap length w.written, length-append (take i out₀) (drop i (over (decimal n) out₀)), length-take-le i out₀ (omega (arith, w.within, w.room)), length-drop i (over (decimal n) out₀), over_length (decimal n) out₀ w.room, w.within, w.room)
-
   pub writing_end : i ≡ 0 → out ≡ over (decimal n) out₀
   writing_end e = w.written ∙ rw e
 

@@ -8,7 +8,6 @@ ghost use Rattle.entries.specs.Entry.{name_at, NamedAt};
 ghost use Rattle.text.specs.Lines.{number_line};
 
 use entries::names::{name_unit, name_units};
-use le::copy;
 
 // ---- numbers
 
@@ -16,10 +15,11 @@ use le::copy;
 pub fn decimal_length(n: u64) -> usize
     ensures { result ≡ length (decimal n) }
 {
+    // One digit, and one more for each time that ten goes into what is left.
     let mut k = 1;
     let mut m = n / 10;
     while 0 < m {
-        m = m / 10;
+        m /= 10;
         k += 1;
     }
     k
@@ -32,12 +32,10 @@ pub fn put_decimal(out: &mut [u8], n: u64) -> usize
     ensures written { out.new ≡ over (decimal n) out.old }
 {
     let k = decimal_length(n);
-    let mut i = k;
     let mut m = n;
-    while 0 < i {
-        i -= 1;
-        out[i] = 0x30 + (m % 10) as u8;
-        m = m / 10;
+    for i in (0..k).rev() {
+        out[i] = b'0' + (m % 10) as u8;
+        m /= 10;
     }
     k
 }
@@ -49,9 +47,9 @@ pub fn put_number_line(out: &mut [u8], word: &[u8], n: u64) -> usize
     ensures written { out.new ≡ over (number_line word.now n) out.old }
 {
     let k = word.len();
-    copy(&mut out[..k], word);
+    out[..k].copy_from_slice(word);
     let m = put_decimal(&mut out[k..], n);
-    out[k + m] = 0x0A;
+    out[k + m] = b'\n';
     k + m + 1
 }
 
@@ -61,10 +59,11 @@ pub fn put_number_line(out: &mut [u8], word: &[u8], n: u64) -> usize
 fn plain(u: u16) -> bool
     ensures { result ≡ (leb 0x20 u && leb u 0x7E) }
 {
-    (0x20 <= u) & (u <= 0x7E)
+    matches!(u, 0x20..=0x7E)
 }
 
 // How many bytes a name's unit takes.
+#[tactic(auto, unfolding(format::specs::Calls::Text::print_unit))]
 fn name_unit_length(u: u16) -> usize
     ensures { result ≡ length (print_unit u) }
 {
@@ -75,17 +74,19 @@ fn name_unit_length(u: u16) -> usize
 }
 
 // A digit of base 16.
+#[tactic(auto, unfolding(format::specs::Calls::Text::hex_digit))]
 fn hex_digit(d: u16) -> u8
     requires { d ≤ 15 }
     ensures { result ≡ hex_digit d }
 {
     if d < 10 {
-        return 0x30 + d as u8;
+        return b'0' + d as u8;
     }
-    0x37 + d as u8
+    b'A' + (d - 10) as u8
 }
 
 // Writes a name's unit, and returns how many bytes it takes.
+#[tactic(auto, unfolding(format::specs::Calls::Text::print_unit))]
 fn put_name_unit(out: &mut [u8], u: u16) -> usize
     requires { length (print_unit u) ≤ length out.old }
     ensures count { result ≡ length (print_unit u) }
@@ -95,7 +96,7 @@ fn put_name_unit(out: &mut [u8], u: u16) -> usize
         out[0] = u as u8;
         return 1;
     }
-    out[0] = 0x5C;
+    out[0] = b'\\';
     out[1] = hex_digit(u / 4096 % 16);
     out[2] = hex_digit(u / 256 % 16);
     out[3] = hex_digit(u / 16 % 16);
@@ -108,12 +109,9 @@ pub fn name_length(img: &[u8], p: usize) -> usize
     requires { NamedAt img.now p }
     ensures { result ≡ length (print_name (name_at img.now p)) }
 {
-    let n = name_units(img, p);
     let mut k = 0;
-    let mut i = 0;
-    while i < n {
+    for i in 0..name_units(img, p) {
         k += name_unit_length(name_unit(img, p, i));
-        i += 1;
     }
     k
 }
@@ -125,12 +123,9 @@ pub fn put_name(out: &mut [u8], img: &[u8], p: usize) -> usize
     ensures count { result ≡ length (print_name (name_at img.now p)) }
     ensures written { out.new ≡ over (print_name (name_at img.now p)) out.old }
 {
-    let n = name_units(img, p);
     let mut k = 0;
-    let mut i = 0;
-    while i < n {
+    for i in 0..name_units(img, p) {
         k += put_name_unit(&mut out[k..], name_unit(img, p, i));
-        i += 1;
     }
     k
 }

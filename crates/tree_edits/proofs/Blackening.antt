@@ -4,36 +4,32 @@ use mathlib.Core.Path.{◌≡◌, refl, ap, ◌∙◌}
 use mathlib.Core.List.{List, [], ◌∷◌}
 use native.Mathlib.Numerals.{add-one}
 use native.Mathlib.Omega.{arith}
-use lib.ListN.{length, get_or, take, drop, drop_of_length-le}
-use lib.Seq.{length-sets, drop-cons, get_or-take, length-take-le}
+use lib.ListN.{length, get_or, drop, drop_of_length-le}
+use lib.Seq.{length-sets, drop-cons}
 use Rattle.format.specs.Basics.Lists.{count}
 use Rattle.format.specs.Basics.Bytes.{Bytes, put_bytes}
 use Rattle.format.specs.Layout.Entry.{colour_byte, black}
 use Rattle.theory.proofs.Counts.{bit_self}
 use Rattle.frame.specs.Unlink.{blackened_at}
 
-pub record Blackening (p : ℕ → ℕ) (work : List ℕ) (n : ℕ) (img₀ img : Bytes) (j : ℕ) : Type 0 where
+pub record Blackening (p : ℕ → ℕ) (ys : List ℕ) (img₀ img : Bytes) (j : ℕ) : Type 0 where
   pub long : length img ≡ length img₀
-  pub left : blackened_at p (drop j (take n work)) img ≡ blackened_at p (take n work) img₀
+  pub left : blackened_at p (drop j ys) img ≡ blackened_at p ys img₀
 
-module _ (p : ℕ → ℕ) (work : List ℕ) (n : ℕ) (room : n ≤ length work) (img₀ : Bytes) where
-  pub blacken_start : Blackening p work n img₀ img₀ 0
-  blacken_start = record { long = refl; left = refl }
-
-  module _ {img : Bytes} {j : ℕ} (b : Blackening p work n img₀ img j) where
-    pub blacken_step : j < n → (next : Bytes) → next ≡ put_bytes img (p (get_or work j 0) + colour_byte) (black ∷ []) → Blackening p work n img₀ next (j + 1)
+module _ (p : ℕ → ℕ) (ys : List ℕ) (img₀ : Bytes) where
+  module _ {img : Bytes} {j : ℕ} (b : Blackening p ys img₀ img j) where
+    pub blacken_step : j < length ys → (next : Bytes) → next ≡ put_bytes img (p (get_or ys j 0) + colour_byte) (black ∷ []) → Blackening p ys img₀ next (j + 1)
     unfolding blackened_at put_bytes
     blacken_step h next e =
-        let c = drop-cons (take n work) j 0 (omega (arith, length-take-le n work room)) in
-        let y = get_or-take n work j 0 h in
+        let c = drop-cons ys j 0 h in
         record {
-          long = ap length e ∙ length-sets img (p (get_or work j 0) + colour_byte) (black ∷ []) ∙ b.long;
-          left = rw (e, add-one j) (rw (c, y) at b.left);
+          long = ap length e ∙ length-sets img (p (get_or ys j 0) + colour_byte) (black ∷ []) ∙ b.long;
+          left = rw (e, add-one j) (rw c at b.left);
         }
 
-    pub blacken_done : n ≤ j → img ≡ blackened_at p (take n work) img₀
+    pub blacken_done : length ys ≤ j → img ≡ blackened_at p ys img₀
     unfolding blackened_at
-    blacken_done h = rw (drop_of_length-le (take n work) {i = j} (omega (arith, length-take-le n work room))) at b.left
+    blacken_done h = rw (drop_of_length-le ys {i = j} h) at b.left
 
 -- places that are the same for the entries listed
 pub blackened_places : (p q : ℕ → ℕ) (ys : List ℕ) (img : Bytes) → ((y : ℕ) → 0 < count y ys → p y ≡ q y) → blackened_at p ys img ≡ blackened_at q ys img

@@ -7,7 +7,7 @@ use native.Mathlib.Omega.{arith}
 use lib.ListN.{length}
 use borrow.Author.Tests.{eq-eqb, ne_eqb}
 use Rattle.format.specs.Basics.Bytes.{Bytes}
-use Rattle.format.specs.Layout.Entry.{NOSTREAM, left_field, right_field}
+use Rattle.format.specs.Layout.Entry.{NOSTREAM}
 use Rattle.format.specs.Layout.Directory.{Directory}
 use Rattle.format.specs.Layout.Siblings.{Slot}
 use Rattle.theory.specs.TreeViews.{left_of, right_of}
@@ -17,7 +17,7 @@ use Rattle.tables.specs.Work.{Wrote}
 use Rattle.directory.specs.Listed.{count_of, entries_of, place_of, DirectoryListed}
 use Rattle.directory.specs.declared.Directory.{Directory as Where}
 use Rattle.directory.proofs.Places.{placed, place_inside, place_is, directory_kept}
-use Rattle.tree_edits.specs.Places.{places_in, place_freed, EntryPlaced}
+use Rattle.tree_edits.specs.Places.{places_in, EntryPlaced}
 
 -- an entry of the directory can be written
 pub entry_placed : {d : Where} {img : Bytes} {work : List ℕ} → DirectoryListed d img work → (x : ℕ) → x < (entries_of d img).count → EntryPlaced d work x (length img)
@@ -55,21 +55,6 @@ module _ (p : ℕ → ℕ) (d : Directory) (h : Slot) (x : ℕ) (img : Bytes) wh
 
 pub placed_kept : {d : Where} {work : List ℕ} {x n m : ℕ} → EntryPlaced d work x n → m ≡ n → EntryPlaced d work x m
 placed_kept {d} {work} {x} p e = subst (EntryPlaced d work x) (sym e) p
-
--- the heir's links: the slot, its old place, its right side
-pub heir_steps : (p : ℕ → ℕ) (h : Slot) (x u y own l r : ℕ) (img : Bytes)
-    → link_put p (record { entry = y; field = right_field }) r (place_freed p x u y own l (link_put p h y img)) ≡ heir_put p h x u y own l r img
-unfolding heir_put place_freed
-heir_steps p h x u y own l r img = refl
-
-module _ (p : ℕ → ℕ) (x u y own l : ℕ) (img : Bytes) where
-  pub freed_none : u ≡ x → img ≡ place_freed p x u y own l img
-  unfolding place_freed
-  freed_none e = rw (eq-eqb u x e)
-
-  pub freed_place : u ≢ x → link_put p (record { entry = y; field = left_field }) l (link_put p (record { entry = u; field = right_field }) own img) ≡ place_freed p x u y own l img
-  unfolding place_freed
-  freed_place e = rw (ne_eqb u x e)
 
 module _ {d : Where} {img : Bytes} {work : List ℕ} (k : DirectoryListed d img work) (h : Slot) (x : ℕ) (inside : h.entry < (entries_of d img).count) where
   abbrev e : Directory

@@ -22,6 +22,7 @@ use kinds::{EntryId, Link};
 // ---- the siblings
 
 // Puts an entry behind the n that are listed, if it is one, and returns how many there are then.
+#[tactic(auto, unfolding(crate::specs::Siblings::added, crate::specs::Siblings::added_count))]
 fn add(work: &mut [u32], n: usize, x: EntryId) -> usize
     requires { n < length work.old }
     ensures value { result ≡ added_count n x.0 }
@@ -44,6 +45,7 @@ fn list_siblings(img: &[u8], work: &mut [u32], d: Directory, top: EntryId) -> us
 {
     let mut n = add(work, 0, top);
     let mut i = 0;
+    // The list grows while it is read.
     while i < n {
         let y = EntryId(work[i]);
         let left = left_of(img, work, d, y);
@@ -60,10 +62,8 @@ fn blacken(img: &mut [u8], work: &[u32], d: Directory, n: usize)
     requires { EntriesPlaced d work.now (length img.old) n }
     ensures { img.new ≡ blackened_at (place_of d work.now) (take n work.now) img.old }
 {
-    let mut j = 0;
-    while j < n {
-        put_black(img, place(work, d, EntryId(work[j])));
-        j += 1;
+    for y in &work[..n] {
+        put_black(img, place(work, d, EntryId(*y)));
     }
 }
 
@@ -88,10 +88,7 @@ fn find_heir(img: &[u8], work: &[u32], d: Directory, x: EntryId, y: EntryId) -> 
     loop {
         let right = right_of(img, work, d, entry);
         if right.is_none() {
-            return Heir {
-                entry: entry,
-                above: above,
-            };
+            return Heir { entry, above };
         }
         above = entry;
         entry = right;
@@ -99,6 +96,7 @@ fn find_heir(img: &[u8], work: &[u32], d: Directory, x: EntryId, y: EntryId) -> 
 }
 
 // Writes a field of an entry.
+#[tactic(auto, unfolding(frame::specs::Unlink::link_put))]
 fn put_slot(img: &mut [u8], work: &[u32], d: Directory, owner: EntryId, field: Link, y: EntryId)
     requires { EntryPlaced d work.now owner.0 (length img.old) }
     ensures { img.new ≡ link_put (place_of d work.now) (slot_at owner field) y.0 img.old }
@@ -115,13 +113,14 @@ struct Sides {
 }
 
 // The old place of the heir h is given to its own left side, and h gets the left side of x, if h is not the left side's top.
+#[tactic(auto, unfolding(crate::specs::Places::place_freed))]
 fn free_place(img: &mut [u8], work: &[u32], d: Directory, x: EntryId, h: Heir, s: Sides)
     requires entry_placed { EntryPlaced d work.now h.entry.0 (length img.old) }
     requires entry_placed_2 { EntryPlaced d work.now h.above.0 (length img.old) }
     ensures { img.new
         ≡ place_freed (place_of d work.now) x.0 h.above.0 h.entry.0 s.own.0 s.left.0 img.old }
 {
-    if h.above.0 == x.0 {
+    if h.above == x {
         return;
     }
     put_slot(img, work, d, h.above, Link::Right, s.own);
@@ -129,6 +128,7 @@ fn free_place(img: &mut [u8], work: &[u32], d: Directory, x: EntryId, h: Heir, s
 }
 
 // The heir h takes the place of x, which a field names.
+#[tactic(auto, unfolding(frame::specs::Unlink::heir_put, crate::specs::Places::place_freed))]
 fn put_heir(
     img: &mut [u8],
     work: &[u32],
@@ -172,8 +172,8 @@ fn unlink(img: &mut [u8], work: &[u32], d: Directory, owner: EntryId, field: Lin
     let h = find_heir(img, work, d, x, left);
     let s = Sides {
         own: left_of(img, work, d, h.entry),
-        left: left,
-        right: right,
+        left,
+        right,
     };
     put_heir(img, work, d, owner, field, x, h, s);
 }

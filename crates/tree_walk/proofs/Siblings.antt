@@ -1,6 +1,6 @@
 -- Two siblings, one visited after the other: their names, by the units that the nodes hold.
-use Prim.Native.Nat.{ℕ, zero, suc, ◌+◌, ◌*◌, ◌≤◌, ◌<◌}
-use mathlib.Core.Path.{◌≡◌, refl, sym, ap, ◌∙◌}
+use Prim.Native.Nat.{ℕ, zero, suc, ◌+◌, ◌≤◌, ◌<◌}
+use mathlib.Core.Path.{◌≡◌, refl, ap, ◌∙◌}
 use mathlib.Core.Bool.{true, false, not}
 use mathlib.Core.Logic.{inl, inr}
 use mathlib.Core.List.{List}
@@ -97,13 +97,6 @@ module _ {d : Where} {img : Bytes} {w : List ℕ} {before at units : ℕ} (v : V
       second = object_named v.lent (entry_of at) v.object;
       units = omega (arith, last_units, v.units_are);
     }
-
-  pub last_in : 2 * before + 1 < length w
-  last_in =
-      elim (dec_lt 0 before) [
-        | yes h ↦ omega (arith, slot_is h, (object_apart v.lent (entry_of before) (object h)).0, v.lent.nodes.room)
-        | no h ↦ omega (arith, v.lent.nodes.room)
-      ]
 
   -- it has fewer units than the sibling before
   pub shorter_falls : shorter before units last ≡ true → follows (less e) before (entry_of at) ≡ false

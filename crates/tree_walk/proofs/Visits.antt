@@ -32,7 +32,7 @@ use Rattle.tree_walk.specs.Walking.{stacked, up_at, top_at, wait_work, wait_tops
 use Rattle.tree_walk.specs.declared.State.{State}
 use Rattle.tree_walk.specs.declared.Turn.TheVariants.{Go}
 use Rattle.tree_walk.proofs.Stacks.{stacked_same, stacked_pop, stacked_push}
-use Rattle.tree_walk.proofs.Siblings.{Visited, last_in, shorter_falls, due_follows, due_paired}
+use Rattle.tree_walk.proofs.Siblings.{Visited, shorter_falls, due_follows, due_paired}
 use Rattle.tree_walk.proofs.Lends.{rows_are, room, lent_kept, slot_names, slot_in_lem, height, met_most}
 
 module _ {d : Where} {img : Bytes} {w : List ℕ} {q : Bool} {s : State} (g : Walking d img w q s) (z : s.at.0 ≡ 0) where
@@ -89,9 +89,6 @@ module _ {d : Where} {img : Bytes} {w : List ℕ} {q : Bool} {s : State} (g : Wa
       module _ {units : ℕ} (eu : units ≡ node_units a) where
         seen : Visited d img w s.before.0 cur units
         seen = record { lent = g.lent; last = g.inorder.last; object = object; real = some; units_are = eu ∙ node.units_are }
-
-        pub before_in : 2 * s.before.0 + 1 < length w
-        before_in = last_in seen
 
         pub visit_falls : shorter s.before.0 units (units_at w s.before.0) ≡ true → tree_rules e ≡ false
         visit_falls f = inorder_falls e popped none (shorter_falls seen f)

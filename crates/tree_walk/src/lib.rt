@@ -41,8 +41,7 @@ fn due_of(work: &[u32], before: Slot, units: usize) -> Slot
     requires { 2 * before.0 + 1 < length work.now }
     ensures { result.0 ≡ due_slot before.0 units (units_at work.now before.0) }
 {
-    let last = node_at(work, before).units();
-    if units == last {
+    if units == node_at(work, before).units() {
         return before;
     }
     Slot::NONE
@@ -81,17 +80,15 @@ fn go_down(img: &[u8], work: &mut [u32], d: Directory, s: State) -> Turn
     requires at_nonzero { 0 < s.at.0 }
     ensures { TurnLeft d img.now work.old s work.new result }
 {
-    let at = s.at;
-    let node = node_at(work, at);
+    let node = node_at(work, s.at);
     if node.is_reached() | (s.red & node.is_red()) {
         return Turn::Wrong;
     }
-    let before = s.before;
-    enter(work, d.count(), at, node, s.ups);
+    enter(work, d.count(), s.at, node, s.ups);
     Turn::Go(State {
         at: node.left(),
         red: node.is_red(),
-        before,
+        before: s.before,
         due: Slot::NONE,
         ups: s.ups + 1,
         tops: s.tops,
@@ -148,8 +145,7 @@ pub fn take_turn(img: &[u8], work: &mut [u32], d: Directory, s: State) -> Turn
     requires { Underway d img.now work.old s }
     ensures { TurnLeft d img.now work.old s work.new result }
 {
-    let at = s.at;
-    if !at.is_none() {
+    if !s.at.is_none() {
         return go_down(img, work, d, s);
     }
     if 0 < s.ups {

@@ -5,6 +5,7 @@ use mathlib.Core.Path.{◌≡◌, refl, sym, ◌∙◌, ap, ap₂}
 use mathlib.Core.List.{List, [], ◌∷◌, ◌++◌, append_assoc, append-nil}
 use native.Mathlib.Numerals.{add-one}
 use native.Mathlib.Omega.{arith}
+use Rattle.std.specs.Prelude.{Some, None}
 use borrow.Author.Tests.{lt-ltb, le-ltb}
 use lib.ListN.{length, take, set}
 use lib.Seq.{take-suc-set}
@@ -18,7 +19,6 @@ use Rattle.spaces.specs.Units.{number_in}
 use Rattle.spaces.specs.declared.Kind.{Kind}
 use Rattle.spaces.specs.declared.Unit.{Unit}
 use Rattle.unitlists.specs.Searches.{search_from, filled_up}
-use Rattle.unitlists.specs.declared.Found.TheVariants.{Free, Nothing}
 use Rattle.unitlists.specs.declared.Search.{Search}
 use Rattle.unitlists.specs.declared.Listed.{Listed}
 use Rattle.unitlists.proofs.Searching.{search_looked, search_found, search_nothing}
@@ -115,14 +115,14 @@ module _ {sp : Space} {w₀ : List ℕ} {k₀ need : ℕ} where
       pub picking_cells : looked + r.looked ≤ sp.limit
       picking_cells = omega (arith, search_looked kind sp from e, own_cells sp (need - (k + 1)) from, rw (one_more h) at a.cells, look_at_most sp (need - k₀))
 
-      pub picking_below : {u : Unit} → r.found ≡ Free u → number_in u < sp.limit
+      pub picking_below : {u : Unit} → r.found ≡ Some u → number_in u < sp.limit
       picking_below q = (search_found kind sp from e q).1
 
-      pub picking_step : {u : Unit} → r.found ≡ Free u → k < length w → Picking sp w₀ k₀ need (set w k (number_in u)) (k + 1) (number_in u + 1) (looked + r.looked)
+      pub picking_step : {u : Unit} → r.found ≡ Some u → k < length w → Picking sp w₀ k₀ need (set w k (number_in u)) (k + 1) (number_in u + 1) (looked + r.looked)
       picking_step q l = let f = search_found kind sp from e q in rw (search_looked kind sp from e) (next_step f.0 f.1 h l)
 
       -- no free unit is left
-      pub picking_none : r.found ≡ Nothing → Filled (looked + r.looked)
+      pub picking_none : r.found ≡ None → Filled (looked + r.looked)
       picking_none q =
           let f = search_nothing kind sp from e q in
           rw (search_looked kind sp from e)

@@ -1,17 +1,16 @@
 -- What a search for a free unit gives, and what a list that is filled up with free units comes to: by `format`'s searches.
-use Rattle.std.specs.Prelude.{ℕ, ◌+◌, ◌-◌, cond, ltb, length}
+use Rattle.std.specs.Prelude.{ℕ, ◌+◌, ◌-◌, cond, Option, Some, None, ltb, length}
 use Rattle.format.specs.Layout.Space.{Space}
 use Rattle.format.specs.Calls.Search.{search, growth_searches, units_found, cells_looked}
 use Rattle.spaces.specs.Units.{unit_of}
 use Rattle.spaces.specs.declared.Kind.{Kind}
-use Rattle.unitlists.specs.declared.Found.{Found}
-use Rattle.unitlists.specs.declared.Found.TheVariants.{Free, Nothing}
+use Rattle.spaces.specs.declared.Unit.{Unit as Place}
 use Rattle.unitlists.specs.declared.Search.{Search}
 use Rattle.unitlists.specs.declared.Listed.{Listed}
 
 -- a unit, or the limit: then there is none
-unfoldable pub found_at : Kind → Space → ℕ → Found
-found_at kind sp u = cond (ltb u sp.limit) (Free (unit_of kind u)) Nothing
+unfoldable pub found_at : Kind → Space → ℕ → Option Place
+found_at kind sp u = cond (ltb u sp.limit) (Some (unit_of kind u)) None
 
 -- one search
 unfoldable pub search_from : Kind → Space → ℕ → Search

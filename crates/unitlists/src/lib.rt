@@ -14,17 +14,10 @@ use volume::Volume;
 
 // ---- free units
 
-// What a search for a free unit finds.
-#[derive(Clone, Copy)]
-pub enum Found {
-    Free(Unit),
-    Nothing,
-}
-
-// A search: what it found, and how many cells it looked at.
+// A search: the free unit that it found, if there is one, and how many cells it looked at.
 #[derive(Clone, Copy)]
 pub struct Search {
-    pub found: Found,
+    pub found: Option<Unit>,
     pub looked: usize,
 }
 
@@ -35,23 +28,19 @@ fn next_free(img: &[u8], work: &[u32], v: Volume, kind: Kind, from: usize) -> Se
     ensures { result ≡ search_from kind (space_at v img.now kind) from }
 {
     let count = unit_count(v, kind);
-    let mut place = from;
-    let mut looked = 0;
-    while place < count {
+    for place in from..count {
         let u = Unit::at(kind, place);
         let cell = cell_of(img, work, v, u);
-        looked += 1;
         if cell.is_free() {
             return Search {
-                found: Found::Free(u),
-                looked: looked,
+                found: Some(u),
+                looked: place - from + 1,
             };
         }
-        place += 1;
     }
     Search {
-        found: Found::Nothing,
-        looked: looked,
+        found: None,
+        looked: count - from,
     }
 }
 
@@ -79,26 +68,20 @@ pub fn list_free(
         ≡ take k work.old ++ units_found (space_at v img.now kind) (growth_searches (space_at v img.now kind) (need - k)) }
     ensures wrote { Wrote work.old work.new 0 need }
 {
-    let mut n = k;
     let mut from = 0;
     let mut looked = 0;
-    while n < need {
+    for n in k..need {
         let s = next_free(img, work, v, kind, from);
         looked += s.looked;
-        let found = s.found;
-        let Found::Free(u) = found else {
-            return Listed {
-                count: n,
-                looked: looked,
-            };
+        let Some(u) = s.found else {
+            return Listed { count: n, looked };
         };
         work[n] = u.number();
-        n += 1;
         from = u.index() + 1;
     }
     Listed {
-        count: n,
-        looked: looked,
+        count: need,
+        looked,
     }
 }
 
@@ -112,10 +95,8 @@ pub fn list_units(img: &[u8], work: &mut [u32], v: Volume, start: Unit, n: usize
     ensures wrote { Wrote work.old work.new 0 n }
 {
     let mut u = start;
-    let mut i = 0;
-    while i < n {
+    for i in 0..n {
         work[i] = u.number();
         u = cell_of(img, work, v, u);
-        i += 1;
     }
 }

@@ -27,8 +27,9 @@ fn one() -> bool {
 
 // A proved loop has to end: no run uses up the turns.
 fn main() {
-    let mut turns: u32 = 1000000;
-    while 0 < turns && one() {
-        turns -= 1;
+    for _ in 0..1000000 {
+        if !one() {
+            return;
+        }
     }
 }

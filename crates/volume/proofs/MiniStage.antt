@@ -5,6 +5,7 @@ use mathlib.Core.Bool.{Bool, true, false, ◌&&◌}
 use mathlib.Core.Logic.{inr}
 use mathlib.Core.List.{List, []}
 use native.Mathlib.Omega.{arith}
+use Rattle.std.proofs.Common.{Option, Some, None}
 use lib.Dec.{leb}
 use lib.ListN.{length}
 use Rattle.format.specs.Basics.Bytes.{Bytes}
@@ -21,8 +22,6 @@ use Rattle.tables.specs.Work.{Wrote}
 use Rattle.tables.specs.Listed.{tables_of}
 use Rattle.tables.specs.declared.Tables.{Tables}
 use Rattle.tables.proofs.WorkLaws.{wrote_two, wrote_wider, listed_kept}
-use Rattle.chains.specs.Answers.{is_broken, is_shared}
-use Rattle.chains.specs.declared.Marked.{Marked}
 use Rattle.chains.proofs.Owners.{is_right, is_wrong, owning_kept, markable_kept}
 use Rattle.directory.specs.Listed.{directory_at}
 use Rattle.directory.specs.declared.Directory.{Directory}
@@ -32,35 +31,31 @@ use Rattle.system_chains.specs.System.{SystemWalked, SystemOwned}
 use Rattle.owners.specs.Streams.{minis_in, CellsRight}
 use Rattle.directory.proofs.Places.{directory_kept}
 use Rattle.volume.specs.Passed.{TablesHold, TablesCopied, MiniRoom, SystemMarked, SystemRight, SystemLeft, TableRight, mini_cell_rules}
-use Rattle.volume.specs.declared.mini_stage.MiniTable.{MiniTable}
-use Rattle.volume.specs.declared.mini_stage.MiniTable.TheVariants.{Wrong, Right}
 use Rattle.volume.specs.declared.mini_stage.System.{System}
-use Rattle.volume.specs.declared.mini_stage.SystemTables.{SystemTables}
-use Rattle.volume.specs.declared.mini_stage.SystemTables.TheVariants.{Wrong as NoSystem, Right as TheSystem}
 use Rattle.volume.proofs.ListsKept.{room_kept}
 use Rattle.volume.proofs.Copying.{list_is, list_room}
 use Rattle.volume.proofs.MiniCounts.{table_short, minis_few}
 use Rattle.volume.proofs.Outcomes.{wrote_ours, chains_break, cells_break, cells_hold}
 
-module _ {t : Tables} {d : Directory} {img : Bytes} {w w₁ w₂ : List ℕ} {n : ℕ} {a : Marked} (h : TablesHold (geometry_of t.geometry) img w n) (e : t ≡ tables_of t.geometry img)
-    (f : d ≡ directory_at t n (t.list - n)) (c : TablesCopied t d img w w₁)
-    (m : SystemWalked t img w₁ w₂ a) where
+module _ {t : Tables} {d : Directory} {img : Bytes} {w w₁ : List ℕ} {n : ℕ} (h : TablesHold (geometry_of t.geometry) img w n) (e : t ≡ tables_of t.geometry img)
+    (f : d ≡ directory_at t n (t.list - n)) (c : TablesCopied t d img w w₁) where
   abbrev g : Geometry
   g = geometry_of t.geometry
 
-  marks_wrote : Wrote w₁ w₂ 0 (sector_count g img)
+  chains_wrote : {w₂ : List ℕ} → Wrote w₁ w₂ 0 (sector_count g img) → Wrote w w₂ 0 (work_need (length img))
+  chains_wrote r = wrote_two c.wrote (wrote_ours img r (omega (arith, h.listed.sized.many)))
+
+  pub chains_wrong : {w₂ : List ℕ} → SystemWalked t img w₁ w₂ None → SystemLeft t.geometry img (mini_tables (volume g img)) w w₂ None
   unfolding sector_space
-  marks_wrote = m.wrote
+  chains_wrong m = record { answer = chains_break (volume g img) (is_wrong m); wrote = chains_wrote m.wrote }
 
-  chains_wrote : Wrote w w₂ 0 (work_need (length img))
-  chains_wrote = wrote_two c.wrote (wrote_ours img marks_wrote (omega (arith, h.listed.sized.many)))
-
-  pub chains_wrong : is_broken a ≡ true → SystemLeft t.geometry img (mini_tables (volume g img)) w w₂ NoSystem
-  chains_wrong u = record { answer = chains_break (volume g img) (is_wrong m u); wrote = chains_wrote }
-
-  module _ (u : is_broken a ≡ false) where
+  module _ {w₂ : List ℕ} {shared : Bool} (m : SystemWalked t img w₁ w₂ (Some shared)) where
     chains_right : (mini_fat_chain (volume g img) && mini_stream_chain (volume g img)) ≡ true
-    chains_right = is_right m u
+    chains_right = is_right m
+
+    marks_wrote : Wrote w₁ w₂ 0 (sector_count g img)
+    unfolding sector_space
+    marks_wrote = m.wrote
 
     pub mini_room : MiniRoom t d img w₂
     mini_room =
@@ -77,7 +72,7 @@ module _ {t : Tables} {d : Directory} {img : Bytes} {w w₁ w₂ : List ℕ} {n 
           room = c.room;
         }
 
-    owned : SystemOwned t img w₂ (is_shared a)
+    owned : SystemOwned t img w₂ shared
     unfolding sector_space
     owned = m.owners chains_right [] false c.clear
 
@@ -85,20 +80,17 @@ module _ {t : Tables} {d : Directory} {img : Bytes} {w w₁ w₂ : List ℕ} {n 
     module _ {w₃ : List ℕ} (x : Wrote w₂ w₃ (sector_count g img) (d.list - sector_count g img)) where
       table_wrote : Wrote w w₃ 0 (work_need (length img))
       table_wrote =
-          wrote_two chains_wrote (wrote_ours img (wrote_wider 0 d.list x (omega arith) (omega (arith, c.room))) (omega (arith, mini_room.before, mini_room.within)))
+          wrote_two (chains_wrote marks_wrote) (wrote_ours img (wrote_wider 0 d.list x (omega arith) (omega (arith, c.room))) (omega (arith, mini_room.before, mini_room.within)))
 
-      pub table_wrong : (r : MiniTable) → TableRight t d img w₃ r → r ≡ Wrong → SystemLeft t.geometry img (mini_tables (volume g img)) w w₃ NoSystem
-      table_wrong r p k = record { answer = cells_break (volume g img) chains_right (subst (λ y. TableRight t d img w₃ y) k p); wrote = table_wrote }
+      pub table_wrong : TableRight t d img w₃ None → SystemLeft t.geometry img (mini_tables (volume g img)) w w₃ None
+      table_wrong p = record { answer = cells_break (volume g img) chains_right p; wrote = table_wrote }
 
-      module _ (r : MiniTable) (p : TableRight t d img w₃ r) {i : Minis} (k : r ≡ Right i) where
-        given : TableRight t d img w₃ (Right i)
-        given = subst (λ y. TableRight t d img w₃ y) k p
-
+      module _ {i : Minis} (given : TableRight t d img w₃ (Some i)) where
         cells_right : CellsRight t img
         unfolding mini_cell_rules volume
         cells_right = record { tables = h.tables; sectors = h.cells; minis = (both (leb (minis_in t img).limit (volume g img).minis.cells) (all_below (minis_in t img).limit (mini_cell_right (minis_in t img))) given.0).1 }
 
-        marked : SystemMarked t d i img w₃ (is_shared a)
+        marked : SystemMarked t d i img w₃ shared
         unfolding sector_space
         marked =
             let s = table_short g img h.listed.sized mini_room.table in
@@ -125,33 +117,16 @@ module _ {t : Tables} {d : Directory} {img : Bytes} {w w₁ w₂ : List ℕ} {n 
               cells = cells_right;
             }
 
-        pub table_right : SystemLeft t.geometry img (mini_tables (volume g img)) w w₃ (TheSystem (record { tables = t; directory = d; minis = i; shared = is_shared a }))
+        pub table_right : SystemLeft t.geometry img (mini_tables (volume g img)) w w₃ (Some (record { tables = t; directory = d; minis = i; shared = shared }))
         table_right = record { answer = (cells_hold (volume g img) chains_right given.0, (e, marked)); wrote = table_wrote }
 
 -- the same geometry by another name
-pub system_for : (img : Bytes) {s s' : Sizes} {w w' : List ℕ} {r : SystemTables} → s ≡ s' → SystemLeft s img (mini_tables (volume (geometry_of s) img)) w w' r → SystemLeft s' img (mini_tables (volume (geometry_of s') img)) w w' r
+pub system_for : (img : Bytes) {s s' : Sizes} {w w' : List ℕ} {r : Option System} → s ≡ s' → SystemLeft s img (mini_tables (volume (geometry_of s) img)) w w' r → SystemLeft s' img (mini_tables (volume (geometry_of s') img)) w w' r
 system_for img {w = w} {w'} {r} e l = subst (λ s. SystemLeft s img (mini_tables (volume (geometry_of s) img)) w w' r) e l
 
 -- ---- what the answer says
 
-module _ {g : Sizes} {img : Bytes} {b : Bool} {w w' : List ℕ} {r : SystemTables} (l : SystemLeft g img b w w' r) where
-  pub system_wrong : r ≡ NoSystem → b ≡ false
-  system_wrong e = subst (λ y. SystemRight g img b w' y) e l.answer
-
-  module _ {s : System} (e : r ≡ TheSystem s) where
-    found : (b ≡ true) × ((s.tables ≡ tables_of g img) × SystemMarked s.tables s.directory s.minis img w' s.shared)
-    found = subst (λ y. SystemRight g img b w' y) e l.answer
-
-    pub system_right_lem : b ≡ true
-    system_right_lem = found.0
-
-    pub system_tables : s.tables ≡ tables_of g img
-    system_tables = found.1.0
-
-    pub system_marked : SystemMarked s.tables s.directory s.minis img w' s.shared
-    system_marked = found.1.1
-
-    -- the mini FAT is the image's own
-    pub system_minis : minis_of s.minis img ≡ (volume (geometry_of g) img).minis
-    unfolding volume
-    system_minis = ap (λ q. mini_space (geometry_of q) img) (system_marked.lists.same ∙ ap (λ t. t.geometry) system_tables)
+-- the mini FAT of what is listed is the image's own
+pub system_minis : {g : Sizes} {img : Bytes} {b : Bool} {w : List ℕ} {s : System} → SystemRight g img b w (Some s) → minis_of s.minis img ≡ (volume (geometry_of g) img).minis
+unfolding volume
+system_minis {img = img} r = ap (λ q. mini_space (geometry_of q) img) (r.1.1.lists.same ∙ ap (λ t. t.geometry) r.1.0)

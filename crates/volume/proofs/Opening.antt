@@ -1,10 +1,13 @@
 -- The opening of an image: what is answered, and the work buffer at the end.
 use Prim.Native.Nat.{ℕ, ◌+◌, ◌≤◌, ◌<◌}
-use mathlib.Core.Path.{◌≡◌, refl, sym, ◌∙◌, ap, subst}
+use mathlib.Core.Path.{◌≡◌, refl, sym, ◌∙◌, ap}
 use mathlib.Core.Logic.{◌≢◌, ◌⊎◌, inl, inr, ⊎_elim}
 use mathlib.Core.Bool.{Bool, true, false}
 use mathlib.Core.List.{List, ◌++◌}
 use native.Mathlib.Omega.{arith}
+use Rattle.std.proofs.Common.{Result, Ok, Err}
+use Rattle.std.specs.Result.{is_err}
+use Rattle.theory.proofs.Tests.{clash}
 use lib.ListN.{length, drop, replicate, length-drop}
 use lib.Seq.{ext_get_or, get_or-drop}
 use borrow.Author.Tests.{ne_eqb}
@@ -19,10 +22,8 @@ use Rattle.kinds.specs.Sizes.{geometry_of}
 use Rattle.kinds.specs.Numbers.{refusal_number}
 use Rattle.kinds.proofs.Refusals.{refusal_some}
 use Rattle.tables.specs.Work.{Wrote}
-use Rattle.volume.specs.Opened.{Outcome, StageLeft, OpenedRight, work_left}
+use Rattle.volume.specs.Opened.{StageLeft, OpenedRight, work_left}
 use Rattle.volume.specs.declared.Volume.{Volume}
-use Rattle.volume.specs.declared.Opened.{Opened}
-use Rattle.volume.specs.declared.Opened.TheVariants.{Refused, Ready}
 
 -- ---- the work buffer
 
@@ -68,18 +69,18 @@ groups_large g img z =
 -- ---- the answer
 
 -- refused before any group
-pub refused_early : (g : Geometry) (img : Bytes) (w : List ℕ) (a : Refusal) → verdict g img (length w) ≡ refusal_number a → (refusal_number a ≡ 1) ⊎ (refusal_number a ≡ 2) → OpenedRight g img w w (Refused a)
+pub refused_early : (g : Geometry) (img : Bytes) (w : List ℕ) (a : Refusal) → verdict g img (length w) ≡ refusal_number a → (refusal_number a ≡ 1) ⊎ (refusal_number a ≡ 2) → OpenedRight g img w w (Err a)
 refused_early g img w a e h = (sym e, left_alone (verdict g img (length w)) img w (⊎_elim (λ k. inl (e ∙ k)) (λ k. inr (e ∙ k)) h))
 
-module _ (g : Geometry) {s : Sizes} {img : Bytes} {w w₁ : List ℕ} (r : Opened) (l : StageLeft s img (groups g img) w w₁ r) (v : verdict g img (length w) ≡ groups g img) where
+module _ (g : Geometry) {s : Sizes} {img : Bytes} {w w₁ : List ℕ} (v : verdict g img (length w) ≡ groups g img) where
   -- refused by a group
-  pub refused_late : {a : Refusal} {w₂ : List ℕ} → r ≡ Refused a → w₂ ≡ work_cleared (work_need (length img)) w₁ → OpenedRight g img w w₂ (Refused a)
-  refused_late {a} e c =
-      let o : Outcome s img (groups g img) w₁ (Refused a) = subst (λ y. Outcome s img (groups g img) w₁ y) e l.outcome in
+  pub refused_late : {w₂ : List ℕ} (r : Result Volume Refusal) → StageLeft s img (groups g img) w w₁ r → is_err r ≡ true → w₂ ≡ work_cleared (work_need (length img)) w₁ → OpenedRight g img w w₂ r
+  refused_late (Ok y) l e c = absurd (clash e refl)
+  refused_late (Err a) l e c =
+      let o = l.outcome in
       let h : 9 < verdict g img (length w) = omega (arith, v, groups_large g img (λ z. refusal_some a (o ∙ z))) in
       (o ∙ sym v, left_cleared (verdict g img (length w)) img w (omega arith) (omega arith) l.wrote c)
 
-  pub opened : {y : Volume} → geometry_of s ≡ g → work_need (length img) ≤ length w → r ≡ Ready y → OpenedRight g img w w₁ (Ready y)
-  opened {y} q n e =
-      let o : Outcome s img (groups g img) w₁ (Ready y) = subst (λ k. Outcome s img (groups g img) w₁ k) e l.outcome in
-      (v ∙ o.0, (ap geometry_of o.1.0 ∙ q, (o.1.1, (n, l.wrote))))
+  pub opened : (r : Result Volume Refusal) → StageLeft s img (groups g img) w w₁ r → is_err r ≡ false → geometry_of s ≡ g → work_need (length img) ≤ length w → OpenedRight g img w w₁ r
+  opened (Err a) l e q n = absurd (clash refl e)
+  opened (Ok y) l e q n = let o = l.outcome in (v ∙ o.0, (ap geometry_of o.1.0 ∙ q, (o.1.1, (n, l.wrote))))

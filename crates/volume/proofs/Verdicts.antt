@@ -1,10 +1,11 @@
 -- Groups 10 to 15, and 1 and 2 before them: the first rule that does not hold decides.
 use Prim.Native.Nat.{ℕ, ◌≤◌, ◌<◌}
-use mathlib.Core.Path.{◌≡◌, refl, sym, ◌∙◌, ap}
+use mathlib.Core.Path.{◌≡◌, refl}
 use mathlib.Core.Logic.{⊎_elim}
 use mathlib.Core.Bool.{Bool, true, false}
 use mathlib.Core.List.{List}
 use native.Mathlib.Omega.{arith}
+use Rattle.std.proofs.Common.{Some, None, Ok, Err}
 use lib.ListN.{length}
 use borrow.Author.Tests.{le-leb, lt-leb}
 use Rattle.format.specs.Basics.Bytes.{Bytes}
@@ -25,11 +26,10 @@ use Rattle.tables.specs.Listed.{FatListedAt}
 use Rattle.tables.specs.Stages.{TablesLeft}
 use Rattle.tables.proofs.WorkLaws.{wrote_wider, listed_kept}
 use Rattle.chains.specs.Answers.{length_answer}
-use Rattle.chains.specs.declared.Length.{Length}
-use Rattle.chains.specs.declared.Length.TheVariants.{Is, Never}
+use Rattle.kinds.specs.declared.Refusal.{Refusal}
+use Rattle.kinds.specs.declared.Refusal.TheVariants.{Entries, Trees}
+use Rattle.kinds.specs.Numbers.{refusal_number}
 use Rattle.volume.specs.Passed.{entries_answer}
-use Rattle.volume.specs.declared.entry_stage.Entries.{Entries}
-use Rattle.volume.specs.declared.entry_stage.Entries.TheVariants.{WrongFields, WrongTrees, Right}
 use Rattle.volume.specs.Groups.{entry_groups, mini_groups, owner_groups}
 
 module _ (g : Geometry) (img : Bytes) where
@@ -74,17 +74,23 @@ module _ (g : Geometry) (img : Bytes) where
 
   -- ---- groups 14 and 15
 
-  pub entries_break : entry_rules (directory g img) ≡ false → entry_groups (volume g img) ≡ 14
-  unfolding entry_groups check volume
-  entries_break h = rw h
+  pub entries_refused : {a : Refusal} → Err a ≡ entries_answer (entry_rules (directory g img)) (tree_rules (directory g img)) → refusal_number a ≡ entry_groups (volume g img)
+  unfolding entry_groups check volume entries_answer
+  entries_refused {a} e = go (entry_rules (directory g img)) (tree_rules (directory g img)) e
+    where
+      go : (f t : Bool) → Err a ≡ entries_answer f t → refusal_number a ≡ check f 14 (check t 15 (mini_groups (volume g img)))
+      go false t k = let z : a ≡ Entries = cc in rw z
+      go true false k = let z : a ≡ Trees = cc in rw z
+      go true true k = absurd (let z : ◌≡◌ {A = ℕ} 0 1 = cc in omega arith)
 
-  pub trees_break : (entry_rules (directory g img) ≡ true) × (tree_rules (directory g img) ≡ false) → entry_groups (volume g img) ≡ 15
-  unfolding entry_groups check volume
-  trees_break h = rw (h.0, h.1)
-
-  pub entries_hold_lem : (entry_rules (directory g img) ≡ true) × (tree_rules (directory g img) ≡ true) → entry_groups (volume g img) ≡ mini_groups (volume g img)
-  unfolding entry_groups check volume
-  entries_hold_lem h = rw (h.0, h.1)
+  pub entries_hold_lem : {u : Unit} → Ok u ≡ entries_answer (entry_rules (directory g img)) (tree_rules (directory g img)) → entry_groups (volume g img) ≡ mini_groups (volume g img)
+  unfolding entry_groups check volume entries_answer
+  entries_hold_lem {u} e = go (entry_rules (directory g img)) (tree_rules (directory g img)) e
+    where
+      go : (f t : Bool) → Ok u ≡ entries_answer f t → check f 14 (check t 15 (mini_groups (volume g img))) ≡ mini_groups (volume g img)
+      go true true k = refl
+      go true false k = absurd (let z : ◌≡◌ {A = ℕ} 0 1 = cc in omega arith)
+      go false t k = absurd (let z : ◌≡◌ {A = ℕ} 0 1 = cc in omega arith)
 
   -- ---- 1 and 2
 
@@ -102,81 +108,12 @@ module _ (g : Geometry) (img : Bytes) where
 
 -- ---- the directory's chain, by the answer about its length
 
-abbrev found : Length → Bool
-found (Is k) = true
-found Never = false
-
-abbrev how_many : Length → ℕ
-how_many (Is k) = k
-how_many Never = 0
-
-answer_found : (b : Bool) (n : ℕ) → b ≡ found (length_answer b n)
+pub has_length : (b : Bool) (n : ℕ) {k : ℕ} → Some k ≡ length_answer b n → (b ≡ true) × (k ≡ n)
 unfolding length_answer
-answer_found true n = refl
-answer_found false n = refl
+has_length true n e = (refl, cc)
+has_length false n e = absurd (let z : ◌≡◌ {A = ℕ} 0 1 = cc in omega arith)
 
-answer_many : (n : ℕ) → how_many (length_answer true n) ≡ n
+pub has_none : (b : Bool) (n : ℕ) → None ≡ length_answer b n → b ≡ false
 unfolding length_answer
-answer_many n = refl
-
-module _ (b : Bool) (n : ℕ) {r : Length} (e : r ≡ length_answer b n) where
-  pub has_length : {k : ℕ} → r ≡ Is k → b ≡ true
-  has_length h = answer_found b n ∙ ap found (sym e ∙ h)
-
-  pub length_is : {k : ℕ} → r ≡ Is k → k ≡ n
-  length_is h = ap how_many (sym h ∙ e ∙ ap (λ c. length_answer c n) (has_length h)) ∙ answer_many n
-
-  pub has_none : r ≡ Never → b ≡ false
-  has_none h = answer_found b n ∙ ap found (sym e ∙ h)
-
--- ---- groups 14 and 15, by the answer about both
-
-module _ (fields trees : Bool) where
-  pub wrong_fields : fields ≡ false → entries_answer fields trees ≡ WrongFields
-  unfolding entries_answer
-  wrong_fields h = rw h
-
-  pub wrong_trees : fields ≡ true → trees ≡ false → entries_answer fields trees ≡ WrongTrees
-  unfolding entries_answer
-  wrong_trees h t = rw (h, t)
-
-  pub all_right : fields ≡ true → trees ≡ true → entries_answer fields trees ≡ Right
-  unfolding entries_answer
-  all_right h t = rw (h, t)
-
-abbrev fields_in : Entries → Bool
-fields_in WrongFields = false
-fields_in WrongTrees = true
-fields_in Right = true
-
-abbrev trees_in : Entries → Bool
-trees_in WrongFields = false
-trees_in WrongTrees = false
-trees_in Right = true
-
-says_fields : (a b : Bool) → fields_in (entries_answer a b) ≡ a
-unfolding entries_answer
-says_fields true true = refl
-says_fields true false = refl
-says_fields false b = refl
-
-says_trees : (b : Bool) → trees_in (entries_answer true b) ≡ b
-unfolding entries_answer
-says_trees true = refl
-says_trees false = refl
-
-module _ (fields trees : Bool) {r : Entries} (e : r ≡ entries_answer fields trees) where
-  fields_are : {q : Entries} → r ≡ q → fields ≡ fields_in q
-  fields_are h = sym (says_fields fields trees) ∙ ap fields_in (sym e ∙ h)
-
-  trees_are : {q : Entries} → r ≡ q → fields ≡ true → trees ≡ trees_in q
-  trees_are h f = sym (says_trees trees) ∙ ap (λ a. trees_in (entries_answer a trees)) (sym f) ∙ ap trees_in (sym e ∙ h)
-
-  pub fields_wrong : r ≡ WrongFields → fields ≡ false
-  fields_wrong h = fields_are h
-
-  pub trees_wrong : r ≡ WrongTrees → (fields ≡ true) × (trees ≡ false)
-  trees_wrong h = (fields_are h, trees_are h (fields_are h))
-
-  pub both_right : r ≡ Right → (fields ≡ true) × (trees ≡ true)
-  both_right h = (fields_are h, trees_are h (fields_are h))
+has_none true n e = absurd (let z : ◌≡◌ {A = ℕ} 0 1 = cc in omega arith)
+has_none false n e = refl

@@ -1,5 +1,5 @@
 -- What each stage builds on: the groups before it hold, and so stands the work buffer.
-use Rattle.std.specs.Prelude.{ℕ, ◌+◌, ◌-◌, ◌*◌, ◌/◌, ◌≤◌, ◌≡◌, Bool, true, false, cond, ◌&&◌, List, [], leb, length}
+use Rattle.std.specs.Prelude.{ℕ, ◌+◌, ◌-◌, ◌*◌, ◌/◌, ◌≤◌, ◌≡◌, Bool, true, false, cond, ◌&&◌, Option, Some, None, Result, Ok, Err, List, [], leb, length}
 use Rattle.format.specs.Basics.Lists.{all_below}
 use Rattle.format.specs.Basics.Bytes.{Bytes}
 use Rattle.format.specs.Layout.Geometry.{Geometry, sector_count}
@@ -28,12 +28,9 @@ use Rattle.minis.specs.declared.Minis.{Minis}
 use Rattle.chains.specs.Answers.{CellsCopied}
 use Rattle.system_chains.specs.System.{SystemMarkable}
 use Rattle.owners.specs.Streams.{minis_in, StreamsMarkable, CellsRight, OnlySystem}
-use Rattle.volume.specs.declared.entry_stage.Entries.{Entries}
-use Rattle.volume.specs.declared.entry_stage.Entries.TheVariants.{WrongFields, WrongTrees, Right as Whole}
-use Rattle.volume.specs.declared.mini_stage.MiniTable.{MiniTable}
-use Rattle.volume.specs.declared.mini_stage.MiniTable.TheVariants.{Wrong, Right}
-use Rattle.volume.specs.declared.mini_stage.SystemTables.{SystemTables}
-use Rattle.volume.specs.declared.mini_stage.SystemTables.TheVariants.{Wrong as NoSystem, Right as TheSystem}
+use Rattle.kinds.specs.declared.Refusal.{Refusal}
+use Rattle.kinds.specs.declared.Refusal.TheVariants.{Entries, Trees}
+use Rattle.volume.specs.declared.mini_stage.System.{System}
 
 -- ---- after group 13
 
@@ -48,11 +45,11 @@ pub record TablesHold (g : Geometry) (img : Bytes) (work : List ℕ) (n : ℕ) :
 
 -- ---- after groups 14 and 15
 
-unfoldable pub entries_answer : (fields trees : Bool) → Entries
-entries_answer fields trees = cond fields (cond trees Whole WrongTrees) WrongFields
+unfoldable pub entries_answer : (fields trees : Bool) → Result Unit Refusal
+entries_answer fields trees = cond fields (cond trees (Ok tt) (Err Trees)) (Err Entries)
 
 -- their answer, and what was listed before them still is
-pub record EntriesLeft (g : Geometry) (img : Bytes) (n : ℕ) (before after : List ℕ) (r : Entries) : Type 0 where
+pub record EntriesLeft (g : Geometry) (img : Bytes) (n : ℕ) (before after : List ℕ) (r : Result Unit Refusal) : Type 0 where
   pub answer : r ≡ entries_answer (entry_rules (directory g img)) (tree_rules (directory g img))
   pub hold : TablesHold g img after n
   pub wrote : Wrote before after 0 (work_need (length img))
@@ -84,9 +81,9 @@ pub record MiniRoom (t : Tables) (d : Directory) (img : Bytes) (work : List ℕ)
 unfoldable pub mini_cell_rules : Volume → Bool
 mini_cell_rules v = leb v.minis.limit v.minis.cells && all_below v.minis.limit (mini_cell_right v.minis)
 
-abbrev pub TableRight : Tables → Directory → Bytes → List ℕ → MiniTable → Type 0
-TableRight t d img work Wrong = mini_cell_rules (volume_of t.geometry img) ≡ false
-TableRight t d img work (Right m) =
+abbrev pub TableRight : Tables → Directory → Bytes → List ℕ → Option Minis → Type 0
+TableRight t d img work None = mini_cell_rules (volume_of t.geometry img) ≡ false
+TableRight t d img work (Some m) =
     (mini_cell_rules (volume_of t.geometry img) ≡ true)
     × ((m ≡ minis_at t img (minis_in t img).limit (d.list - mini_fat_count img)) × (MiniListed m img work × CellsCopied (minis_in t img) (sector_count_of t img) work))
 
@@ -108,11 +105,11 @@ pub record SystemMarked (t : Tables) (d : Directory) (m : Minis) (img : Bytes) (
   pub cells : CellsRight t img
 
 -- the rules hold and the lists are those of the image's own tables, or one is broken
-abbrev pub SystemRight : Sizes → Bytes → Bool → List ℕ → SystemTables → Type 0
-SystemRight g img holds work NoSystem = holds ≡ false
-SystemRight g img holds work (TheSystem s) =
+abbrev pub SystemRight : Sizes → Bytes → Bool → List ℕ → Option System → Type 0
+SystemRight g img holds work None = holds ≡ false
+SystemRight g img holds work (Some s) =
     (holds ≡ true) × ((s.tables ≡ tables_of g img) × SystemMarked s.tables s.directory s.minis img work s.shared)
 
-pub record SystemLeft (g : Sizes) (img : Bytes) (holds : Bool) (before after : List ℕ) (r : SystemTables) : Type 0 where
+pub record SystemLeft (g : Sizes) (img : Bytes) (holds : Bool) (before after : List ℕ) (r : Option System) : Type 0 where
   pub answer : SystemRight g img holds after r
   pub wrote : Wrote before after 0 (work_need (length img))

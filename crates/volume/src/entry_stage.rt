@@ -10,7 +10,7 @@ ghost use Rattle.volume.specs.Groups.{entry_groups};
 ghost use Rattle.volume.specs.Passed.{TablesHold, EntriesLeft};
 ghost use Rattle.volume.specs.Opened.{StageLeft};
 
-use super::Opened;
+use super::Volume;
 use super::mini_stage::mini_groups;
 use directory::Directory;
 use directory::listed::list_directory;
@@ -32,36 +32,25 @@ pub fn open_directory(img: &[u8], work: &mut [u32], g: Geometry, n: usize) -> Di
     list_directory(img, work, t, n, list - n)
 }
 
-// The first of the two groups that is broken, if one is.
-#[derive(Clone, Copy)]
-pub enum Entries {
-    WrongFields,
-    WrongTrees,
-    Right,
-}
-
-// The nodes of the entries and the walk over the trees lie before the lists.
-pub fn entry_tests(img: &[u8], work: &mut [u32], g: Geometry, n: usize) -> Entries
+// The two groups by themselves. The nodes of the entries and the walk over the trees lie before the lists.
+pub fn entry_tests(img: &[u8], work: &mut [u32], g: Geometry, n: usize) -> Result<(), Refusal>
     requires { TablesHold (geometry_of g) img.now work.old n }
     ensures { EntriesLeft (geometry_of g) img.now n work.old work.new result }
 {
     let d = open_directory(img, work, g, n);
     if !read_entries(img, work, d) {
-        return Entries::WrongFields;
+        return Err(Refusal::Entries);
     }
     if !tree_rules(img, work, d) {
-        return Entries::WrongTrees;
+        return Err(Refusal::Trees);
     }
-    Entries::Right
+    Ok(())
 }
 
-pub fn entry_groups(img: &[u8], work: &mut [u32], g: Geometry, n: usize) -> Opened
+pub fn entry_groups(img: &[u8], work: &mut [u32], g: Geometry, n: usize) -> Result<Volume, Refusal>
     requires { TablesHold (geometry_of g) img.now work.old n }
     ensures { StageLeft g img.now (entry_groups (volume_of g img.now)) work.old work.new result }
 {
-    match entry_tests(img, work, g, n) {
-        Entries::WrongFields => Opened::Refused(Refusal::Entries),
-        Entries::WrongTrees => Opened::Refused(Refusal::Trees),
-        Entries::Right => mini_groups(img, work, g, n),
-    }
+    entry_tests(img, work, g, n)?;
+    mini_groups(img, work, g, n)
 }

@@ -26,30 +26,22 @@ pub struct Volume {
     pub stream: usize,
 }
 
-#[derive(Clone, Copy)]
-pub enum Opened {
-    Refused(Refusal),
-    Ready(Volume),
-}
-
 // Validates an image and opens it. A refusal leaves the work buffer as every refusal does.
-pub fn open_volume(img: &[u8], work: &mut [u32]) -> Opened
+pub fn open_volume(img: &[u8], work: &mut [u32]) -> Result<Volume, Refusal>
     ensures { OpenedRight (version_of img.now) img.now work.old work.new result }
 {
     let g = version_of(img);
     let n = img.len();
     if !length_allowed(n, g) {
-        return Opened::Refused(Refusal::BadLength);
+        return Err(Refusal::BadLength);
     }
     let need = work_need(n);
     if work.len() < need {
-        return Opened::Refused(Refusal::ShortWork);
+        return Err(Refusal::ShortWork);
     }
-    match table_groups(img, work, g) {
-        Opened::Refused(a) => {
-            zero_first(work, need);
-            Opened::Refused(a)
-        }
-        Opened::Ready(v) => Opened::Ready(v),
+    let opened = table_groups(img, work, g);
+    if opened.is_err() {
+        zero_first(work, need);
     }
+    opened
 }

@@ -10,7 +10,7 @@ ghost use Rattle.volume.specs.Groups.{mini_groups};
 ghost use Rattle.volume.specs.Passed.{TablesHold, TablesCopied, MiniRoom, TableRight, SystemLeft};
 ghost use Rattle.volume.specs.Opened.{StageLeft};
 
-use super::Opened;
+use super::Volume;
 use super::owner_stage::owner_groups;
 use chains::copy_fat;
 use directory::listed::list_directory;
@@ -22,13 +22,6 @@ use minis::{Minis, cells_rest, copy_minis, list_minis};
 use system_chains::mark_system;
 use tables::{Tables, tables_of};
 
-// A rule on the mini FAT's cells below K is broken, or its sectors stand listed.
-#[derive(Clone, Copy)]
-pub enum MiniTable {
-    Wrong,
-    Right(Minis),
-}
-
 // What is listed after group 16, and whether two of the system's chains share a sector.
 #[derive(Clone, Copy)]
 pub struct System {
@@ -38,15 +31,9 @@ pub struct System {
     pub shared: bool,
 }
 
-#[derive(Clone, Copy)]
-pub enum SystemTables {
-    Wrong,
-    Right(System),
-}
-
-// Whether there is a cell for each mini sector, and the values of those cells are right. Lists the mini FAT's sectors before the directory's, and copies the
-// cells behind those of the sectors.
-fn mini_table(img: &[u8], work: &mut [u32], t: Tables, d: Directory) -> MiniTable
+// Lists the mini FAT's sectors before the directory's, and copies its cells behind those of the sectors; nothing where there is no cell for a mini
+// sector, or the value of one of those cells is wrong.
+fn mini_table(img: &[u8], work: &mut [u32], t: Tables, d: Directory) -> Option<Minis>
     requires { MiniRoom t d img.now work.old }
     ensures answer { TableRight t d img.now work.new result }
     ensures wrote { Wrote work.old work.new
@@ -57,13 +44,13 @@ fn mini_table(img: &[u8], work: &mut [u32], t: Tables, d: Directory) -> MiniTabl
     let k = (size(img, place(work, d, EntryId::ROOT), g) / (MiniSector::BYTES as u64)) as usize;
     let m = mini_fat_count(img) as usize;
     if g.cells() * m < k {
-        return MiniTable::Wrong;
+        return None;
     }
     let minis = list_minis(img, work, t, k, list - m);
     if !copy_minis(img, work, minis, t.sectors) {
-        return MiniTable::Wrong;
+        return None;
     }
-    MiniTable::Right(minis)
+    Some(minis)
 }
 
 // Copies the FAT's cells, and lists the directory's sectors before the FAT's.
@@ -78,37 +65,31 @@ fn copy_tables(img: &[u8], work: &mut [u32], t: Tables, n: usize) -> Directory
     list_directory(img, work, t, n, list - n)
 }
 
-// Group 16 but for the cells from K on. Marks the system's chains, and lists the directory's sectors and the mini FAT's.
-pub fn system_tables(img: &[u8], work: &mut [u32], g: Geometry, n: usize) -> SystemTables
+// Group 16 but for the cells from K on. Marks the system's chains, and lists the directory's sectors and the mini FAT's; nothing where a rule is
+// broken.
+pub fn system_tables(img: &[u8], work: &mut [u32], g: Geometry, n: usize) -> Option<System>
     requires { TablesHold (geometry_of g) img.now work.old n }
     ensures { SystemLeft g img.now (mini_tables (volume_of g img.now)) work.old work.new result }
 {
     let t = tables_of(img, g);
     let d = copy_tables(img, work, t, n);
-    let a = mark_system(img, work, t, d);
-    if a.is_broken() {
-        return SystemTables::Wrong;
-    }
-    match mini_table(img, work, t, d) {
-        MiniTable::Wrong => SystemTables::Wrong,
-        MiniTable::Right(m) => SystemTables::Right(System {
-            tables: t,
-            directory: d,
-            minis: m,
-            shared: a.is_shared(),
-        }),
-    }
+    let shared = mark_system(img, work, t, d)?;
+    let minis = mini_table(img, work, t, d)?;
+    Some(System {
+        tables: t,
+        directory: d,
+        minis,
+        shared,
+    })
 }
 
-pub fn mini_groups(img: &[u8], work: &mut [u32], g: Geometry, n: usize) -> Opened
+pub fn mini_groups(img: &[u8], work: &mut [u32], g: Geometry, n: usize) -> Result<Volume, Refusal>
     requires { TablesHold (geometry_of g) img.now work.old n }
     ensures { StageLeft g img.now (mini_groups (volume_of g img.now)) work.old work.new result }
 {
-    let SystemTables::Right(s) = system_tables(img, work, g, n) else {
-        return Opened::Refused(Refusal::Mini);
-    };
+    let s = system_tables(img, work, g, n).ok_or(Refusal::Mini)?;
     if !cells_rest(img, work, s.minis) {
-        return Opened::Refused(Refusal::Mini);
+        return Err(Refusal::Mini);
     }
     owner_groups(img, work, s.tables, s.directory, s.minis, s.shared)
 }

@@ -6,13 +6,13 @@ ghost use Rattle.volume.specs.Groups.{owner_groups};
 ghost use Rattle.volume.specs.Passed.{SystemMarked, ListsStand};
 ghost use Rattle.volume.specs.Opened.{StageLeft, Readied};
 
-use super::{Opened, Volume};
+use super::Volume;
 use chains::{list_chain, sectors_for};
 use directory::{Directory, place};
 use entries::{size, start_sector};
 use kinds::{EntryId, Refusal};
 use minis::Minis;
-use owners::rules::{Owners, owner_rules};
+use owners::rules::owner_rules;
 use tables::Tables;
 
 // Lists the mini stream's sectors before the mini FAT's, which makes the volume ready.
@@ -44,14 +44,11 @@ pub fn owner_groups(
     d: Directory,
     m: Minis,
     shared: bool,
-) -> Opened
+) -> Result<Volume, Refusal>
     requires { SystemMarked t d m img.now work.old shared }
     ensures { StageLeft t.geometry img.now (owner_groups (volume_of t.geometry img.now))
         work.old work.new result }
 {
-    match owner_rules(img, work, t, m, d, shared) {
-        Owners::Broken => Opened::Refused(Refusal::Streams),
-        Owners::Wrong => Opened::Refused(Refusal::Owners),
-        Owners::Right => Opened::Ready(list_stream(img, work, t, d, m)),
-    }
+    owner_rules(img, work, t, m, d, shared)?;
+    Ok(list_stream(img, work, t, d, m))
 }

@@ -14,7 +14,7 @@ ghost use Rattle.writes.specs.Puts.{cell_value, cells_put, entry_put};
 
 use directory::{Directory, place};
 use kinds::EntryId;
-use le::{copy_part, fill_zero, least, put_u32, put_u64};
+use le::{copy_part, least, put_u32, put_u64};
 use spaces::{Kind, Unit, cell_place, unit_bytes, unit_place};
 use volume::Volume;
 
@@ -36,9 +36,10 @@ pub fn chain_start(work: &[u32], kind: Kind, j: usize, n: usize) -> Unit
     ensures { result ≡ unit_of kind (start_of (drop j (take n work.now))) }
 {
     if j < n {
-        return Unit::of(kind, work[j]);
+        Unit::of(kind, work[j])
+    } else {
+        Unit::end(kind)
     }
-    Unit::end(kind)
 }
 
 // What the cells of listed units become: free, or a chain, in which each names the next unit and the last is the end.
@@ -74,11 +75,9 @@ pub fn put_cells(
     requires from_le_to { from ≤ to }
     ensures { img.new ≡ cells_put cells (listed_space v work.now kind) (drop from (take to work.now)) img.old }
 {
-    let mut j = from;
-    while j < to {
+    for j in from..to {
         let u = Unit::of(kind, work[j]);
         put_cell(img, work, v, u, cell_value(work, kind, cells, j, to));
-        j += 1;
     }
 }
 
@@ -91,15 +90,13 @@ pub fn zero_from(img: &mut [u8], work: &[u32], v: Volume, kind: Kind, n: usize, 
     ensures { img.new ≡ zeroed (listed_space v work.now kind) (take n work.now) img.old from }
 {
     let bytes = unit_bytes(v, kind);
-    let mut k = from / bytes;
     let mut o = from % bytes;
-    while k < n {
+    for k in from / bytes..n {
         let p = unit_place(work, v, Unit::of(kind, work[k]));
         let start = p + o;
         let end = p + bytes;
-        fill_zero(&mut img[start..end]);
+        img[start..end].fill(0);
         o = 0;
-        k += 1;
     }
 }
 
@@ -120,6 +117,7 @@ pub fn put_bytes(
 {
     let unit = unit_bytes(v, kind);
     let end = bytes.len();
+    // Each step puts as many bytes as the unit at hand has room for.
     let mut k = offset / unit;
     let mut o = offset % unit;
     let mut i = 0;

@@ -1,15 +1,13 @@
-use borrow.Author.Rules.{rules}
-use Prim.Native.Nat.{◌-◌}
-use lib.ListN.{length}
+use Rattle.std.proofs.Common.{◌≡◌, ◌∙◌, length, refl, rules}
+use Rattle.std.proofs.lemmas.Fn.{fold_over, slice_gives, fronts}
+use Rattle.format.specs.Basics.Lists.{all_below}
 use Rattle.cells.specs.Cells.{covered_at}
-use Rattle.cells.proofs.Turns.{Passed, passed_none, passed_more, passed_all, covered_turn}
+use Rattle.cells.proofs.Turns.{covered_more}
 use Rattle.cells.proofs.all_covered.Goals as goal
 
-pub loop-i-init : goal.loop-i-init
-loop-i-init c = passed_none
-
-pub loop-i-preserved : goal.loop-i-preserved
-loop-i-preserved c = passed_more c.loop-i.invariant c.loop-i-test.true (covered_turn _ _)
-
 pub returns : goal.returns
-returns c = passed_all c.loop-i.invariant c.loop-i-test.false
+unfolding all_below
+returns c =
+    let e = c.iter.ensures.rest in
+    fold_over fronts (λ y. y.now) _ (λ xs ok. ok ≡ all_below (length xs) (covered_at xs)) _ (λ ys a x b f' j k. (search (rules, covered_more), refl)) c.iter.result _ _ _ (slice_gives c.iter.result) refl c.fold.ensures.ran
+    ∙ rw e

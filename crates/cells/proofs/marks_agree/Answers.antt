@@ -1,16 +1,14 @@
-use borrow.Author.Rules.{rules}
-use Prim.Native.Nat.{◌-◌}
-use lib.ListN.{length}
+use Rattle.std.proofs.Common.{refl}
+use Rattle.format.specs.Basics.Lists.{all_below}
 use Rattle.theory.specs.Marks.{marks}
+use Rattle.theory.proofs.Loops.{below_next}
 use Rattle.cells.specs.Cells.{cell_of, mark_agrees}
-use Rattle.cells.proofs.Turns.{Passed, passed_none, passed_more, passed_all, agree_turn}
 use Rattle.cells.proofs.marks_agree.Goals as goal
 
 pub loop-i-init : goal.loop-i-init
-loop-i-init c = passed_none
+unfolding all_below
+loop-i-init c = refl
 
 pub loop-i-preserved : goal.loop-i-preserved
-loop-i-preserved c = passed_more c.loop-i.invariant c.loop-i-test.true (agree_turn _ _ _ c.u32_at-v.ensures _)
-
-pub returns : goal.returns
-returns c = passed_all c.loop-i.invariant c.loop-i-test.false
+unfolding cell_of mark_agrees marks
+loop-i-preserved c = rw (below_next, c.loop-i.invariant, c.u32_at-v.ensures)

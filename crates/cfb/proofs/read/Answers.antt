@@ -1,45 +1,28 @@
-use borrow.Author.Rules.{rules}
-use mathlib.Core.Path.{refl, ◌∙◌, ap}
+use mathlib.Core.Path.{◌∙◌}
 use mathlib.Core.List.{[]}
-use Rattle.format.specs.Calls.Call.{read, work_of, out_of}
+use Rattle.std.proofs.lemmas.Result.{err_from_is_err_and}
+use Rattle.format.specs.Calls.Call.{read, out_of}
 use Rattle.tables.proofs.WorkLaws.{wrote_none}
-use Rattle.volume.specs.declared.Opened.TheVariants.{Refused}
 use Rattle.opened.specs.Sequence.{lent}
-use Rattle.opened.proofs.Validated.{call_refused, call_kept}
-use Rattle.opened.proofs.Calls.{opening_ready, opening_refused}
-use Rattle.opened.proofs.Sequence.{plain_given_lem, plain_work_lem}
+use Rattle.opened.proofs.Sequence.{same_refused, same_reply, same_work, same_out}
 use Rattle.cfb.proofs.read.Goals as goal
 
-pub open_image-requires : goal.open_image-requires
-unfolding lent work_of out_of
-open_image-requires c = search rules
-
-pub read_opened-r-requires : goal.read_opened-r-requires
-unfolding lent work_of out_of
-read_opened-r-requires c =
+pub returns-in_err-v : goal.returns-in_err-v
+unfolding lent out_of
+returns-in_err-v c =
     let a = c.args in
-    let q = opening_ready a.image.now a.work.now _ _ c.open_image.ensures c.in-Ready.is in
-    q.1.0
+    let p = err_from_is_err_and c.from_residual.result c.from_residual.ensures.1 in
+    let r = same_refused a.image.now a.work.now c.open_image.new.work c.in_err-v.field-0.0 c.in_err-v.ensures (read a.path.now a.offset a.out.now []) in
+    rw (p.1, p.2) (record { result_value = r.number; out_after = r.out; work_after = r.work })
 
-pub close-requires : goal.close-requires
-unfolding lent work_of out_of
-close-requires c =
+pub returns : goal.returns
+unfolding lent
+returns c =
     let a = c.args in
-    let q = opening_ready a.image.now a.work.now _ _ c.open_image.ensures c.in-Ready.is in
-    q.1.0
-
-pub returns-in-Refused : goal.returns-in-Refused
-unfolding lent work_of out_of
-returns-in-Refused c =
-    let a = c.args in
-    let o = opening_refused a.image.now a.work.now _ _ c.open_image.ensures c.in-Refused.is in
-    let q = lent a.work.now (read a.path.now a.offset a.out.now []) in
-    let r = call_refused _ a.image.now q c.open_image.new.work (Refused c.in-Refused.a) o refl in record { result_value = r.0; out_after = call_kept _ a.image.now q c.open_image.new.work (Refused c.in-Refused.a) o refl; work_after = r.1 }
-
-pub returns-in-Ready : goal.returns-in-Ready
-unfolding lent work_of out_of
-returns-in-Ready c =
-    let a = c.args in
-    let q = opening_ready a.image.now a.work.now _ _ c.open_image.ensures c.in-Ready.is in
+    let q = c.in_ok-v.ensures in
     let p = read a.path.now a.offset a.out.now [] in
-    let s = plain_given_lem q p in record { result_value = c.read_opened-r.ensures.result_value ∙ ap (λ x. x.reply) s; out_after = c.read_opened-r.ensures.out_after ∙ ap (λ x. x.out) s; work_after = plain_work_lem q p (wrote_none _ _ _) c.close.ensures }
+    record {
+      result_value = c.read_opened-r.ensures.result_value ∙ same_reply q p;
+      out_after = c.read_opened-r.ensures.out_after ∙ same_out q p;
+      work_after = same_work q p (wrote_none _ _ _) c.close.ensures;
+    }

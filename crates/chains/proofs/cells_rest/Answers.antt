@@ -1,4 +1,3 @@
-use borrow.Author.Rules.{rules}
 use Prim.Native.Nat.{◌*◌}
 use mathlib.Core.Path.{◌≡◌, ◌∙◌, ap₂}
 use native.Mathlib.Omega.{arith}
@@ -6,7 +5,7 @@ use Rattle.format.specs.Layout.Geometry.{cells_in}
 use Rattle.kinds.specs.Sizes.{geometry_of}
 use Rattle.header.specs.Sized.{F}
 use Rattle.tables.specs.Views.{sectors_of}
-use Rattle.tables.proofs.Blocks.{fat_listed, fat_cell_lem}
+use Rattle.tables.proofs.Blocks.{fat_cell_lem}
 use Rattle.chains.proofs.Cells.{rest_free_lem}
 use Rattle.chains.proofs.Groups.{limit_is, cells_are, cell_is, cells_short}
 use Rattle.chains.proofs.cells_rest.Goals as goal
@@ -18,9 +17,6 @@ end_is c = ap₂ (λ a b. a * b) c.cells.ensures c.fat_count-f.ensures
 
 pub overflow_mul-cells : goal.overflow_mul-cells
 overflow_mul-cells c = omega (arith, end_is (goal.at.overflow_mul-cells c).After-cells, cells_short c.requires, c.requires.sized.short)
-
-pub table_free-requires : goal.table_free-requires
-table_free-requires c = let l = c.requires in record { table_listed = fat_listed l _ (omega (arith, end_is (goal.at.table_free-requires c).After-cells)); low_le_end = omega (arith, end_is (goal.at.table_free-requires c).After-cells, l.count, l.covers) }
 
 pub returns : goal.returns
 returns c =

@@ -1,16 +1,14 @@
-use borrow.Author.Rules.{rules}
-use mathlib.Core.Path.{sym}
+use Rattle.std.specs.Bool.{then_some}
+use mathlib.Core.Path.{◌≡◌, refl}
+use mathlib.Core.Bool.{Bool, true, false}
+use Prim.Native.Nat.{ℕ}
 use Rattle.chains.specs.Answers.{length_answer}
 use Rattle.chains.proofs.length_of.Goals as goal
 
-pub is_end-requires : goal.is_end-requires
+as_answer : (b : Bool) (k : ℕ) → then_some b k ≡ length_answer b k
 unfolding length_answer
-is_end-requires c = search rules
-
-pub returns-then-k-is_end : goal.returns-then-k-is_end
-unfolding length_answer
-returns-then-k-is_end c = sym (rw (← c.is_end.ensures, c.if-k-is_end.true))
+as_answer true k = refl
+as_answer false k = refl
 
 pub returns : goal.returns
-unfolding length_answer
-returns c = sym (rw (← c.is_end.ensures, c.if-k-is_end.false))
+returns c = rw (c.then_some.ensures, c.is_end.ensures) (as_answer _ _)

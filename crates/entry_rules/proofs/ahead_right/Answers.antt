@@ -1,10 +1,9 @@
-use borrow.Author.Rules.{rules}
 use Prim.Native.Nat.{◌-◌, ◌%◌, ◌<◌}
-use mathlib.Core.Path.{◌≡◌, sym, ap, ◌∙◌}
+use mathlib.Core.Path.{◌≡◌, sym, ◌∙◌}
 use native.Mathlib.Omega.{arith}
 use Rattle.directory.specs.Listed.{entries_of}
-use Rattle.directory.proofs.Places.{countable, count_is, count_short, placed, place_inside}
-use Rattle.entry_rules.specs.Ahead.{ahead_end, colours_right, in_row}
+use Rattle.directory.proofs.Places.{count_is, count_short, placed, place_inside}
+use Rattle.entry_rules.specs.Ahead.{ahead_end, in_row}
 use Rattle.entry_rules.proofs.Ahead.{ahead_between, ahead_row, ahead_scattered}
 use Rattle.entry_rules.proofs.ahead_right.Goals as goal
 use Rattle.entry_rules.proofs.ahead_right.Goals.{After-least-end, Else-i-ne0}
@@ -27,14 +26,8 @@ few c = omega (arith, ends c, count_is c.requires.directory_listed, count_short 
 pub returns-then-i-ne0 : goal.returns-then-i-ne0
 returns-then-i-ne0 c = ahead_between _ _ _ _ (λ q. absurd (omega (arith, c.if-i-ne0.true, c.index-i.ensures)))
 
-pub count-requires : goal.count-requires
-count-requires c = countable c.requires.directory_listed
-
 pub overflow_cast-end : goal.overflow_cast-end
 overflow_cast-end c = omega (arith, few (goal.at.overflow_cast-end c).After-least-end)
-
-pub overflow_sub-end : goal.overflow_sub-end
-overflow_sub-end c = omega (arith, some (goal.at.overflow_sub-end c).After-least-end)
 
 pub in_a_row-requires : goal.in_a_row-requires
 in_a_row-requires c =
@@ -53,9 +46,6 @@ pub returns-then-in_a_row : goal.returns-then-in_a_row
 returns-then-in_a_row c =
     let row : let a = c.args in in_row a.d a.work.now a.x.0 (ahead_end (entries_of a.d a.img.now) a.x.0 - 1) ≡ c.in_a_row.result = rw (← ends (goal.at.returns-then-in_a_row c).After-least-end) (sym c.in_a_row.ensures) in
     let a = c.args in ahead_row a.d (entries_of a.d a.img.now) a.work.now a.x.0 (zeroth (goal.at.returns-then-in_a_row c).Else-i-ne0) (row ∙ c.if-in_a_row.true)
-
-pub colours-requires : goal.colours-requires
-colours-requires c = record { directory_listed = c.requires.directory_listed; x_le_end = (omega (arith, some (goal.at.colours-requires c).After-least-end), omega (arith, ends (goal.at.colours-requires c).After-least-end, count_is c.requires.directory_listed)) }
 
 pub returns : goal.returns
 returns c =

@@ -1,39 +1,53 @@
-use borrow.Author.Rules.{rules}
-use Prim.Native.Nat.{◌-◌, ◌≤◌, ◌<◌}
-use mathlib.Core.Path.{◌≡◌, sym}
+use Prim.Native.Nat.{◌<◌}
+use mathlib.Core.Path.{◌≡◌, refl, sym, ◌∙◌}
 use native.Mathlib.Omega.{arith}
 use Rattle.directory.specs.Listed.{entries_of}
 use Rattle.directory.proofs.Places.{count_is, count_few, placed, place_inside, entry_is}
-use Rattle.entry_rules.specs.Ahead.{colours_right}
 use Rattle.entry_rules.proofs.Ahead.{colours_start, colours_next}
 use Rattle.entry_rules.proofs.colours.Goals as goal
-use Rattle.entry_rules.proofs.colours.Goals.{In-loop-d}
+use Rattle.entry_rules.proofs.colours.Goals.{In-Some}
 
 -- the entry of a turn
-inside : (c : In-loop-d) → let a = c.args in c.loop-d.y.0 < (entries_of a.d a.img.now).count
-inside c = omega (arith, c.loop-d-test.true, c.index.ensures, c.requires.x_le_end.1, count_is c.requires.directory_listed)
+inside : (c : In-Some) → let a = c.args in c.in-Some.y.0 < (entries_of a.d a.img.now).count
+inside c = let s = c.in-Some.ensures.steps in omega (arith, s.0, s.1.0, c.loop-y.invariant.ends, c.requires.x_le_end.1, count_is c.requires.directory_listed)
 
-pub loop-d-init : goal.loop-d-init
-loop-d-init c = ((omega arith, c.requires.x_le_end.0), sym (colours_start (entries_of c.args.d c.args.img.now) c.args.x.0))
+pub until-y-items-requires : goal.until-y-items-requires
+until-y-items-requires c = omega (arith, c.requires.x_le_end.1, count_few c.requires.directory_listed)
+
+pub loop-y-init : goal.loop-y-init
+loop-y-init c =
+    rw (c.into_iter-y-iterator.ensures.into_iter_gives, c.until-y-items.ensures.0, c.until-y-items.ensures.1)
+    (record {
+      can_next = tt;
+      is_finite = tt;
+      ends = refl;
+      from = omega arith;
+      upto = c.requires.x_le_end.0;
+      right = sym (colours_start (entries_of c.args.d c.args.img.now) c.args.x.0);
+    })
 
 pub place-requires : goal.place-requires
-place-requires c = placed c.requires.directory_listed _ (inside (goal.at.place-requires c).In-loop-d)
+place-requires c = placed c.requires.directory_listed _ (inside (goal.at.place-requires c).In-Some)
 
 pub common_fields-ok-requires : goal.common_fields-ok-requires
-common_fields-ok-requires c = omega (arith, c.place.ensures, place_inside c.requires.directory_listed _ (inside (goal.at.common_fields-ok-requires c).In-loop-d))
+common_fields-ok-requires c = omega (arith, c.place.ensures, place_inside c.requires.directory_listed _ (inside (goal.at.common_fields-ok-requires c).In-Some))
 
-pub next-y-requires : goal.next-y-requires
-next-y-requires c = omega (arith, inside (goal.at.next-y-requires c).In-loop-d, count_is c.requires.directory_listed, count_few c.requires.directory_listed)
-
-pub loop-d-smaller : goal.loop-d-smaller
-loop-d-smaller c = omega (arith, c.next-y.ensures, c.loop-d-test.true, c.index.ensures)
-
-pub loop-d-preserved : goal.loop-d-preserved
-loop-d-preserved c =
-    let l = c.loop-d.invariant in
-    let e = entry_is c.requires.directory_listed _ (inside (goal.at.loop-d-preserved c).In-loop-d) in
-    rw c.next-y.ensures
-    ((omega (arith, l.0.0), omega (arith, c.loop-d-test.true, c.index.ensures)), rw (colours_next (entries_of c.args.d c.args.img.now) _ c.loop-d.y.0 l.0.0, e, c.common_fields-ok.ensures, c.place.ensures, l.1))
+pub loop-y-preserved : goal.loop-y-preserved
+loop-y-preserved c =
+    let l = c.loop-y.invariant in
+    let s = c.in-Some.ensures.steps in
+    let e = entry_is c.requires.directory_listed _ (inside (goal.at.loop-y-preserved c).In-Some) in
+    record {
+      can_next = tt;
+      is_finite = tt;
+      ends = s.1.1.1 ∙ l.ends;
+      from = omega (arith, l.from, s.1.1.0);
+      upto = omega (arith, l.ends, s.0, s.1.1.0);
+      right = rw (s.1.1.0, l.right, colours_next (entries_of c.args.d c.args.img.now) c.args.x.0 c.loop-y.y-iterator.next l.from, c.common_fields-ok.ensures, c.place.ensures, ← s.1.0, e);
+    }
 
 pub returns : goal.returns
-returns c = let e : c.loop-d.y.0 ≡ c.args.end = omega (arith, c.loop-d.invariant.0.1, c.loop-d-test.false, c.index.ensures) in rw e at c.loop-d.invariant.1
+returns c =
+    let l = c.loop-y.invariant in
+    let e : c.loop-y.y-iterator.next ≡ c.args.end = omega (arith, l.upto, l.ends, c.in-None.ensures.steps) in
+    rw e at l.right

@@ -1,10 +1,7 @@
-use borrow.Author.Rules.{rules}
-use mathlib.Core.Path.{◌≡◌, sym, ◌∙◌}
+use mathlib.Core.Path.{sym, ◌∙◌}
 use mathlib.Core.Bool.{true}
-use borrow.Author.Tests.{eqb-true, eqb-false, not-true, not-false}
-use Rattle.format.specs.Layout.Entry.{kind}
+use borrow.Author.Tests.{eqb-true, eqb-false}
 use Rattle.format.specs.Rules.Entries.{common_fields}
-use Rattle.entries.specs.Entry.{entry_at}
 use Rattle.entry_rules.proofs.Fields.{fields_first, fields_colour, fields_stream, fields_storage, fields_rest}
 use Rattle.entry_rules.proofs.entry_fields.Goals as goal
 

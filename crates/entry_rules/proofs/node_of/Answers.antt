@@ -1,12 +1,10 @@
-use borrow.Author.Rules.{rules}
 use mathlib.Core.Path.{◌≡◌, ap, ◌∙◌}
 use mathlib.Core.Bool.{true, ◌||◌}
 use native.Mathlib.Omega.{arith}
-use lib.Dec.{eqb}
 use Rattle.format.specs.Layout.Entry.{is_storage, is_stream}
 use Rattle.entries.specs.Entry.{entry_at}
 use Rattle.nodes.specs.Slots.{slot_of}
-use Rattle.entry_rules.proofs.Reading.{units_few, packable, object_node_lem, other_node}
+use Rattle.entry_rules.proofs.Reading.{units_few, packable}
 use Rattle.entry_rules.proofs.node_of.Goals as goal
 use Rattle.entry_rules.proofs.node_of.Goals.{Then-is_storage-is_stream}
 
@@ -22,15 +20,3 @@ pack-requires c =
     (c.of-low.ensures ∙ ap (slot_of _) c.left.ensures)
     (c.of-high.ensures ∙ ap (slot_of _) c.right.ensures)
     (c.of-below.ensures ∙ ap (slot_of _) c.child.ensures)
-
-pub returns-then-is_storage-is_stream : goal.returns-then-is_storage-is_stream
-returns-then-is_storage-is_stream c =
-    object_node_lem c.requires.n_nonzero c.requires.object_named (object (goal.at.returns-then-is_storage-is_stream c).Then-is_storage-is_stream) c.name_units-units.ensures
-    (c.of-low.ensures ∙ ap (slot_of _) c.left.ensures)
-    (c.of-high.ensures ∙ ap (slot_of _) c.right.ensures)
-    (c.of-below.ensures ∙ ap (slot_of _) c.child.ensures)
-    (ap (λ x. eqb x 0) c.colour.ensures)
-    c.pack.ensures
-
-pub returns : goal.returns
-returns c = other_node c.requires.n_nonzero (rw (← c.entry_type-t.ensures, ← c.is_storage.ensures, ← c.is_stream.ensures) c.if-is_storage-is_stream.false)

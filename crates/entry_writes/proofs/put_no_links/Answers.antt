@@ -1,4 +1,3 @@
-use borrow.Author.Rules.{rules}
 use Rattle.entry_writes.proofs.Blocks.{three_links}
 use Rattle.entry_writes.proofs.put_no_links.Goals as goal
 

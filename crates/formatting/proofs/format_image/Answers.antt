@@ -1,12 +1,8 @@
-use borrow.Author.Rules.{rules}
-use borrow.Author.Tests.{not-true, not-false}
 use mathlib.Core.Path.{◌≡◌, sym, ◌∙◌}
 use mathlib.Core.Bool.{true}
 use native.Mathlib.Omega.{arith}
 use lib.ListN.{length}
-use Rattle.format.specs.Basics.Bytes.{Bytes}
-use Rattle.format.specs.Layout.Geometry.{Geometry}
-use Rattle.format.specs.Fresh.Plan.{Plan, planned}
+use Rattle.format.specs.Fresh.Plan.{planned}
 use Rattle.format.specs.Fresh.Answer.{buffer_fits, format_answer}
 use Rattle.kinds.specs.Sizes.{geometry_of}
 use Rattle.formatting.specs.Plans.{plan_for, plan_sound}

@@ -13,6 +13,6 @@ returns c =
       c.put_u16-2.ensures,
       c.put_u16.ensures,
       c.put_u64.ensures,
-      c.fill_zero.ensures,
+      c.fill.ensures.after (search rules),
     )
     (marks_are (geometry_of c.args.g) (length c.args.part.now) c.requires)

@@ -1,10 +1,7 @@
-use borrow.Author.Rules.{rules}
 use Prim.Native.Nat.{◌-◌}
 use native.Mathlib.Omega.{arith}
-use Rattle.format.specs.Fresh.Header.{bytes_at}
 use Rattle.formatting.specs.Numbers.{header_number}
 use Rattle.fresh_sectors.proofs.Laying.{numbers_start, numbers_step, numbers_end}
-use Rattle.fresh_sectors.specs.Laid.{Laid}
 use Rattle.fresh_sectors.specs.Parts.{sizes, plan}
 use Rattle.formatting.proofs.put_numbers.Goals as goal
 

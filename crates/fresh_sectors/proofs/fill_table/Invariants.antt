@@ -1,10 +1,6 @@
-use borrow.Author.Rules.{rules}
 use Prim.Native.Nat.{◌-◌}
-use native.Mathlib.Omega.{arith}
 use Rattle.format.specs.Layout.Geometry.{cells_in}
 use Rattle.format.specs.Fresh.Header.{bytes_at}
-use Rattle.fresh_sectors.proofs.Laying.{numbers_start, numbers_step, numbers_end}
-use Rattle.fresh_sectors.proofs.Standing.{cells_few, cells_bytes}
 use Rattle.fresh_sectors.specs.Parts.{sizes, plan}
 use Rattle.fresh_sectors.specs.Tables.{table_number}
 use Rattle.fresh_sectors.specs.Laid.{Laid}
@@ -12,6 +8,3 @@ use Rattle.fresh_sectors.proofs.fill_table.Given as goal
 
 abbrev pub invariant-loop-i : goal.invariant-loop-i
 invariant-loop-i l = Laid 4 (cells_in (sizes l.l)) (bytes_at (table_number (sizes l.l) (plan l.l) l.s.0)) l.initial.part l.i l.part
-
-abbrev pub decreases-loop-i : goal.decreases-loop-i
-decreases-loop-i l = l.cells - l.i

@@ -2,10 +2,6 @@ use borrow.Author.Rules.{rules}
 use Rattle.format.specs.Layout.Header.{difat_start}
 use Rattle.header.proofs.difat_start.Goals as goal
 
-pub u32_at-requires : goal.u32_at-requires
-unfolding difat_start
-u32_at-requires c = search rules
-
 pub returns : goal.returns
 unfolding difat_start
 returns c = search rules

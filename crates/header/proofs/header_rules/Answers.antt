@@ -1,4 +1,3 @@
-use borrow.Author.Rules.{rules}
 use Rattle.kinds.specs.Sizes.{geometry_of}
 use Rattle.header.proofs.HeaderNumbers.{header_numbers}
 use native.Mathlib.Omega.{arith}
@@ -7,7 +6,7 @@ use Rattle.header.proofs.header_rules.Goals as goal
 pub returns : goal.returns
 returns c =
     rw (
-      header_numbers (geometry_of c.args.g) c.args.img.now (omega arith) (λ i. omega (arith, c.shared_slice_known-1.given i)),
+      header_numbers (geometry_of c.args.g) c.args.img.now (omega arith) (λ i. omega (arith, c.type_inv.img i)),
       c.all_zero.ensures,
       c.u32_at-2.ensures,
       c.directory_count.ensures,

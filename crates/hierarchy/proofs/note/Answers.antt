@@ -1,7 +1,6 @@
-use borrow.Author.Rules.{rules}
 use Prim.Native.Nat.{◌<◌}
 use mathlib.Core.Path.{◌≡◌, refl, sym, ap, ◌∙◌}
-use mathlib.Core.Bool.{true, false}
+use mathlib.Core.Bool.{false}
 use native.Mathlib.Omega.{arith}
 use lib.Dec.{eqb}
 use borrow.Author.Tests.{eqb-false}
@@ -29,12 +28,6 @@ some c = omega (arith, eqb-false c.args.due.0 0 (there c))
 pair : (c : Else-is_none) → let p = c.args in Paired (entries_of p.d p.img.now) (entry_of p.due.0) (entry_of p.at.0)
 pair c = c.requires.due_paired (some c)
 
-pub returns-then-is_none : goal.returns-then-is_none
-returns-then-is_none c = let e = sym c.is_none.ensures ∙ c.if-is_none.true in record { pairs = sym (rw e); lows = sym (rw e); highs = sym (rw e) }
-
-pub entry-requires : goal.entry-requires
-entry-requires c = some (goal.at.entry-requires c).Else-is_none
-
 pub place-requires : goal.place-requires
 place-requires c = rw c.entry.ensures (placed c.requires.directory_listed _ (pair (goal.at.place-requires c).Else-is_none).first.inside)
 
@@ -49,6 +42,3 @@ place-requires-2 c = rw c.entry-2.ensures (placed c.requires.directory_listed _ 
 
 pub overflow_cast-high : goal.overflow_cast-high
 overflow_cast-high c = omega (arith, high_is (goal.at.overflow_cast-high c).After-place-2, place_low c.requires.directory_listed _ (pair (goal.at.overflow_cast-high c).Else-is_none).second.inside)
-
-pub returns : goal.returns
-returns c = let e = there (goal.at.returns c).Else-is_none in record { pairs = sym (rw e); lows = sym (rw (e, ← low_is (goal.at.returns c).After-place)); highs = sym (rw (e, ← high_is (goal.at.returns c).After-place-2)) }

@@ -1,24 +1,12 @@
-use borrow.Author.Rules.{rules}
-use Prim.Native.Nat.{◌+◌, ◌*◌, ◌<◌}
 use mathlib.Core.Path.{refl, sym, ◌∙◌}
 use native.Mathlib.Omega.{arith}
 use native.Mathlib.Nat.{mod-lt}
-use borrow.Author.Tests.{not-true, not-false}
-use Rattle.tables.specs.Work.{Wrote}
 use Rattle.tables.proofs.WorkLaws.{wrote_none, wrote_two}
-use Rattle.directory.specs.Listed.{count_of}
-use Rattle.directory.proofs.Places.{count_is, count_short, countable, root_inside}
-use Rattle.tree_walk.specs.Walking.{left_over}
+use Rattle.directory.proofs.Places.{count_is, count_short}
 use Rattle.tree_walk.proofs.Starts.{walking_start}
 use Rattle.hierarchy.proofs.Passes.{turn_on, turn_wrong, turn_done}
-use Rattle.hierarchy.proofs.Batches.{Batch, batch_start, batch_turn, batch_room, batch_full, batch_end}
+use Rattle.hierarchy.proofs.Batches.{batch_start, batch_turn, batch_room, batch_full, batch_end}
 use Rattle.hierarchy.proofs.walk.Goals as goal
-
-pub child_of-requires : goal.child_of-requires
-child_of-requires c = let l = c.requires.listed in record { directory_listed = l; x_bound = root_inside l }
-
-pub count-requires : goal.count-requires
-count-requires c = countable c.requires.listed
 
 pub of-first-requires : goal.of-first-requires
 of-first-requires c = let r = c.requires in omega (arith, c.count.ensures, count_short r.listed)
@@ -27,9 +15,6 @@ pub loop-next-init : goal.loop-next-init
 loop-next-init c =
     let r = c.requires in
     (batch_start (walking_start r (c.of-first.ensures ∙ rw (c.count.ensures, c.child_of.ensures, ← count_is r.listed)) refl refl refl refl) refl refl, omega arith, wrote_none _ 0 _)
-
-pub take_turn-requires : goal.take_turn-requires
-take_turn-requires c = (_, c.loop-next.invariant.0.on)
 
 pub note-k-requires : goal.note-k-requires
 note-k-requires c =
@@ -67,9 +52,6 @@ returns-in-Wrong c =
     let i = c.loop-next.invariant in
     let t = c.take_turn.ensures _ i.0.on in
     record { walked = turn_wrong t c.in-Wrong.is; wrote = wrote_two i.2 t.wrote }
-
-pub pairs_rise-requires : goal.pairs_rise-requires
-pairs_rise-requires c = c.loop-next.invariant.0.named
 
 pub returns-in-Done : goal.returns-in-Done
 returns-in-Done c =

@@ -1,20 +1,14 @@
-use borrow.Author.Rules.{rules}
-use native.Mathlib.Omega.{arith}
-use mathlib.Core.Path.{refl, sym}
-use Rattle.le.proofs.Zeros.{Zeroing, zero_word, zeroing_step}
+use Rattle.std.proofs.Common.{arith, ◌≡◌, ◌+◌, ◌-◌, ap, ◌∙◌, refl, rules}
+use Rattle.std.proofs.lemmas.Fn.{fold_over, slice_gives, fronts}
+use Rattle.format.specs.Basics.Lists.{all}
+use Rattle.format.specs.Basics.Bytes.{part, all_zero}
+use Rattle.le.proofs.Zeros.{zeros_more}
 use Rattle.le.proofs.all_zero.Goals as goal
 
-pub loop-k-init : goal.loop-k-init
-loop-k-init c = record { fits = c.requires; rest = refl }
-
-pub u64_at-requires : goal.u64_at-requires
-u64_at-requires c = omega (arith, c.loop-k.invariant.fits)
-
-pub loop-k-preserved : goal.loop-k-preserved
-loop-k-preserved c = zeroing_step c.loop-k.invariant 8 _ (omega arith) (rw c.u64_at.ensures (zero_word _ _))
-
-pub zero_bytes-requires : goal.zero_bytes-requires
-zero_bytes-requires c = c.loop-k.invariant.fits
-
 pub returns : goal.returns
-returns c = rw c.zero_bytes.ensures (sym c.loop-k.invariant.rest)
+unfolding part all_zero all
+returns c =
+    let a = c.args in
+    let n : a.at + a.n - a.at ≡ a.n = omega arith in
+    let r : c.iter.result.rest.now ≡ part a.b.now a.at a.n = rw n at c.iter.ensures.rest in
+    fold_over fronts (λ y. y.now) _ (λ xs ok. ok ≡ all_zero xs) _ (λ ys a x b f' j k. (search (rules, zeros_more), refl)) c.iter.result _ _ _ (slice_gives c.iter.result) refl c.fold.ensures.ran ∙ ap all_zero r

@@ -1,12 +1,11 @@
-use borrow.Author.Rules.{rules}
-use native.Mathlib.Omega.{arith}
-use mathlib.Core.Path.{sym}
-use lib.ListN.{length-set}
-use Rattle.theory.proofs.Bytes.{put16_sets}
+use Rattle.std.proofs.Common.{arith, ◌≡◌, ◌+◌, ◌∙◌}
+use Rattle.format.specs.Basics.Bytes.{put_bytes, put16, le16}
+use Rattle.theory.proofs.Sets.{lent_back}
 use Rattle.le.proofs.put_u16.Goals as goal
 
-pub bounds-b-at-2 : goal.bounds-b-at-2
-bounds-b-at-2 c = simp length-set (omega arith)
-
 pub returns : goal.returns
-returns c = sym (put16_sets _ _ _)
+unfolding put16 put_bytes le16
+returns c =
+    let a = c.args in
+    let e : c.copy_from_slice.new.self ≡ le16 a.v = c.copy_from_slice.ensures.after ∙ c.to_le_bytes.ensures in
+    rw e (lent_back a.b.now (le16 a.v) a.at (a.at + 2) (omega arith) c.requires)

@@ -1,18 +1,12 @@
-use borrow.Author.Rules.{rules}
-use native.Mathlib.Omega.{arith}
-use mathlib.Core.Path.{sym}
-use lib.ListN.{length-set}
-use Rattle.theory.proofs.Bytes.{put32_sets}
+use Rattle.std.proofs.Common.{arith, ◌≡◌, ◌+◌, ◌∙◌}
+use native.Mathlib.Nat.{div-div-eq-div-mul}
+use Rattle.format.specs.Basics.Bytes.{put_bytes, put32, le16, le32}
+use Rattle.theory.proofs.Sets.{lent_back}
 use Rattle.le.proofs.put_u32.Goals as goal
 
-pub bounds-b-at-2 : goal.bounds-b-at-2
-bounds-b-at-2 c = simp length-set (omega arith)
-
-pub bounds-b-at-3 : goal.bounds-b-at-3
-bounds-b-at-3 c = simp length-set (omega arith)
-
-pub bounds-b-at-4 : goal.bounds-b-at-4
-bounds-b-at-4 c = simp length-set (omega arith)
-
 pub returns : goal.returns
-returns c = sym (put32_sets _ _ _)
+unfolding put32 put_bytes le32 le16
+returns c =
+    let a = c.args in
+    let e : c.copy_from_slice.new.self ≡ le32 a.v = c.copy_from_slice.ensures.after ∙ c.to_le_bytes.ensures ∙ simp div-div-eq-div-mul in
+    rw e (lent_back a.b.now (le32 a.v) a.at (a.at + 4) (omega arith) c.requires)

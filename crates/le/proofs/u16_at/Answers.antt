@@ -1,4 +1,4 @@
-use borrow.Author.Rules.{rules}
+use Rattle.std.proofs.Common.{rules}
 use Rattle.theory.proofs.Bytes.{u16_bytes}
 use Rattle.le.proofs.u16_at.Goals as goal
 

@@ -1,4 +1,4 @@
-use borrow.Author.Rules.{rules}
+use Rattle.std.proofs.Common.{rules}
 use Rattle.theory.proofs.Bytes.{u32_bytes}
 use Rattle.le.proofs.u32_at.Goals as goal
 

@@ -9,12 +9,11 @@ use Rattle.directory.proofs.Places.{placed, root_inside}
 use Rattle.lines.specs.Lines.{width_of, line_length}
 use Rattle.listing.specs.Walks.{entry_on, parent_on, Turning}
 use Rattle.listing.proofs.Walks.{ListingLent, start_sound, start_room, start_walks, walks_here, walks_turning, walks_inside, walks_named, walks_count, walks_less}
-use Rattle.listing.proofs.Measures.{measuring_start, measuring_long, measuring_fits, measuring_more, measuring_end}
+use Rattle.listing.proofs.Measures.{measuring_start, measuring_long, measuring_more, measuring_end}
 use Rattle.listing.proofs.measure.Goals as goal
 use Rattle.listing.proofs.measure.Goals.{In-loop-n, After-line_length-k}
 
 -- ---- a turn
-
 turning : (c : In-loop-n) → let p = c.args in let w = c.loop-n.work in let k = c.loop-n.n - 1 in
     Turning (entries_of p.d p.img.now) (count_of p.d) k (entry_on w k) (parent_on w k)
 turning c = walks_turning c.loop-n.invariant.walks c.loop-n-test.true
@@ -52,18 +51,10 @@ line_length-k-requires c =
     let place_is : c.place.result ≡ place_of c.args.d c.loop-n.work (entry_on c.loop-n.work (c.loop-n.n - 1)) = rw (← c.pair_at-q.ensures.0) c.place.ensures in
     record { named_at = walks_named c.loop-n.invariant.walks c.loop-n-test.true _ place_is; parent_bound = omega (arith, c.pair_at-q.ensures.1, (turning (goal.at.line_length-k-requires c).In-loop-n).fits) }
 
-pub overflow_sub-most : goal.overflow_sub-most
-overflow_sub-most c = c.loop-n.invariant.within
-
 pub returns-then-most-bytes : goal.returns-then-most-bytes
 returns-then-most-bytes c =
     let place_is : c.place.result ≡ place_of c.args.d c.loop-n.work (entry_on c.loop-n.work (c.loop-n.n - 1)) = rw (← c.pair_at-q.ensures.0) c.place.ensures in
     let m = c.loop-n.invariant in record { answer = measuring_long m c.loop-n-test.true _ place_is (line_is (goal.at.returns-then-most-bytes c).After-line_length-k) c.if-most-bytes.true; wrote = wrote_two c.push-n.ensures.wrote m.walks.wrote }
-
-pub overflow_add-bytes : goal.overflow_add-bytes
-overflow_add-bytes c =
-    let place_is : c.place.result ≡ place_of c.args.d c.loop-n.work (entry_on c.loop-n.work (c.loop-n.n - 1)) = rw (← c.pair_at-q.ensures.0) c.place.ensures in
-    omega (arith, c.ranges.most.fits, measuring_fits c.loop-n.invariant c.loop-n-test.true _ place_is (line_is (goal.at.overflow_add-bytes c).After-line_length-k) c.if-most-bytes.false)
 
 pub overflow_add-objects : goal.overflow_add-objects
 overflow_add-objects c =
@@ -80,9 +71,6 @@ pub loop-n-preserved : goal.loop-n-preserved
 loop-n-preserved c =
     let place_is : c.place.result ≡ place_of c.args.d c.loop-n.work (entry_on c.loop-n.work (c.loop-n.n - 1)) = rw (← c.pair_at-q.ensures.0) c.place.ensures in
     measuring_more c.loop-n.invariant c.loop-n-test.true _ place_is (line_is (goal.at.loop-n-preserved c).After-line_length-k) c.if-most-bytes.false _ c.turn-n.ensures.stack c.turn-n.ensures.wrote
-
-pub with_first-requires : goal.with_first-requires
-with_first-requires c = c.loop-n.invariant.within
 
 pub returns : goal.returns
 returns c = let m = c.loop-n.invariant in record { answer = measuring_end m c.loop-n-test.false _ c.with_first.ensures; wrote = wrote_two c.push-n.ensures.wrote m.walks.wrote }

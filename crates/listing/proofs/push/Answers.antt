@@ -1,13 +1,11 @@
-use native.Mathlib.Omega.{arith}
 use Prim.Native.Nat.{◌+◌, ◌*◌, ◌<◌}
-use mathlib.Core.Path.{refl, sym, ◌∙◌}
+use mathlib.Core.Path.{sym, ◌∙◌}
 use mathlib.Core.Logic.{◌≢◌}
 use borrow.Author.Tests.{eqb-true, eqb-false}
 use lib.ListN.{length, length-set}
 use Rattle.format.specs.Layout.Entry.{NOSTREAM}
 use Rattle.theory.specs.TreeViews.{Standing}
 use Rattle.theory.proofs.Trees.Spines.{left_shorter}
-use Rattle.tables.proofs.WorkLaws.{wrote_none}
 use Rattle.directory.specs.Listed.{entries_of}
 use Rattle.listing.proofs.Stack.{push_stands, push_inside, push_more, push_done}
 use Rattle.listing.proofs.push.Goals as goal
@@ -25,32 +23,8 @@ stands c = push_stands c.loop-d.invariant (real c)
 room : (c : In-loop-d) → 2 * c.loop-d.k + 1 < length c.loop-d.work
 room c = push_inside c.loop-d.invariant (real c)
 
-pub loop-d-init : goal.loop-d-init
-loop-d-init c = record { listed = c.requires.directory_listed; apart = c.requires.d_bound; tree_sound = c.requires.x_value; same = refl; room = c.requires.x_bound; wrote = wrote_none _ _ _ }
-
-pub overflow_mul-work : goal.overflow_mul-work
-overflow_mul-work c = omega (arith, room (goal.at.overflow_mul-work c).In-loop-d)
-
-pub offset_bounds-work-k : goal.offset_bounds-work-k
-offset_bounds-work-k c = omega (arith, room (goal.at.offset_bounds-work-k c).In-loop-d)
-
-pub bounds-work-k : goal.bounds-work-k
-bounds-work-k c = omega (arith, room (goal.at.bounds-work-k c).In-loop-d)
-
-pub overflow_mul-work-in-loop-d : goal.overflow_mul-work-in-loop-d
-overflow_mul-work-in-loop-d c = omega (arith, room (goal.at.overflow_mul-work-in-loop-d c).In-loop-d)
-
-pub overflow_add-work : goal.overflow_add-work
-overflow_add-work c = omega (arith, room (goal.at.overflow_add-work c).In-loop-d)
-
-pub offset_bounds-work-k-in-loop-d : goal.offset_bounds-work-k-in-loop-d
-offset_bounds-work-k-in-loop-d c = omega (arith, room (goal.at.offset_bounds-work-k-in-loop-d c).In-loop-d)
-
 pub bounds-work-k-in-loop-d : goal.bounds-work-k-in-loop-d
 bounds-work-k-in-loop-d c = simp length-set (room (goal.at.bounds-work-k-in-loop-d c).In-loop-d)
-
-pub overflow_add-k : goal.overflow_add-k
-overflow_add-k c = omega (arith, room (goal.at.overflow_add-k c).In-loop-d)
 
 pub left_of-y-requires : goal.left_of-y-requires
 left_of-y-requires c = record { directory_listed = (push_more c.loop-d.invariant (real (goal.at.left_of-y-requires c).In-loop-d)).listed; x_bound = (stands (goal.at.left_of-y-requires c).In-loop-d).inside }

@@ -2,7 +2,7 @@ use Rattle.tables.proofs.WorkLaws.{wrote_two}
 use Rattle.directory.specs.Listed.{count_of, entries_of}
 use Rattle.directory.proofs.Places.{placed}
 use Rattle.listing.specs.Walks.{Turning}
-use Rattle.listing.proofs.Turns.{turn_named, turn_inside, right_sound, right_room, right_listed, below_sound, below_room, turn_done}
+use Rattle.listing.proofs.Turns.{turn_named, right_sound, right_room, right_listed, below_sound, below_room, turn_done}
 use Rattle.listing.proofs.turn.Goals as goal
 use Rattle.listing.proofs.turn.Goals.{After-pair_at-q}
 
@@ -10,15 +10,6 @@ use Rattle.listing.proofs.turn.Goals.{After-pair_at-q}
 turning : (c : After-pair_at-q) → let p = c.args in let q = c.pair_at-q.result in
     Turning (entries_of p.d p.img.now) (count_of p.d) p.k q.entry.0 q.parent
 turning c = rw (c.pair_at-q.ensures.0, c.pair_at-q.ensures.1) c.requires.turning
-
-pub pair_at-q-requires : goal.pair_at-q-requires
-pair_at-q-requires c = turn_inside c.requires.directory_listed c.requires.turning c.requires.d_bound
-
-pub right_of-right-requires : goal.right_of-right-requires
-right_of-right-requires c = record { directory_listed = c.requires.directory_listed; x_bound = (turning (goal.at.right_of-right-requires c).After-pair_at-q).stands.inside }
-
-pub child_of-child-requires : goal.child_of-child-requires
-child_of-child-requires c = record { directory_listed = c.requires.directory_listed; x_bound = (turning (goal.at.child_of-child-requires c).After-pair_at-q).stands.inside }
 
 pub place-requires : goal.place-requires
 place-requires c = placed c.requires.directory_listed _ (turning (goal.at.place-requires c).After-pair_at-q).stands.inside

@@ -18,8 +18,5 @@ overflow_add-n c = omega (arith, c.decimal_length-n.ensures, decimal_most c.args
 pub returns-then-most-bytes : goal.returns-then-most-bytes
 returns-then-most-bytes c = measured_long _ _ _ (omega (arith, first (goal.at.returns-then-most-bytes c).After-decimal_length-n, c.if-most-bytes.true, c.requires))
 
-pub overflow_add-result : goal.overflow_add-result
-overflow_add-result c = omega (arith, c.if-most-bytes.false, c.requires)
-
 pub returns : goal.returns
 returns c = rw (first (goal.at.returns c).After-decimal_length-n) (measured_fits _ _ _ (omega (arith, first (goal.at.returns c).After-decimal_length-n, c.if-most-bytes.false, c.requires)))

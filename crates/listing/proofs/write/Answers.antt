@@ -26,7 +26,6 @@ first_long c =
     ap length c.put_first-at.ensures.written ∙ over_length _ _ (first_room (entries_of p.d p.img.now) p.out.now c.requires.objects_value c.requires.img_in_bounds)
 
 -- ---- a turn
-
 turning : (c : In-loop-n) → let p = c.args in let w = c.loop-n.work in let k = c.loop-n.n - 1 in
     Turning (entries_of p.d p.img.now) (count_of p.d) k (entry_on w k) (parent_on w k)
 turning c = walks_turning c.loop-n.invariant.walks c.loop-n-test.true

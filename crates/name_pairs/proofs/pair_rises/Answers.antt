@@ -1,15 +1,13 @@
-use borrow.Author.Rules.{rules}
-use Rattle.name_pairs.proofs.Pairs.{order_less, order_same, order_more}
+use Rattle.std.proofs.Common.{◌≡◌, ◌==◌, refl, Bool, true, false, cond, Less, Equal, Greater}
+use Rattle.std.specs.Ordering.{ordering_index}
+use Rattle.kinds.specs.Ordering.{ordering}
 use Rattle.name_pairs.proofs.pair_rises.Goals as goal
 
-pub compare_alike-requires : goal.compare_alike-requires
-compare_alike-requires c = record { named_at = c.requires.named_at; named_at_2 = c.requires.named_at_2; n_value = c.requires.n_value; alike = c.requires.alike }
+first : (x y : Bool) → (ordering_index (cond x Less (cond y Equal Greater)) == 0) ≡ x
+first true y = refl
+first false true = refl
+first false false = refl
 
-pub returns-in-Less : goal.returns-in-Less
-returns-in-Less c = order_less _ _ c.compare_alike.ensures c.in-Less.is
-
-pub returns-in-Same : goal.returns-in-Same
-returns-in-Same c = order_same _ _ c.compare_alike.ensures c.in-Same.is
-
-pub returns-in-More : goal.returns-in-More
-returns-in-More c = order_more _ _ c.compare_alike.ensures c.in-More.is
+pub returns : goal.returns
+unfolding ordering
+returns c = rw (c.eq.ensures, c.compare_alike.ensures) (first _ _)

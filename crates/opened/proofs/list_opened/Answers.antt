@@ -1,18 +1,18 @@
-use borrow.Author.Rules.{rules}
-use mathlib.Core.Path.{refl, ◌∙◌}
-use Rattle.format.specs.Calls.Call.{list, work_of}
-use Rattle.opened.proofs.Ready.{list_any}
+use mathlib.Core.Path.{◌∙◌}
+use mathlib.Core.List.{[]}
+use Rattle.format.specs.Calls.Call.{list}
+use Rattle.opened.specs.Sequence.{lent}
 use Rattle.opened.proofs.Calls.{opened_reply, opened_out, opened_same}
 use Rattle.opened.proofs.list_opened.Goals as goal
 
-pub list_in-requires : goal.list_in-requires
-unfolding work_of
-list_in-requires c = c.requires.opened
-
 pub returns : goal.returns
-unfolding work_of
+unfolding lent
 returns c =
-    let a = c.args in
-    let q = list a.out.now a.work.now in
-    let l = list_any _ _ a.image.now a.work.now a.out.now in
-    record { result_value = c.list_in.ensures.result_value ∙ l.0 ∙ opened_reply c.requires q refl; out_after = c.list_in.ensures.out_after ∙ l.1 ∙ opened_out c.requires q refl; open_volume = (opened_same c.requires c.list_in.ensures.wrote).0; wrote = (opened_same c.requires c.list_in.ensures.wrote).1 }
+    let q = list c.args.out.now [] in
+    let l = opened_same c.requires c.list_in.ensures.wrote in
+    record {
+      result_value = c.list_in.ensures.result_value ∙ opened_reply c.requires q;
+      out_after = c.list_in.ensures.out_after ∙ opened_out c.requires q;
+      open_volume = l.0;
+      wrote = l.1;
+    }

@@ -1,31 +1,10 @@
-use borrow.Author.Rules.{rules}
-use mathlib.Core.Path.{refl, ◌∙◌}
+use mathlib.Core.Path.{refl}
 use mathlib.Core.List.{[]}
 use Rattle.format.specs.Calls.Call.{read, overwrite, set_length, list}
 use Rattle.format.specs.History.Claim.{is_edit}
 use Rattle.opened.specs.Sequence.{lent}
 use Rattle.opened.proofs.Sequence.{edit_step, find_step, read_step, list_step}
 use Rattle.opened_run.proofs.calls.Goals as goal
-
-pub set_length_opened-length-requires : goal.set_length_opened-length-requires
-unfolding lent is_edit
-set_length_opened-length-requires c = search rules
-
-pub overwrite_opened-overwrite-requires : goal.overwrite_opened-overwrite-requires
-unfolding lent is_edit
-overwrite_opened-overwrite-requires c = search rules
-
-pub find_opened-find-requires : goal.find_opened-find-requires
-unfolding lent is_edit
-find_opened-find-requires c = search rules
-
-pub read_opened-read-requires : goal.read_opened-read-requires
-unfolding lent is_edit
-read_opened-read-requires c = search rules
-
-pub list_opened-list-requires : goal.list_opened-list-requires
-unfolding lent is_edit
-list_opened-list-requires c = search rules
 
 pub returns : goal.returns
 unfolding lent is_edit

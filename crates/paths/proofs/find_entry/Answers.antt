@@ -1,69 +1,58 @@
+use Prim.Native.Nat.{◌<◌}
+use mathlib.Core.Path.{◌≡◌, sym, ap, ◌∙◌}
+use mathlib.Core.Bool.{not}
 use borrow.Author.Rules.{rules}
-use Prim.Native.Nat.{ℕ, ◌+◌, ◌-◌, ◌≤◌, ◌<◌}
-use mathlib.Core.Path.{◌≡◌, sym, subst}
-use native.Mathlib.Omega.{arith}
-use borrow.Author.Rules.{part_to_end}
-use lib.ListN.{length, drop}
-use Rattle.format.specs.Calls.Paths.{Path}
-use Rattle.format.specs.Calls.Find.{enter, descend, resolve}
-use Rattle.theory.specs.TreeFind.{reached}
+use borrow.Author.Tests.{tests, eqb-true}
+use borrow.Author.Tests.{eqb-false}
+use lib.Dec.{eqb}
+use lib.ListN.{length, get_or}
+use Rattle.std.proofs.lemmas.List.{length_push}
+use Rattle.std.proofs.lemmas.Iterator.Splits.{YieldsList-from_slice_split}
+use Rattle.std.proofs.lemmas.Iterator.Consumers.{YieldsList-turn, YieldsList-end}
+use Rattle.std.proofs.lemmas.Result.{err_from_is_err_and}
+use Rattle.format.specs.Layout.Name.{slash}
+use Rattle.format.specs.Calls.Paths.{split}
 use Rattle.theory.proofs.Loops.{said_no, said_yes}
 use Rattle.theory.proofs.Trees.Paths.{resolve_malformed}
-use Rattle.directory.specs.Listed.{entries_of}
 use Rattle.directory.proofs.Places.{root_inside}
-use Rattle.paths.specs.Found.{first_name, found_of}
-use Rattle.paths.specs.declared.Found.{Found}
-use Rattle.paths.proofs.Splits.{names_from, rest_counted, name_inside}
+use Rattle.paths.proofs.Splits.{split_is}
 use Rattle.paths.proofs.Steps.{searchable_below, enter_inside, way_none, way_start, way_on, way_refused, way_end}
-use mathlib.Core.Path.{ap}
-use mathlib.Core.Bool.{not}
 use Rattle.paths.proofs.find_entry.Goals as goal
-use Rattle.paths.proofs.find_entry.Goals.{After-first_name_length}
+use Rattle.paths.proofs.find_entry.Goals.{In-Some}
 
-counted : (c : After-first_name_length) → c.first_name_length.result ≡ length (first_name (drop (c.loop-i.i) (c.args.path.now)))
-counted c = rest_counted (c.args.path.now) (c.loop-i.i) c.first_name_length.result c.first_name_length.ensures
-
-inside : (c : After-first_name_length) → c.loop-i.i + c.first_name_length.result ≤ length (c.args.path.now)
-inside c = name_inside (c.args.path.now) (c.loop-i.i) c.first_name_length.result (counted c) c.loop-i-test.true
+-- the name at hand is the next piece of the path
+piece : (c : In-Some) → let ns = split c.args.path.now in let n = length c.loop-name.yielded in (n < length ns) × (c.in-Some.name.now ≡ get_or ns n c.in-Some.name.now)
+piece c =
+    let t = YieldsList-turn (YieldsList-from_slice_split _ (λ u. eqb u slash) c.args.path.now (cc) (cc) (cc) (λ x b q k. search (rules, tests))) c.loop-name.yielded _ c.loop-name.yielded_by _ _ c.in-Some.name c.in-Some.is c.next.ensures.steps in
+    rw split_is at t
 
 pub returns-then-not-well_formed : goal.returns-then-not-well_formed
 returns-then-not-well_formed c = record { answer = sym (resolve_malformed _ _ (said_no (ap not c.if-not-well_formed.true) c.well_formed-2.ensures)); inside = tt }
 
-pub returns-then-path-eq0 : goal.returns-then-path-eq0
-returns-then-path-eq0 c = record { answer = way_none _ _ (said_yes (ap not c.if-not-well_formed.false) c.well_formed-2.ensures) c.if-path-eq0.true; inside = root_inside c.requires.directory_listed }
+pub returns-then-is_empty : goal.returns-then-is_empty
+returns-then-is_empty c = record { answer = way_none _ _ (said_yes (ap not c.if-not-well_formed.false) c.well_formed-2.ensures) (eqb-true _ _ (sym c.is_empty.ensures ∙ c.if-is_empty.true)); inside = root_inside c.requires.directory_listed }
 
-pub loop-i-init : goal.loop-i-init
-loop-i-init c = (root_inside c.requires.directory_listed, way_start _ _ (said_yes (ap not c.if-not-well_formed.false) c.well_formed-2.ensures) c.if-path-eq0.false)
+pub loop-name-init : goal.loop-name-init
+loop-name-init c = (root_inside c.requires.directory_listed, way_start _ _ (said_yes (ap not c.if-not-well_formed.false) c.well_formed-2.ensures) (eqb-false _ _ (sym c.is_empty.ensures ∙ c.if-is_empty.false)))
 
 pub enter-requires : goal.enter-requires
-enter-requires c = record { directory_listed = c.requires.directory_listed; img_value = c.requires.img_value; img_value_2 = c.requires.img_value_2; x_bound = c.loop-i.invariant.0 }
+enter-requires c = record { directory_listed = c.requires.directory_listed; img_value = c.requires.img_value; img_value_2 = c.requires.img_value_2; x_bound = c.loop-name.invariant.0 }
 
-pub returns-in-Refused : goal.returns-in-Refused
-returns-in-Refused c =
-    let p = c.args in
-    let e = entries_of p.d p.img.now in
-    let went : (found_of e c.enter.result ≡ enter e (reached e c.loop-i.x.0) (first_name (drop c.loop-i.i p.path.now))) = rw (← part_to_end p.path.now c.loop-i.i) c.enter.ensures in
-    let w = subst (λ r. found_of e r ≡ enter e (reached e c.loop-i.x.0) (first_name (drop c.loop-i.i p.path.now))) c.in-Refused.is went in
-    record { answer = way_refused _ _ c.loop-i.i c.loop-i.x.0 c.loop-i.invariant.1 c.loop-i-test.true _ w; inside = tt }
+pub returns-in_err-x : goal.returns-in_err-x
+returns-in_err-x c =
+    let r = err_from_is_err_and c.from_residual.result c.from_residual.ensures.1 in
+    let t = piece (goal.at.returns-in_err-x c).In-Some in
+    rw (r.1, r.2) (record { answer = way_refused _ _ _ (length c.loop-name.yielded) c.loop-name.x.0 c.loop-name.invariant.1 t.0 t.1 _ c.in_err-x.ensures; inside = tt })
 
-pub overflow_add-i : goal.overflow_add-i
-overflow_add-i c = omega (arith, inside (goal.at.overflow_add-i c).After-first_name_length)
-
-pub overflow_add-i-in-loop-i : goal.overflow_add-i-in-loop-i
-overflow_add-i-in-loop-i c = omega (arith, inside (goal.at.overflow_add-i-in-loop-i c).After-first_name_length)
-
-pub loop-i-smaller : goal.loop-i-smaller
-loop-i-smaller c = omega (arith, c.loop-i-test.true)
-
-pub loop-i-preserved : goal.loop-i-preserved
-loop-i-preserved c =
-    let p = c.args in
-    let e = entries_of p.d p.img.now in
-    let went : (found_of e c.enter.result ≡ enter e (reached e c.loop-i.x.0) (first_name (drop c.loop-i.i p.path.now))) = rw (← part_to_end p.path.now c.loop-i.i) c.enter.ensures in
-    let w = subst (λ r. found_of e r ≡ enter e (reached e c.loop-i.x.0) (first_name (drop c.loop-i.i p.path.now))) c.in-At.is went in (
-      enter_inside _ c.loop-i.x.0 _ (searchable_below _ c.requires.img_value c.requires.img_value_2 _ c.loop-i.invariant.0) _ w,
-      rw (counted (goal.at.loop-i-preserved c).After-first_name_length) (way_on _ (c.args.path.now) c.loop-i.i c.loop-i.x.0 c.loop-i.invariant.1 c.loop-i-test.true _ w),
+pub loop-name-preserved : goal.loop-name-preserved
+loop-name-preserved c =
+    let t = piece (goal.at.loop-name-preserved c).In-Some in (
+      enter_inside _ c.loop-name.x.0 _ (searchable_below _ c.requires.img_value c.requires.img_value_2 _ c.loop-name.invariant.0) _ c.in_ok-x.ensures,
+      rw length_push (way_on _ _ _ (length c.loop-name.yielded) c.loop-name.x.0 c.loop-name.invariant.1 t.0 t.1 _ c.in_ok-x.ensures),
     )
 
 pub returns : goal.returns
-returns c = record { answer = way_end _ _ c.loop-i.i c.loop-i.x.0 c.loop-i.invariant.1 c.loop-i-test.false; inside = c.loop-i.invariant.0 }
+returns c =
+    let t = YieldsList-end (YieldsList-from_slice_split _ (λ u. eqb u slash) c.args.path.now (cc) (cc) (cc) (λ x b q k. search (rules, tests))) c.loop-name.yielded _ c.loop-name.yielded_by _ _ c.in-None.is c.next.ensures.steps in
+    let e = rw split_is at t.1 in
+    record { answer = way_end _ _ _ _ c.loop-name.x.0 c.loop-name.invariant.1 e; inside = c.loop-name.invariant.0 }

@@ -38,14 +38,6 @@ below c = reading_below c.args.img.now (units_stand c.requires.readied (kind_of 
 first_kind : (c : After-unit_after-u) → kind_of c.unit_after-u.result ≡ kind_of c.args.start
 first_kind c = (unit_as (kind_of c.args.start) _ c.unit_after-u.ensures).0
 
-pub kind-requires : goal.kind-requires
-unfolding chain_for
-kind-requires c = search rules
-
-pub unit_bytes-bytes-requires : goal.unit_bytes-bytes-requires
-unfolding chain_for
-unit_bytes-bytes-requires c = search rules
-
 pub returns-then-end-eq0 : goal.returns-then-end-eq0
 unfolding chain_for
 returns-then-end-eq0 c = none_read _ _ _ c.if-end-eq0.true
@@ -98,10 +90,6 @@ overflow_sub-bytes c = omega (arith, inner (goal.at.overflow_sub-bytes c).In-loo
 pub overflow_sub-end : goal.overflow_sub-end
 unfolding chain_for
 overflow_sub-end c = let h = c.loop-i-test.true in omega arith
-
-pub least-run-requires : goal.least-run-requires
-unfolding chain_for
-least-run-requires c = search rules
 
 pub copy_part-requires : goal.copy_part-requires
 unfolding chain_for units_for

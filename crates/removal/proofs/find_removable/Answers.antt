@@ -1,25 +1,24 @@
-use borrow.Author.Rules.{rules}
 use mathlib.Core.Path.{sym, ◌∙◌}
-use Rattle.removal.proofs.Refusals.{filled_answer, root_answer, removable_at, found_entry, found_none}
+use borrow.Author.Tests.{eqb-true, eqb-false}
+use Rattle.std.proofs.lemmas.Result.{err_from_is_err_and}
+use Rattle.removal.proofs.Refusals.{filled_answer, root_answer, removable_at, found_none}
 use Rattle.removal.proofs.find_removable.Goals as goal
 
-pub returns-in_default : goal.returns-in_default
-returns-in_default c = found_none _ _ _ c.find_entry-f.ensures.answer c.find_entry-f.ensures.inside c.in_default.is
-
-pub filled-requires : goal.filled-requires
-filled-requires c = let k = found_entry _ _ _ c.find_entry-f.ensures.answer c.find_entry-f.ensures.inside c.in-At.is in record { directory_listed = c.requires.directory_listed; x_bound = k.0 }
+pub returns-in_err-x : goal.returns-in_err-x
+returns-in_err-x c =
+    let p = err_from_is_err_and c.from_residual.result c.from_residual.ensures.1 in
+    rw (p.1, p.2) (found_none _ _ _ c.in_err-x.ensures.answer)
 
 pub returns-then-filled : goal.returns-then-filled
 returns-then-filled c =
-    let k = found_entry _ _ _ c.find_entry-f.ensures.answer c.find_entry-f.ensures.inside c.in-At.is in
-    filled_answer _ c.requires.img_value c.requires.img_value_2 _ _ k.0 k.1 (sym c.filled.ensures ∙ c.if-filled.true)
+    filled_answer _ c.requires.img_value c.requires.img_value_2 _ _ c.in_ok-x.ensures.inside c.in_ok-x.ensures.answer (sym c.filled.ensures ∙ c.if-filled.true)
 
-pub returns-then-x-eq0 : goal.returns-then-x-eq0
-returns-then-x-eq0 c =
-    let k = found_entry _ _ _ c.find_entry-f.ensures.answer c.find_entry-f.ensures.inside c.in-At.is in
-    root_answer _ c.requires.img_value c.requires.img_value_2 _ _ k.0 k.1 (sym c.filled.ensures ∙ c.if-filled.false) c.if-x-eq0.true
+pub returns-then-is_root : goal.returns-then-is_root
+returns-then-is_root c =
+    root_answer _ c.requires.img_value c.requires.img_value_2 _ _ c.in_ok-x.ensures.inside c.in_ok-x.ensures.answer (sym c.filled.ensures ∙ c.if-filled.false)
+    (eqb-true _ 0 (sym c.is_root.ensures ∙ c.if-is_root.true))
 
 pub returns : goal.returns
 returns c =
-    let k = found_entry _ _ _ c.find_entry-f.ensures.answer c.find_entry-f.ensures.inside c.in-At.is in
-    removable_at _ c.requires.img_value c.requires.img_value_2 _ _ k.0 k.1 (sym c.filled.ensures ∙ c.if-filled.false) c.if-x-eq0.false
+    removable_at _ c.requires.img_value c.requires.img_value_2 _ _ c.in_ok-x.ensures.inside c.in_ok-x.ensures.answer (sym c.filled.ensures ∙ c.if-filled.false)
+    (eqb-false _ 0 (sym c.is_root.ensures ∙ c.if-is_root.false))

@@ -1,13 +1,16 @@
-use borrow.Author.Rules.{rules}
 use mathlib.Core.Path.{sym}
-use Rattle.repair.proofs.Outcomes.{after_long, refused_outcome, ready_lists, ready_outcome}
+use Rattle.std.proofs.lemmas.Result.{err_from_is_err_and}
+use Rattle.repair.proofs.Outcomes.{after_long, refused_outcome, ready_outcome}
 use Rattle.repair.proofs.validate_outcome.Goals as goal
 
+pub returns-in_err-v : goal.returns-in_err-v
+returns-in_err-v c =
+    let r = err_from_is_err_and c.from_residual.result c.from_residual.ensures.1 in
+    let x = refused_outcome c.requires _ c.in_err-v.ensures in
+    rw (r.1, r.2) (record { reply = x.0; wrote = x.1 })
+
 pub count_differences-requires : goal.count_differences-requires
-count_differences-requires c = let k = c.requires in record { readied = ready_lists k c.open_volume.ensures c.in-Ready.v c.in-Ready.is; img_len = sym (after_long k) }
+count_differences-requires c = record { readied = c.in_ok-v.ensures.1.1.0; img_len = sym (after_long c.requires) }
 
-pub returns-in-Refused : goal.returns-in-Refused
-returns-in-Refused c = let r = refused_outcome c.requires c.open_volume.ensures c.in-Refused.a c.in-Refused.is in record { reply = r.0; wrote = r.1 }
-
-pub returns-in-Ready : goal.returns-in-Ready
-returns-in-Ready c = let r = ready_outcome c.requires c.open_volume.ensures c.in-Ready.v c.in-Ready.is c.count_differences.ensures in record { reply = r.0; wrote = r.1 }
+pub returns : goal.returns
+returns c = let x = ready_outcome c.requires _ c.in_ok-v.ensures c.count_differences.ensures in record { reply = x.0; wrote = x.1 }

@@ -1,4 +1,3 @@
-use borrow.Author.Rules.{rules}
 use Rattle.theory.proofs.Loops.{said_yes, said_no}
 use Rattle.volume.proofs.Verdicts.{cells_listed}
 use Rattle.repair_asks.proofs.Asked.{never, cells_right}

@@ -1,4 +1,3 @@
-use borrow.Author.Rules.{rules}
 use mathlib.Core.Path.{sym, ◌∙◌}
 use Rattle.theory.proofs.Loops.{said_yes, said_no}
 use Rattle.repair_asks.proofs.Asked.{header_wrong, header_right, tables_left}

@@ -1,4 +1,3 @@
-use borrow.Author.Rules.{rules}
 use native.Mathlib.Omega.{arith}
 use Rattle.repair_owners.proofs.Marking.{units_in_work}
 use Rattle.repair_owners.proofs.Freeing.{sector_room, sectors_apart, mini_cells_room, minis_apart, freed_is}

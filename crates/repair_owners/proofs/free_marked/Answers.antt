@@ -1,4 +1,3 @@
-use borrow.Author.Rules.{rules}
 use mathlib.Core.Path.{◌∙◌}
 use Rattle.repair_owners.proofs.Asking.{streams_stay, streams_freed_lem}
 use Rattle.repair_owners.proofs.free_marked.Goals as goal

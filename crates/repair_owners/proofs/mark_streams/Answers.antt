@@ -1,4 +1,3 @@
-use borrow.Author.Rules.{rules}
 use Rattle.repair_owners.proofs.Marking.{streams_left}
 use Rattle.repair_owners.proofs.mark_streams.Goals as goal
 
@@ -6,4 +5,4 @@ pub mark_streams-requires : goal.mark_streams-requires
 mark_streams-requires c = c.requires.streams
 
 pub returns : goal.returns
-returns c = search (rules, streams_left c.args.s c.args.img.now c.requires c.mark_streams.ensures)
+returns c = rw c.is_some.ensures (streams_left c.args.s c.args.img.now c.requires c.mark_streams.ensures)

@@ -1,8 +1,6 @@
-use borrow.Author.Rules.{rules}
 use Prim.Native.Nat.{◌*◌}
 use mathlib.Core.Path.{◌≡◌, sym, ◌∙◌, ap, ap₂}
 use native.Mathlib.Omega.{arith}
-use borrow.Author.Tests.{not-false}
 use Rattle.format.specs.Layout.Geometry.{cells_in}
 use Rattle.format.specs.Layout.Volume.{volume}
 use Rattle.format.specs.Calls.RepairSteps.{rest_freed, second_step}

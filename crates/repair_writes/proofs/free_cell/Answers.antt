@@ -1,4 +1,3 @@
-use borrow.Author.Rules.{rules}
 use Rattle.repair_writes.proofs.free_cell.Goals as goal
 
 pub returns : goal.returns

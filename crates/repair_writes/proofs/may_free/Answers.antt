@@ -1,5 +1,4 @@
 use borrow.Author.Rules.{rules}
-use mathlib.Core.Path.{sym}
 use Rattle.format.specs.Rules.Cells.{table_mark}
 use Rattle.theory.specs.Marks.{unmarked}
 use Rattle.chains.proofs.Walks.{unmarked_is}

@@ -7,6 +7,6 @@ pub returns-then-n-lt-CUTOFF : goal.returns-then-n-lt-CUTOFF
 unfolding kind_for cutoff
 returns-then-n-lt-CUTOFF c = rw (lt-ltb c.args.n 4096 c.if-n-lt-CUTOFF.true)
 
-pub returns : goal.returns
+pub returns-else-n-lt-CUTOFF : goal.returns-else-n-lt-CUTOFF
 unfolding kind_for cutoff
-returns c = rw (le-ltb c.args.n 4096 c.if-n-lt-CUTOFF.false)
+returns-else-n-lt-CUTOFF c = rw (le-ltb c.args.n 4096 c.if-n-lt-CUTOFF.false)

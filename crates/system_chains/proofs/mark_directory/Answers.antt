@@ -1,10 +1,5 @@
-use borrow.Author.Rules.{rules}
-use native.Mathlib.Omega.{arith}
 use Rattle.system_chains.proofs.SystemLaws.{in_work, directory_marked}
 use Rattle.system_chains.proofs.mark_directory.Goals as goal
-
-pub directory_start-requires : goal.directory_start-requires
-directory_start-requires c = omega (arith, c.requires.sectors_markable.sized.head)
 
 pub mark_chain-requires : goal.mark_chain-requires
 mark_chain-requires c = in_work c.requires.sectors_markable

@@ -1,51 +1,23 @@
-use borrow.Author.Rules.{rules}
 use Prim.Native.Nat.{◌+◌, ◌/◌, ◌≤◌, ◌<◌}
 use native.Mathlib.Nat.{mod-lt, mul-le-mul_left}
 use native.Mathlib.Omega.{arith}
-use lib.ListN.{length, get_or}
+use lib.ListN.{get_or}
 use Rattle.format.specs.Layout.Geometry.{sector_place, cells_in}
 use Rattle.tables.specs.Words.{block_at}
 use Rattle.tables.proofs.block_at.Goals as goal
-use Rattle.tables.proofs.block_at.Goals.{After-cell_index-i, After-cell_sector, After-place}
+use Rattle.tables.proofs.block_at.Goals.{After-cell_index-i, After-place}
 
 -- no sector starts so far on that a place in it wraps
 place_few : (c : After-place) → c.place.result ≤ 0x1000_0000_0000
 unfolding sector_place
 place_few c =
     let at = c.args.list + c.cell_sector.result in
-    omega (arith, c.place.ensures, mul-le-mul_left (get_or c.args.work.now at 0 + 1) c.requires.le_bytes.1, c.shared_slice_known-1.given at)
+    omega (arith, c.place.ensures, mul-le-mul_left (get_or c.args.work.now at 0 + 1) c.requires.le_bytes.1, c.type_inv.work at)
 
 -- the first cell is one of its sector's
 index : (c : After-cell_index-i) → c.cell_index-i.result < c.args.g.bytes / 4
 unfolding cells_in
 index c = rw c.cell_index-i.ensures (mod-lt c.args.low (omega (arith, c.requires.le_bytes)))
-
-listed_in : (c : After-cell_sector) → c.args.list + c.cell_sector.result < length c.args.work.now
-listed_in c = rw c.cell_sector.ensures c.requires.g_in_bounds
-
-pub cell_sector-requires : goal.cell_sector-requires
-unfolding block_at cells_in
-cell_sector-requires c = search rules
-
-pub overflow_add-s : goal.overflow_add-s
-unfolding block_at cells_in
-overflow_add-s c = omega (arith, listed_in (goal.at.overflow_add-s c).After-cell_sector)
-
-pub offset_bounds-work-list : goal.offset_bounds-work-list
-unfolding block_at cells_in
-offset_bounds-work-list c = omega (arith, listed_in (goal.at.offset_bounds-work-list c).After-cell_sector)
-
-pub bounds-work-list : goal.bounds-work-list
-unfolding block_at cells_in
-bounds-work-list c = listed_in (goal.at.bounds-work-list c).After-cell_sector
-
-pub cell_index-i-requires : goal.cell_index-i-requires
-unfolding block_at cells_in
-cell_index-i-requires c = search rules
-
-pub place-requires : goal.place-requires
-unfolding block_at cells_in
-place-requires c = search rules
 
 pub overflow_mul-result : goal.overflow_mul-result
 unfolding block_at cells_in
@@ -55,21 +27,9 @@ pub overflow_add-result : goal.overflow_add-result
 unfolding block_at cells_in
 overflow_add-result c = omega (arith, place_few (goal.at.overflow_add-result c).After-place, index (goal.at.overflow_add-result c).After-cell_index-i, c.requires.le_bytes)
 
-pub cells-requires : goal.cells-requires
-unfolding block_at cells_in
-cells-requires c = search rules
-
 pub overflow_sub-cells : goal.overflow_sub-cells
 unfolding block_at cells_in
 overflow_sub-cells c = omega (arith, index (goal.at.overflow_sub-cells c).After-cell_index-i, c.cells.ensures)
-
-pub overflow_sub-end : goal.overflow_sub-end
-unfolding block_at cells_in
-overflow_sub-end c = search rules
-
-pub least-requires : goal.least-requires
-unfolding block_at cells_in
-least-requires c = search rules
 
 pub returns : goal.returns
 unfolding block_at cells_in

@@ -1,14 +1,9 @@
-use borrow.Author.Rules.{rules}
-use Prim.Native.Nat.{◌+◌, ◌-◌, ◌*◌, ◌≤◌, ◌<◌}
-use mathlib.Core.Path.{◌≡◌}
-use native.Mathlib.Omega.{arith}
-use lib.ListN.{length}
+use Prim.Native.Nat.{◌-◌}
 use Rattle.kinds.specs.Sizes.{geometry_of}
 use Rattle.cells.specs.Cells.{cell_right}
-use Rattle.cells.proofs.Turns.{Passed, passed_none, passed_all}
+use Rattle.cells.proofs.Turns.{Passed}
 use Rattle.tables.specs.Words.{table_cell}
-use Rattle.tables.proofs.Blocks.{BlockOf, block_of, cut_length, slice_length, right_block}
-use Rattle.tables.proofs.Copies.{table_kept, block_kept_lem, TableCopy, copy_none, copy_block}
+use Rattle.tables.proofs.Copies.{TableCopy}
 use Rattle.tables.proofs.copy_table.Given as goal
 
 abbrev pub invariant-loop-i : goal.invariant-loop-i

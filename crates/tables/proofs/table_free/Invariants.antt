@@ -1,10 +1,7 @@
-use borrow.Author.Rules.{rules}
-use Prim.Native.Nat.{◌+◌, ◌-◌, ◌<◌}
-use native.Mathlib.Omega.{arith}
+use Prim.Native.Nat.{◌-◌}
 use Rattle.kinds.specs.Sizes.{geometry_of}
-use Rattle.cells.proofs.Turns.{Passed, passed_none, passed_all}
+use Rattle.cells.proofs.Turns.{Passed}
 use Rattle.tables.specs.Words.{table_cell, free_from}
-use Rattle.tables.proofs.Blocks.{BlockOf, block_of, slice_count, free_block}
 use Rattle.tables.proofs.table_free.Given as goal
 
 abbrev pub invariant-loop-i : goal.invariant-loop-i

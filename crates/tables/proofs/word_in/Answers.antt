@@ -1,12 +1,7 @@
-use borrow.Author.Rules.{rules}
 use native.Mathlib.Omega.{arith}
 use Rattle.tables.specs.Words.{word_in}
 use Rattle.tables.proofs.Places.{cells_few, word_inside}
 use Rattle.tables.proofs.word_in.Goals as goal
-
-pub place-requires : goal.place-requires
-unfolding word_in
-place-requires c = search rules
 
 pub overflow_mul-i : goal.overflow_mul-i
 unfolding word_in

@@ -1,6 +1,5 @@
-use borrow.Author.Rules.{rules}
-use native.Mathlib.Omega.{arith}
-use Rattle.text.proofs.Decimals.{Counted, counted_start, counted_next, counted_most}
+use Rattle.std.proofs.Common.{arith}
+use Rattle.text.proofs.Decimals.{counted_start, counted_next, counted_most}
 use Rattle.text.proofs.decimal_length.Goals as goal
 
 pub loop-m-init : goal.loop-m-init
@@ -11,6 +10,3 @@ overflow_add-k c = omega (arith, counted_most c.loop-m.invariant)
 
 pub loop-m-preserved : goal.loop-m-preserved
 loop-m-preserved c = counted_next c.loop-m.invariant c.loop-m-test.true
-
-pub returns : goal.returns
-returns c = c.loop-m.invariant.done (omega arith)

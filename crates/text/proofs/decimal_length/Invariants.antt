@@ -1,6 +1,4 @@
-use borrow.Author.Rules.{rules}
-use native.Mathlib.Omega.{arith}
-use Rattle.text.proofs.Decimals.{Counted, counted_start, counted_next, counted_most}
+use Rattle.text.proofs.Decimals.{Counted}
 use Rattle.text.proofs.decimal_length.Given as goal
 
 abbrev pub invariant-loop-m : goal.invariant-loop-m

@@ -1,12 +1,8 @@
-use borrow.Author.Rules.{rules}
 use lib.ListN.{length}
 use Rattle.format.specs.Layout.Tree.{siblings}
 use Rattle.theory.specs.TreeViews.{at}
 use Rattle.theory.specs.TreeHeir.{HeirWalk}
-use Rattle.theory.proofs.Trees.HeirWays.{heir_start, heir_step, heir_end}
-use Rattle.theory.proofs.Trees.Spines.{right_shorter}
 use Rattle.directory.specs.Listed.{entries_of}
-use Rattle.directory.proofs.Fields.{none_yes, none_no}
 use Rattle.tree_edits.proofs.find_heir.Given as goal
 
 abbrev pub invariant-loop-d : goal.invariant-loop-d

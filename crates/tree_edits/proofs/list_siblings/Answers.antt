@@ -1,7 +1,6 @@
-use Prim.Native.Nat.{ℕ, ◌-◌}
-use mathlib.Core.List.{List, []}
+use Prim.Native.Nat.{◌-◌}
+use mathlib.Core.List.{[]}
 use native.Mathlib.Omega.{arith}
-use Rattle.directory.specs.Listed.{count_of}
 use Rattle.directory.proofs.Places.{count_few}
 use Rattle.tree_edits.proofs.Gathering.{Gathering, gather_first, gather_room, gather_left_room, gather_sides, gather_end}
 use Rattle.tree_edits.proofs.list_siblings.Goals as goal
@@ -17,12 +16,6 @@ here : (c : In-loop-i) → Gathering c.args.d c.args.img.now c.args.top.0 c.args
 here c =
     c.loop-i.invariant c.args.top.0 c.args.work.now
     (gather_first _ _ _ _ c.requires.directory_listed c.requires.d_bound c.requires.sibling_tree c.add-n.ensures.value c.add-n.ensures.work_after)
-
-pub add-n-requires : goal.add-n-requires
-add-n-requires c = let p = c.requires.directory_listed in omega (arith, p.room, p.some)
-
-pub loop-i-init : goal.loop-i-init
-loop-i-init c = λ t w g. g
 
 pub offset_bounds-work-i : goal.offset_bounds-work-i
 offset_bounds-work-i c = let g = here (goal.at.offset_bounds-work-i c).In-loop-i in let h = c.loop-i-test.true in omega (arith, count_few g.listed, g.few, h)

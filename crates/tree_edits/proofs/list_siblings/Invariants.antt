@@ -1,9 +1,7 @@
 use Prim.Native.Nat.{ℕ, ◌-◌}
 use mathlib.Core.List.{List, []}
-use native.Mathlib.Omega.{arith}
 use Rattle.directory.specs.Listed.{count_of}
-use Rattle.directory.proofs.Places.{count_few}
-use Rattle.tree_edits.proofs.Gathering.{Gathering, gather_first, gather_room, gather_left_room, gather_sides, gather_end}
+use Rattle.tree_edits.proofs.Gathering.{Gathering}
 use Rattle.tree_edits.proofs.list_siblings.Given as goal
 
 abbrev pub invariant-loop-i : goal.invariant-loop-i

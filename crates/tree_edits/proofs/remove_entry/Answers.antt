@@ -1,4 +1,3 @@
-use mathlib.Core.Path.{◌∙◌}
 use native.Mathlib.Omega.{arith}
 use Rattle.directory.proofs.Places.{placed, place_inside}
 use Rattle.tree_edits.proofs.Unlinks.{list_stays}
@@ -8,8 +7,8 @@ use Rattle.tree_edits.proofs.remove_entry.Goals as goal
 pub child_of-top-requires : goal.child_of-top-requires
 child_of-top-requires c = record { directory_listed = c.requires.directory_listed; x_bound = parent_inside c.requires.removable }
 
-pub list_siblings-n-requires : goal.list_siblings-n-requires
-list_siblings-n-requires c = record { directory_listed = c.requires.directory_listed; d_bound = c.requires.d_bound; sibling_tree = rw c.child_of-top.ensures (sibling_tree c.requires.removable) }
+pub list_siblings-n-requires-clause-sibling_tree : goal.list_siblings-n-requires-clause-sibling_tree
+list_siblings-n-requires-clause-sibling_tree c = rw c.child_of-top.ensures (sibling_tree c.requires.removable)
 
 pub unlink-requires : goal.unlink-requires
 unlink-requires c = record { directory_listed = list_stays c.requires.directory_listed c.list_siblings-n.ensures.wrote c.requires.d_bound; owner_bound = owner_inside c.requires.removable; standing = it_stands c.requires.removable }

@@ -1,14 +1,7 @@
-use borrow.Author.Rules.{rules}
 use Rattle.theory.proofs.Trees.Stand.{left_stands}
 use Rattle.directory.proofs.Fields.{none_yes, none_no}
 use Rattle.tree_edits.proofs.Unlinks.{entry_placed, by_right, by_left, by_heir}
 use Rattle.tree_edits.proofs.unlink.Goals as goal
-
-pub left_of-left-requires : goal.left_of-left-requires
-left_of-left-requires c = record { directory_listed = c.requires.directory_listed; x_bound = c.requires.standing.inside }
-
-pub right_of-right-requires : goal.right_of-right-requires
-right_of-right-requires c = record { directory_listed = c.requires.directory_listed; x_bound = c.requires.standing.inside }
 
 pub put_slot-requires : goal.put_slot-requires
 put_slot-requires c = entry_placed c.requires.directory_listed _ c.requires.owner_bound
@@ -29,9 +22,6 @@ returns-then-is_none-2 c =
 
 pub find_heir-h-requires : goal.find_heir-h-requires
 find_heir-h-requires c = record { directory_listed = c.requires.directory_listed; x_bound = c.requires.standing.inside; standing = rw c.left_of-left.ensures (left_stands _ _ c.requires.standing (none_no c.is_none.ensures c.if-is_none.false c.left_of-left.ensures)) }
-
-pub left_of-requires : goal.left_of-requires
-left_of-requires c = record { directory_listed = c.requires.directory_listed; x_bound = c.find_heir-h.ensures.stands.inside }
 
 pub put_heir-requires : goal.put_heir-requires
 put_heir-requires c = let h = c.find_heir-h.ensures in record { entry_placed = entry_placed c.requires.directory_listed _ c.requires.owner_bound; entry_placed_2 = entry_placed c.requires.directory_listed _ h.stands.inside; entry_placed_3 = entry_placed c.requires.directory_listed _ h.inside }

@@ -1,4 +1,3 @@
-use borrow.Author.Rules.{rules}
 use Prim.Native.Nat.{◌+◌, ◌-◌, ◌*◌, ◌<◌}
 use mathlib.Core.Path.{refl, sym, ap, ◌∙◌}
 use native.Mathlib.Omega.{arith}
@@ -6,14 +5,9 @@ use lib.ListN.{length}
 use Rattle.tables.proofs.WorkLaws.{wrote_none}
 use Rattle.tree_walk.specs.Walking.{wait_tops, wait_work}
 use Rattle.tree_walk.proofs.Lends.{rows_are, room, height, met_most}
-use Rattle.tree_walk.proofs.Visits.{visit_in, before_in, visit_falls, wait_in, visit_go}
+use Rattle.tree_walk.proofs.Visits.{visit_in, visit_falls, wait_in, visit_go}
 use Rattle.tree_walk.proofs.visit.Goals as goal
-use Rattle.tree_walk.proofs.visit.Goals.{After-struct_known-1, After-units}
-
--- the node of the sibling before
-before_there : (c : After-units) → 2 * c.args.s.before.0 + 1 < length c.args.work.now
-before_there c =
-    before_in c.requires.underway.1 c.requires.at_value.0 c.requires.at_value.1 c.count-n.ensures refl c.node_at-node.ensures.0 c.node_at-node.ensures.1 c.units.ensures
+use Rattle.tree_walk.proofs.visit.Goals.{After-struct_known-1}
 
 -- the place of the nearest above
 up_in : (c : After-struct_known-1) → 2 * c.count-n.result + 2 + (c.args.s.ups - 1) < length c.args.work.now
@@ -31,18 +25,12 @@ bounds-work-up c = up_in (goal.at.bounds-work-up c).After-struct_known-1
 pub node_at-node-requires : goal.node_at-node-requires
 node_at-node-requires c = visit_in c.requires.underway.1 c.requires.at_value.0 c.requires.at_value.1 c.count-n.ensures refl
 
-pub falls-requires : goal.falls-requires
-falls-requires c = before_there (goal.at.falls-requires c).After-units
-
 pub returns-then-falls : goal.returns-then-falls
 returns-then-falls c =
     λ q g. record {
       turned = visit_falls g c.requires.at_value.0 c.requires.at_value.1 c.count-n.ensures refl c.node_at-node.ensures.0 c.node_at-node.ensures.1 c.units.ensures (sym c.falls.ensures ∙ c.if-falls.true);
       wrote = wrote_none _ 0 _;
     }
-
-pub due_of-due-requires : goal.due_of-due-requires
-due_of-due-requires c = before_there (goal.at.due_of-due-requires c).After-units
 
 pub wait-tops-requires : goal.wait-tops-requires
 wait-tops-requires c = wait_in c.requires.underway.1 c.requires.at_value.0 c.requires.at_value.1 c.count-n.ensures refl c.node_at-node.ensures.0 c.node_at-node.ensures.1

@@ -7,5 +7,5 @@ use Rattle.writes.proofs.chain_start.Goals as goal
 pub returns-then-j-n : goal.returns-then-j-n
 returns-then-j-n c = c.of.ensures ∙ ap (unit_of c.args.kind) (start_unit c.args.work.now c.args.n c.args.j c.requires c.if-j-n.true)
 
-pub returns : goal.returns
-returns c = c.end.ensures ∙ ap (unit_of c.args.kind) (start_end c.args.work.now c.args.n c.args.j c.requires c.if-j-n.false)
+pub returns-else-j-n : goal.returns-else-j-n
+returns-else-j-n c = c.end.ensures ∙ ap (unit_of c.args.kind) (start_end c.args.work.now c.args.n c.args.j c.requires c.if-j-n.false)

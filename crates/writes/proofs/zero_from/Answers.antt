@@ -10,9 +10,10 @@ use Rattle.writes.proofs.Zeroing.{Zeroing, zeroing_start, zeroing_step, zeroing_
 use Rattle.writes.proofs.zero_from.Goals as goal
 use Rattle.writes.proofs.zero_from.Goals.{After-of, After-unit_bytes-bytes, After-unit_place-p}
 
+-- the byte where the unit at hand starts
 starts : (c : After-unit_place-p) → let a = c.args in
     c.unit_place-p.result ≡ (listed_space a.v a.work.now a.kind).unit_place (get_or a.work.now c.loop-k.k 0)
-starts c = let u = (let unit_is' : let a = c.args in (kind_of c.of.result ≡ a.kind) × (number_in c.of.result ≡ get_or a.work.now c.loop-k.k 0) = unit_as c.args.kind _ c.of.ensures in unit_is') in rw (u.0, u.1) at c.unit_place-p.ensures
+starts c = let u = unit_as c.args.kind _ c.of.ensures in rw (u.0, u.1) at c.unit_place-p.ensures
 
 -- and the place in it is one
 inner : (c : After-unit_place-p) → c.loop-k.o < c.unit_bytes-bytes.result
@@ -21,7 +22,7 @@ inner c = omega (arith, c.loop-k.invariant.inner, c.unit_bytes-bytes.ensures)
 -- it lies in the image
 inside : (c : After-unit_place-p) → c.unit_place-p.result + c.unit_bytes-bytes.result ≤ length c.loop-k.img
 inside c =
-    omega (arith, c.requires.writable.unit_room c.loop-k.k c.loop-k-test.true, c.loop-k.invariant.long, starts c, c.unit_bytes-bytes.ensures)
+    omega (arith, c.requires.writable.unit_room c.loop-k.k (omega arith), c.loop-k.invariant.long, starts c, c.unit_bytes-bytes.ensures)
 
 -- the unit at hand, and where it starts
 unit_is : (c : After-of) → let a = c.args in
@@ -30,9 +31,6 @@ unit_is c = unit_as c.args.kind _ c.of.ensures
 
 some : (c : After-unit_bytes-bytes) → 0 < c.unit_bytes-bytes.result
 some c = omega (arith, c.unit_bytes-bytes.ensures, c.requires.writable.some)
-
-pub nonzero_div-k : goal.nonzero_div-k
-nonzero_div-k c = some (goal.at.nonzero_div-k c).After-unit_bytes-bytes
 
 pub nonzero_rem-o : goal.nonzero_rem-o
 nonzero_rem-o c = some (goal.at.nonzero_rem-o c).After-unit_bytes-bytes
@@ -47,7 +45,7 @@ pub bounds-work-k : goal.bounds-work-k
 bounds-work-k c = let r = c.requires.writable.room in omega arith
 
 pub unit_place-p-requires : goal.unit_place-p-requires
-unit_place-p-requires c = let u = unit_is (goal.at.unit_place-p-requires c).After-of in rw (u.0, u.1) (c.requires.writable.units c.loop-k.k c.loop-k-test.true)
+unit_place-p-requires c = let u = unit_is (goal.at.unit_place-p-requires c).After-of in rw (u.0, u.1) (c.requires.writable.units c.loop-k.k (omega arith))
 
 pub overflow_add-start : goal.overflow_add-start
 overflow_add-start c = omega (arith, inside (goal.at.overflow_add-start c).After-unit_place-p, inner (goal.at.overflow_add-start c).After-unit_place-p, c.requires.writable.short, c.loop-k.invariant.long)
@@ -55,23 +53,17 @@ overflow_add-start c = omega (arith, inside (goal.at.overflow_add-start c).After
 pub overflow_add-end : goal.overflow_add-end
 overflow_add-end c = omega (arith, inside (goal.at.overflow_add-end c).After-unit_place-p, c.requires.writable.short, c.loop-k.invariant.long)
 
-pub slice_bounds-fill_zero-count : goal.slice_bounds-fill_zero-count
-slice_bounds-fill_zero-count c = omega (arith, inner (goal.at.slice_bounds-fill_zero-count c).After-unit_place-p)
+pub slice_bounds-fill-count : goal.slice_bounds-fill-count
+slice_bounds-fill-count c = omega (arith, inner (goal.at.slice_bounds-fill-count c).After-unit_place-p)
 
-pub slice_bounds-fill_zero-start : goal.slice_bounds-fill_zero-start
-slice_bounds-fill_zero-start c = omega (arith, inner (goal.at.slice_bounds-fill_zero-start c).After-unit_place-p)
+pub slice_bounds-fill-start : goal.slice_bounds-fill-start
+slice_bounds-fill-start c = omega (arith, inner (goal.at.slice_bounds-fill-start c).After-unit_place-p)
 
-pub slice_bounds-fill_zero-end : goal.slice_bounds-fill_zero-end
-slice_bounds-fill_zero-end c = inside (goal.at.slice_bounds-fill_zero-end c).After-unit_place-p
-
-pub overflow_add-k : goal.overflow_add-k
-overflow_add-k c = omega arith
-
-pub loop-k-smaller : goal.loop-k-smaller
-loop-k-smaller c = omega arith
+pub slice_bounds-fill-end : goal.slice_bounds-fill-end
+slice_bounds-fill-end c = inside (goal.at.slice_bounds-fill-end c).After-unit_place-p
 
 pub loop-k-preserved : goal.loop-k-preserved
-loop-k-preserved c = zeroing_step _ c.args.work.now c.args.n c.requires.writable.room c.args.from c.args.img.now c.loop-k.invariant c.loop-k-test.true _ _ c.unit_bytes-bytes.ensures (starts (goal.at.loop-k-preserved c).After-unit_place-p) (inside (goal.at.loop-k-preserved c).After-unit_place-p) _ c.fill_zero.ensures
+loop-k-preserved c = zeroing_step _ c.args.work.now c.args.n c.requires.writable.room c.args.from c.args.img.now c.loop-k.invariant (omega arith) _ _ c.unit_bytes-bytes.ensures (starts (goal.at.loop-k-preserved c).After-unit_place-p) (inside (goal.at.loop-k-preserved c).After-unit_place-p) _ (c.fill.ensures.after (λ y h. cc))
 
 pub returns : goal.returns
 returns c = zeroing_done _ c.args.work.now c.args.n c.requires.writable.room c.args.from c.args.img.now c.loop-k.invariant (omega arith)

@@ -1,4 +1,3 @@
-use borrow.Author.Rules.{rules}
 use Rattle.cfb_c.proofs.Packing.{packed}
 use Rattle.cfb_c.proofs.opened_calls.pack.Goals as goal
 

@@ -1,21 +1,11 @@
-use borrow.Author.Rules.{rules}
-use mathlib.Core.Path.{ap}
-use Prim.Native.Nat.{◌*◌, ◌≤◌}
+use Prim.Native.Nat.{◌≤◌}
 use native.Mathlib.Nat.{mul-le-mul_right}
 use native.Mathlib.Omega.{arith}
 use Rattle.format.specs.Layout.Geometry.{entries_in, entry_bytes}
 use Rattle.directory.proofs.Directory.count.Goals as goal
-
-pub entries-requires : goal.entries-requires
-unfolding entries_in entry_bytes
-entries-requires c = search rules
 
 pub overflow_mul-result : goal.overflow_mul-result
 unfolding entries_in entry_bytes
 overflow_mul-result c =
     let few : c.entries.result ≤ 32 = omega (arith, c.entries.ensures, c.requires.0) in
     omega (arith, mul-le-mul_right c.args.self.sectors few, c.requires.1)
-
-pub returns : goal.returns
-unfolding entries_in entry_bytes
-returns c = ap (λ n. n * c.args.self.sectors) c.entries.ensures

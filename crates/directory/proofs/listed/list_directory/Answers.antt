@@ -1,4 +1,3 @@
-use borrow.Author.Rules.{rules}
 use mathlib.Core.Path.{refl}
 use Rattle.directory.proofs.Sectors.{listing_chain, listing_left}
 use Rattle.directory.proofs.listed.list_directory.Goals as goal

@@ -29,26 +29,14 @@ use Rattle.edits.proofs.resize.change_length.Goals as goal
 use Rattle.edits.proofs.resize.change_length.Goals.{After-kind_for-kind, After-unit_bytes-bytes, After-units_for-old}
 
 bytes_are : (c : After-unit_bytes-bytes) → let a = c.args in c.unit_bytes-bytes.result ≡ (space_at a.v a.img.now (kind_for (max a.e.size a.new))).unit
-bytes_are c = c.unit_bytes-bytes.ensures ∙ ap (unit_bytes c.args.v) ((let kind_is' : let a = c.args in c.kind_for-kind.result ≡ kind_for (max a.e.size a.new) = c.kind_for-kind.ensures ∙ ap kind_for c.greatest.ensures in kind_is')) ∙ unit_same c.requires.fact.ready (kind_for (max c.args.e.size c.args.new))
+bytes_are c = c.unit_bytes-bytes.ensures ∙ ap (unit_bytes c.args.v) ((let kind_is' : let a = c.args in c.kind_for-kind.result ≡ kind_for (max a.e.size a.new) = c.kind_for-kind.ensures ∙ ap kind_for c.max.ensures in kind_is')) ∙ unit_same c.requires.fact.ready (kind_for (max c.args.e.size c.args.new))
 
 many : (c : After-units_for-old) → let a = c.args in c.units_for-old.result ≡ round_up a.e.size (space_at a.v a.img.now (kind_for (max a.e.size a.new))).unit
-many c = c.units_for-old.ensures ∙ ap (round_up c.args.e.size) ((let bytes_are' : let a = c.args in c.unit_bytes-bytes.result ≡ (space_at a.v a.img.now (kind_for (max a.e.size a.new))).unit = c.unit_bytes-bytes.ensures ∙ ap (unit_bytes c.args.v) ((let kind_is' : let a = c.args in c.kind_for-kind.result ≡ kind_for (max a.e.size a.new) = c.kind_for-kind.ensures ∙ ap kind_for c.greatest.ensures in kind_is')) ∙ unit_same c.requires.fact.ready (kind_for (max c.args.e.size c.args.new)) in bytes_are'))
+many c = c.units_for-old.ensures ∙ ap (round_up c.args.e.size) ((let bytes_are' : let a = c.args in c.unit_bytes-bytes.result ≡ (space_at a.v a.img.now (kind_for (max a.e.size a.new))).unit = c.unit_bytes-bytes.ensures ∙ ap (unit_bytes c.args.v) ((let kind_is' : let a = c.args in c.kind_for-kind.result ≡ kind_for (max a.e.size a.new) = c.kind_for-kind.ensures ∙ ap kind_for c.max.ensures in kind_is')) ∙ unit_same c.requires.fact.ready (kind_for (max c.args.e.size c.args.new)) in bytes_are'))
 
 -- the kind of unit, how many there are and shall be, and the first
 kind_is : (c : After-kind_for-kind) → let a = c.args in c.kind_for-kind.result ≡ kind_for (max a.e.size a.new)
-kind_is c = c.kind_for-kind.ensures ∙ ap kind_for c.greatest.ensures
-
-pub greatest-requires : goal.greatest-requires
-unfolding on_zero
-greatest-requires c = search rules
-
-pub kind_for-kind-requires : goal.kind_for-kind-requires
-unfolding on_zero
-kind_for-kind-requires c = search rules
-
-pub unit_bytes-bytes-requires : goal.unit_bytes-bytes-requires
-unfolding on_zero
-unit_bytes-bytes-requires c = search rules
+kind_is c = c.kind_for-kind.ensures ∙ ap kind_for c.max.ensures
 
 pub units_for-old-requires : goal.units_for-old-requires
 unfolding on_zero

@@ -10,7 +10,7 @@ pub put_cells-requires : goal.put_cells-requires
 put_cells-requires c = record { writable = writable_less _ _ c.requires.writable refl (omega arith); from_le_to = omega (arith, c.least-kept.ensures) }
 
 pub put_cells-requires-2 : goal.put_cells-requires-2
-put_cells-requires-2 c = record { writable = writable_less _ _ c.requires.writable c.put_cells.auto.img (omega arith); from_le_to = omega (arith, c.less_one.ensures, c.least-kept.ensures) }
+put_cells-requires-2 c = record { writable = writable_less _ _ c.requires.writable c.put_cells.auto.img (omega arith); from_le_to = omega (arith, c.saturating_sub.ensures, c.least-kept.ensures) }
 
 pub fill_tail-requires : goal.fill_tail-requires
 fill_tail-requires c = record { writable = writable_less _ _ c.requires.writable (c.put_cells-2.auto.img ∙ c.put_cells.auto.img) (omega arith); size_bound = c.requires.size_bound }
@@ -25,4 +25,4 @@ pub returns : goal.returns
 returns c =
     let a = c.args in
     let r = c.requires.writable.room in
-    rewritten_is _ _ a.work.now a.old a.n a.e.size a.new a.img.now (omega arith) (omega arith) c.least-kept.result c.less_one.result (number_in c.chain_start-first.result) c.least-kept.ensures c.less_one.ensures (unit_as a.kind _ c.chain_start-first.ensures).1 c.put_cells.ensures c.put_cells-2.ensures c.fill_tail.ensures c.put_entry.ensures
+    rewritten_is _ _ a.work.now a.old a.n a.e.size a.new a.img.now (omega arith) (omega arith) c.least-kept.result c.saturating_sub.result (number_in c.chain_start-first.result) c.least-kept.ensures c.saturating_sub.ensures (unit_as a.kind _ c.chain_start-first.ensures).1 c.put_cells.ensures c.put_cells-2.ensures c.fill_tail.ensures c.put_entry.ensures

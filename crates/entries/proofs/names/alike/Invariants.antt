@@ -1,10 +1,6 @@
-use borrow.Author.Rules.{rules}
-use Prim.Native.Nat.{◌+◌, ◌-◌, ◌*◌, ◌≤◌}
-use native.Mathlib.Omega.{arith}
-use lib.ListN.{length}
+use Prim.Native.Nat.{◌-◌}
 use Rattle.format.specs.Layout.Entry.{name}
 use Rattle.entries.specs.Entry.{entry_at, Alike}
-use Rattle.entries.proofs.NameLaws.{name_length, alike_more}
 use Rattle.entries.proofs.names.alike.Given as goal
 
 abbrev pub invariant-loop-i : goal.invariant-loop-i

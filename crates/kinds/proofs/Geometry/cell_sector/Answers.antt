@@ -1,19 +1,6 @@
-use borrow.Author.Rules.{rules}
-use native.Mathlib.Omega.{arith}
+use Rattle.std.proofs.Common.{rules}
 use Rattle.format.specs.Layout.Geometry.{cells_in}
 use Rattle.kinds.proofs.Geometry.cell_sector.Goals as goal
-
-pub returns-then-self : goal.returns-then-self
-unfolding cells_in
-returns-then-self c = rw c.if-self.true
-
-pub returns-then-self-2 : goal.returns-then-self-2
-unfolding cells_in
-returns-then-self-2 c = rw c.if-self-2.true
-
-pub nonzero_div-result-3 : goal.nonzero_div-result-3
-unfolding cells_in
-nonzero_div-result-3 c = search rules
 
 pub returns : goal.returns
 unfolding cells_in

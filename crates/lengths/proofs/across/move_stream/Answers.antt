@@ -55,25 +55,9 @@ listed c =
       enough = (enough c).0;
     }
 
-pub kind_for-from-requires : goal.kind_for-from-requires
-unfolding on_zero
-kind_for-from-requires c = search rules
-
-pub kind_for-to-requires : goal.kind_for-to-requires
-unfolding on_zero
-kind_for-to-requires c = search rules
-
-pub unit_bytes-requires : goal.unit_bytes-requires
-unfolding on_zero
-unit_bytes-requires c = search rules
-
 pub units_for-old-requires : goal.units_for-old-requires
 unfolding on_zero
 units_for-old-requires c = rw c.unit_bytes.ensures (unit_many c.requires.fact.ready c.kind_for-from.result)
-
-pub unit_bytes-requires-2 : goal.unit_bytes-requires-2
-unfolding on_zero
-unit_bytes-requires-2 c = search rules
 
 pub units_for-need-requires : goal.units_for-need-requires
 unfolding on_zero

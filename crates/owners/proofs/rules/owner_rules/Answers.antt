@@ -1,33 +1,47 @@
-use borrow.Author.Rules.{rules}
-use mathlib.Core.Path.{◌≡◌, sym, ◌∙◌}
-use mathlib.Core.Bool.{true, not, ◌&&◌, ◌||◌}
+use Rattle.std.specs.Prelude.{Some, Result, Err}
+use Rattle.std.proofs.lemmas.Result.{err_from_is_err_and}
+use Rattle.std.specs.Prelude.{ok_or}
+use mathlib.Core.Path.{◌≡◌, sym, ap, ◌∙◌}
+use mathlib.Core.Bool.{Bool, true, not, ◌&&◌, ◌||◌}
 use borrow.Author.Tests.{not-true, not-false}
 use Rattle.format.specs.Rules.Streams.{stream_rules}
 use Rattle.format.specs.Rules.Owners.{owner_rules}
+use Rattle.kinds.specs.declared.Refusal.{Refusal}
+use Rattle.kinds.specs.declared.Refusal.TheVariants.{Streams}
 use Rattle.tables.specs.Views.{volume_of}
+use Rattle.owners.specs.Streams.{StreamsMarked}
 use Rattle.owners.proofs.Judged.{by_owners, says_broken, says_wrong, says_right}
 use Rattle.owners.proofs.rules.owner_rules.Goals as goal
-use Rattle.owners.proofs.rules.owner_rules.Goals.{Else-is_broken}
+use Rattle.owners.proofs.rules.owner_rules.Goals.{In_ok-also, After-units_covered-covered}
+
+marked : (c : In_ok-also) → let a = c.args in StreamsMarked a.t a.m a.d a.img.now a.work.now c.mark_streams.new.work (Some c.in_ok-also.also)
+marked c = rw c.in_ok-also.ensures.ok_part at c.mark_streams.ensures
 
 -- group 17 holds
-right : (c : Else-is_broken) → let p = c.args in stream_rules (volume_of p.t.geometry p.img.now) ≡ true
-right c = not-false _ (sym c.mark_streams-a.ensures.answer ∙ (sym c.is_broken.ensures ∙ c.if-is_broken.false))
+right : (c : In_ok-also) → let a = c.args in stream_rules (volume_of a.t.geometry a.img.now) ≡ true
+right c = not-false _ (sym (marked c).answer)
 
-pub mark_streams-a-requires : goal.mark_streams-a-requires
-mark_streams-a-requires c = c.requires.streams_markable
+-- and group 18 if so
+owners : (c : After-units_covered-covered) → let a = c.args in owner_rules (volume_of a.t.geometry a.img.now) ≡ (not (a.shared || c.in_ok-also.also) && c.units_covered-covered.result)
+owners c =
+    let d = goal.at.After-units_covered-covered c in
+    let r = c.requires in
+    rw c.units_covered-covered.ensures (by_owners r.streams_markable.sectors.sized r.cells_right.tables r.only_system ((marked d.In_ok-also).owners (right d.In_ok-also)))
 
-pub returns-then-is_broken : goal.returns-then-is_broken
-returns-then-is_broken c = let m = c.mark_streams-a.ensures in record { answer = says_broken _ _ (not-true _ (sym m.answer ∙ (sym c.is_broken.ensures ∙ c.if-is_broken.true))); wrote = m.wrote }
+pub returns-in_err-also-clause-answer : goal.returns-in_err-also-clause-answer
+returns-in_err-also-clause-answer c =
+    let r = err_from_is_err_and c.from_residual.result c.from_residual.ensures.1 in
+    let k = c.in_err-also.ensures in
+    let v : ◌≡◌ {A = Result Bool Refusal} (Err c.in_err-also.field-0.0) (Err Streams) = k.value ∙ ap (λ q. ok_or q Streams) k.ok_part in
+    let e : c.in_err-also.field-0.0 ≡ Streams = cc in
+    rw (r.1, r.2, e) (says_broken _ _ (not-true _ (sym (rw k.ok_part at c.mark_streams.ensures.answer))))
 
-pub units_covered-covered-requires : goal.units_covered-covered-requires
-units_covered-covered-requires c = record { streams_markable = c.mark_streams-a.ensures.stands (right (goal.at.units_covered-covered-requires c).Else-is_broken); cells_right = c.requires.cells_right }
+pub returns-then-shared-also-clause-answer : goal.returns-then-shared-also-clause-answer
+returns-then-shared-also-clause-answer c =
+    let d = goal.at.returns-then-shared-also-clause-answer c in
+    says_right _ _ (right d.In_ok-also) (owners d.After-units_covered-covered ∙ c.if-shared-also.true)
 
-pub returns-then-shared-is_shared : goal.returns-then-shared-is_shared
-returns-then-shared-is_shared c =
-    let owners' : let p = c.args in owner_rules (volume_of p.t.geometry p.img.now) ≡ (not (p.shared || c.is_shared.result) && c.units_covered-covered.result) = rw (c.is_shared.ensures, c.units_covered-covered.ensures) (by_owners c.requires.streams_markable.sectors.sized c.requires.cells_right.tables c.requires.only_system (c.mark_streams-a.ensures.owners (right (goal.at.returns-then-shared-is_shared c).Else-is_broken))) in
-    record { answer = says_right _ _ (right (goal.at.returns-then-shared-is_shared c).Else-is_broken) (owners' ∙ c.if-shared-is_shared.true); wrote = c.mark_streams-a.ensures.wrote }
-
-pub returns : goal.returns
-returns c =
-    let owners' : let p = c.args in owner_rules (volume_of p.t.geometry p.img.now) ≡ (not (p.shared || c.is_shared.result) && c.units_covered-covered.result) = rw (c.is_shared.ensures, c.units_covered-covered.ensures) (by_owners c.requires.streams_markable.sectors.sized c.requires.cells_right.tables c.requires.only_system (c.mark_streams-a.ensures.owners (right (goal.at.returns c).Else-is_broken))) in
-    record { answer = says_wrong _ _ (right (goal.at.returns c).Else-is_broken) (owners' ∙ c.if-shared-is_shared.false); wrote = c.mark_streams-a.ensures.wrote }
+pub returns-clause-answer : goal.returns-clause-answer
+returns-clause-answer c =
+    let d = goal.at.returns-clause-answer c in
+    says_wrong _ _ (right d.In_ok-also) (owners d.After-units_covered-covered ∙ c.if-shared-also.false)

@@ -1,78 +1,45 @@
-use borrow.Author.Rules.{rules}
 use borrow.Author.Tests.{eqb-true, leb-true, not-true, not-false}
-use Prim.Native.Nat.{◌+◌, ◌-◌, ◌*◌, ◌≤◌}
-use mathlib.Core.Path.{◌≡◌, sym, ap, ap₂, ◌∙◌}
-use mathlib.Core.Bool.{true, cond, ◌&&◌}
+use mathlib.Core.Path.{sym, ap, ◌∙◌}
+use mathlib.Core.Bool.{cond}
 use native.Mathlib.Omega.{arith}
+use Rattle.std.specs.Prelude.{Some, None}
 use lib.Dec.{eqb, leb}
-use lib.ListN.{length}
-use Rattle.format.specs.Basics.Bytes.{Bytes}
-use Rattle.format.specs.Layout.Stream.{contents}
-use Rattle.format.specs.Rules.Version.{own_volume}
 use Rattle.theory.proofs.Tests.{both}
-use Rattle.pulse_laws.specs.Pulse.{distance_for, count}
-use Rattle.pulse_records.specs.Records.{sum_from}
-use Rattle.pulse.specs.Parsed.{trailer_for, parsed_as}
-use Rattle.pulse.specs.declared.stream.Parsed.TheVariants.{Pulses, Other}
+use Rattle.pulse_laws.specs.Pulse.{distance_for}
 use Rattle.pulse.proofs.Listed.{stream_long}
-use Rattle.pulse.proofs.Parsing.{agrees, first_record, short_other, unlike_other, wrong_other, summed_parsed}
-use mathlib.Core.Bool.{not}
+use Rattle.pulse.proofs.Parsing.{short_none, unlike_none, wrong_none, summed_parsed}
 use Rattle.pulse.proofs.stream.parse.Goals as goal
-use Rattle.pulse.proofs.stream.parse.Goals.{Else-e-lt16}
-
-room : (c : Else-e-lt16) → 16 ≤ length ((contents (own_volume c.args.image.now) c.args.image.now c.args.e.id.0))
-room c = omega (arith, (let long' : length ((contents (own_volume c.args.image.now) c.args.image.now c.args.e.id.0)) ≡ c.args.e.size = stream_long c.requires.opened c.requires.stream in long'), c.if-e-lt16.false)
 
 pub returns-then-e-lt16 : goal.returns-then-e-lt16
-returns-then-e-lt16 c =
-    let long : length ((contents (own_volume c.args.image.now) c.args.image.now c.args.e.id.0)) ≡ c.args.e.size = stream_long c.requires.opened c.requires.stream in
-    short_other _ (omega (arith, long, c.if-e-lt16.true))
+returns-then-e-lt16 c = short_none _ (omega (arith, stream_long c.requires.opened c.requires.stream, c.if-e-lt16.true))
 
 pub returns-then-not-agrees : goal.returns-then-not-agrees
-unfolding trailer_for
 returns-then-not-agrees c =
-    let long : length ((contents (own_volume c.args.image.now) c.args.image.now c.args.e.id.0)) ≡ c.args.e.size = stream_long c.requires.opened c.requires.stream in
-    let agreed : c.agrees.result ≡ agrees ((contents (own_volume c.args.image.now) c.args.image.now c.args.e.id.0)) = c.agrees.ensures ∙ ap₂ (λ t n. eqb t.distance (distance_for t.count.0) && leb t.distance n) c.read_trailer-t.ensures (sym long) in
-    unlike_other _ (room (goal.at.returns-then-not-agrees c).Else-e-lt16) (sym agreed ∙ c.if-not-agrees.true)
+    unlike_none _ c.read_trailer-t.ensures (stream_long c.requires.opened c.requires.stream) c.if-e-lt16.false (sym c.agrees.ensures ∙ c.if-not-agrees.true)
 
-pub overflow_sub-first : goal.overflow_sub-first
+pub add_all-requires-clause-count_bound : goal.add_all-requires-clause-count_bound
 unfolding distance_for
-overflow_sub-first c =
-    let says : let t = c.read_trailer-t.result in (t.distance ≡ 16 + 8 * t.count.0) × (t.distance ≤ c.args.e.size) = let q = both _ _ (sym c.agrees.ensures ∙ c.if-not-agrees.false) in (eqb-true _ _ q.0, leb-true _ _ q.1) in
-    says.1
+add_all-requires-clause-count_bound c =
+    let t = c.read_trailer-t.result in
+    let q = both (eqb t.distance (distance_for t.count.0)) (leb t.distance c.args.e.size) (sym c.agrees.ensures ∙ c.if-not-agrees.false) in
+    (omega (arith, eqb-true _ _ q.0, leb-true _ _ q.1), omega arith)
 
-pub add_all-sum-requires : goal.add_all-sum-requires
-unfolding distance_for
-add_all-sum-requires c =
-    let says : let t = c.read_trailer-t.result in (t.distance ≡ 16 + 8 * t.count.0) × (t.distance ≤ c.args.e.size) = let q = both _ _ (sym c.agrees.ensures ∙ c.if-not-agrees.false) in (eqb-true _ _ q.0, leb-true _ _ q.1) in
-    let t = says in record { open_stream = c.requires; count_bound = (omega (arith, t.0, t.1), omega arith) }
+pub returns-in_err-total : goal.returns-in_err-total
+returns-in_err-total c =
+    c.from_residual.ensures
+    ∙ wrong_none _ c.read_trailer-t.ensures (stream_long c.requires.opened c.requires.stream) c.if-e-lt16.false (sym c.agrees.ensures ∙ c.if-not-agrees.false)
+    c.in_err-total.ensures
 
-pub returns-in_default : goal.returns-in_default
-unfolding trailer_for
-returns-in_default c =
-    let long : length ((contents (own_volume c.args.image.now) c.args.image.now c.args.e.id.0)) ≡ c.args.e.size = stream_long c.requires.opened c.requires.stream in
-    let agreed : c.agrees.result ≡ agrees ((contents (own_volume c.args.image.now) c.args.image.now c.args.e.id.0)) = c.agrees.ensures ∙ ap₂ (λ t n. eqb t.distance (distance_for t.count.0) && leb t.distance n) c.read_trailer-t.ensures (sym long) in
-    let right : agrees ((contents (own_volume c.args.image.now) c.args.image.now c.args.e.id.0)) ≡ true = sym agreed ∙ c.if-not-agrees.false in
-    let summed : let s = (contents (own_volume c.args.image.now) c.args.image.now c.args.e.id.0) in c.add_all-sum.result ≡ sum_from s (first_record s) (count s) 0 = c.add_all-sum.ensures ∙ ap₂ (λ t n. sum_from ((contents (own_volume c.args.image.now) c.args.image.now c.args.e.id.0)) (n - t.distance) t.count.0 0) c.read_trailer-t.ensures (sym long) in
-    wrong_other _ (room (goal.at.returns-in_default c).Else-e-lt16) right (sym c.in_default.is ∙ summed)
-
-pub returns-then-not-equals : goal.returns-then-not-equals
-unfolding trailer_for
-returns-then-not-equals c =
-    let long : length ((contents (own_volume c.args.image.now) c.args.image.now c.args.e.id.0)) ≡ c.args.e.size = stream_long c.requires.opened c.requires.stream in
-    let agreed : c.agrees.result ≡ agrees ((contents (own_volume c.args.image.now) c.args.image.now c.args.e.id.0)) = c.agrees.ensures ∙ ap₂ (λ t n. eqb t.distance (distance_for t.count.0) && leb t.distance n) c.read_trailer-t.ensures (sym long) in
-    let right : agrees ((contents (own_volume c.args.image.now) c.args.image.now c.args.e.id.0)) ≡ true = sym agreed ∙ c.if-not-agrees.false in
-    let summed : let s = (contents (own_volume c.args.image.now) c.args.image.now c.args.e.id.0) in c.add_all-sum.result ≡ sum_from s (first_record s) (count s) 0 = c.add_all-sum.ensures ∙ ap₂ (λ t n. sum_from ((contents (own_volume c.args.image.now) c.args.image.now c.args.e.id.0)) (n - t.distance) t.count.0 0) c.read_trailer-t.ensures (sym long) in
-    let parsed : let s = (contents (own_volume c.args.image.now) c.args.image.now c.args.e.id.0) in cond c.equals.result (Pulses (trailer_for s)) Other ≡ parsed_as s = let s = (contents (own_volume c.args.image.now) c.args.image.now c.args.e.id.0) in ap (λ b. cond b (Pulses (trailer_for s)) Other) (c.equals.ensures ∙ ap (λ z. eqb z.total.0 c.in-Ticks.total.0) c.read_trailer-t.ensures) ∙ summed_parsed s (room (goal.at.returns-then-not-equals c).Else-e-lt16) right c.in-Ticks.total (sym c.in-Ticks.is ∙ summed) in
-    ap (λ b. cond b (Pulses (trailer_for ((contents (own_volume c.args.image.now) c.args.image.now c.args.e.id.0)))) Other) (sym (not-true c.equals.result (ap not c.if-not-equals.true))) ∙ parsed
+pub returns-then-ne : goal.returns-then-ne
+returns-then-ne c =
+    let t = c.read_trailer-t.result in
+    let total = c.in_ok-total.total in
+    let e = summed_parsed _ c.read_trailer-t.ensures (stream_long c.requires.opened c.requires.stream) c.if-e-lt16.false (sym c.agrees.ensures ∙ c.if-not-agrees.false) total c.in_ok-total.ensures in
+    ap (λ b. cond b (Some t) None) (sym (not-true (eqb t.total.0 total.0) (sym c.ne.ensures ∙ c.if-ne.true))) ∙ e
 
 pub returns : goal.returns
-unfolding trailer_for
 returns c =
-    let long : length ((contents (own_volume c.args.image.now) c.args.image.now c.args.e.id.0)) ≡ c.args.e.size = stream_long c.requires.opened c.requires.stream in
-    let agreed : c.agrees.result ≡ agrees ((contents (own_volume c.args.image.now) c.args.image.now c.args.e.id.0)) = c.agrees.ensures ∙ ap₂ (λ t n. eqb t.distance (distance_for t.count.0) && leb t.distance n) c.read_trailer-t.ensures (sym long) in
-    let right : agrees ((contents (own_volume c.args.image.now) c.args.image.now c.args.e.id.0)) ≡ true = sym agreed ∙ c.if-not-agrees.false in
-    let summed : let s = (contents (own_volume c.args.image.now) c.args.image.now c.args.e.id.0) in c.add_all-sum.result ≡ sum_from s (first_record s) (count s) 0 = c.add_all-sum.ensures ∙ ap₂ (λ t n. sum_from ((contents (own_volume c.args.image.now) c.args.image.now c.args.e.id.0)) (n - t.distance) t.count.0 0) c.read_trailer-t.ensures (sym long) in
-    let parsed : let s = (contents (own_volume c.args.image.now) c.args.image.now c.args.e.id.0) in cond c.equals.result (Pulses (trailer_for s)) Other ≡ parsed_as s = let s = (contents (own_volume c.args.image.now) c.args.image.now c.args.e.id.0) in ap (λ b. cond b (Pulses (trailer_for s)) Other) (c.equals.ensures ∙ ap (λ z. eqb z.total.0 c.in-Ticks.total.0) c.read_trailer-t.ensures) ∙ summed_parsed s (room (goal.at.returns c).Else-e-lt16) right c.in-Ticks.total (sym c.in-Ticks.is ∙ summed) in
-    let s = (contents (own_volume c.args.image.now) c.args.image.now c.args.e.id.0) in
-    ap Pulses c.read_trailer-t.ensures ∙ ap (λ b. cond b (Pulses (trailer_for s)) Other) (sym (not-false c.equals.result (ap not c.if-not-equals.false))) ∙ parsed
+    let t = c.read_trailer-t.result in
+    let total = c.in_ok-total.total in
+    let e = summed_parsed _ c.read_trailer-t.ensures (stream_long c.requires.opened c.requires.stream) c.if-e-lt16.false (sym c.agrees.ensures ∙ c.if-not-agrees.false) total c.in_ok-total.ensures in
+    ap (λ b. cond b (Some t) None) (sym (not-false (eqb t.total.0 total.0) (sym c.ne.ensures ∙ c.if-ne.false))) ∙ e

@@ -1,4 +1,3 @@
-use borrow.Author.Rules.{rules}
 use mathlib.Core.Path.{ap, ◌∙◌}
 use Rattle.pulse_records.specs.Records.{pulse_in}
 use Rattle.pulse.proofs.Parsing.{pulse_read}

@@ -1,19 +1,21 @@
 use borrow.Author.Rules.{rules}
-use Rattle.directory.specs.Listed.{entries_of}
-use Rattle.queries.proofs.Finds.{find_asks, looked_up, find_found, find_refused, found_inside}
+use Rattle.std.proofs.lemmas.Result.{err_from_is_err_and}
+use Rattle.queries.proofs.Finds.{find_asks, looked_up, find_found, find_refused}
 use Rattle.queries.proofs.find.find_in.Goals as goal
 
 pub find_entry-requires : goal.find_entry-requires
 find_entry-requires c = let r = find_asks c.requires in record { directory_listed = r.0; img_value = r.1.0; img_value_2 = r.1.1 }
 
+pub returns-in_err-x : goal.returns-in_err-x
+returns-in_err-x c =
+    let r = err_from_is_err_and c.from_residual.result c.from_residual.ensures.1 in
+    rw (r.1, r.2) (find_refused c.requires _ _ c.in_err-x.ensures.answer)
+
 pub object_at-requires : goal.object_at-requires
-object_at-requires c = let p = c.requires in record { directory_listed = (find_asks p).0; x_bound = found_inside (entries_of c.args.v.directory c.args.img.now) _ c.find_entry.ensures.inside c.in-At.is }
+object_at-requires c = record { directory_listed = (find_asks c.requires).0; x_bound = c.in_ok-x.ensures.inside }
 
-pub returns-in-At : goal.returns-in-At
-returns-in-At c =
-    let p = c.requires in
-    let l = found_inside (entries_of c.args.v.directory c.args.img.now) _ c.find_entry.ensures.inside c.in-At.is in
-    find_found p _ _ c.find_entry.ensures.answer _ c.in-At.is c.object_at.ensures.id_value (looked_up p _ l (c.object_at.ensures.id_value, (c.object_at.ensures.entry_type_value, c.object_at.ensures.size_value)))
-
-pub returns-in-Refused : goal.returns-in-Refused
-returns-in-Refused c = find_refused c.requires _ _ c.find_entry.ensures.answer c.in-Refused.is
+pub returns : goal.returns
+returns c =
+    let l = c.in_ok-x.ensures in
+    let o = c.object_at.ensures in
+    find_found c.requires _ _ l.answer o.id_value (looked_up c.requires _ l.inside (o.id_value, (o.entry_type_value, o.size_value)))

@@ -28,14 +28,6 @@ pub difat_in_header-requires : goal.difat_in_header-requires
 unfolding header_difat
 difat_in_header-requires c = search rules
 
-pub returns-then-i-lt-DIFAT_ENTRIES : goal.returns-then-i-lt-DIFAT_ENTRIES
-unfolding header_difat
-returns-then-i-lt-DIFAT_ENTRIES c = c.difat_in_header.ensures
-
-pub difat-per-requires : goal.difat-per-requires
-unfolding header_difat
-difat-per-requires c = search rules
-
 pub nonzero_div-j : goal.nonzero_div-j
 unfolding header_difat
 nonzero_div-j c = per_some (goal.at.nonzero_div-j c).After-difat-per

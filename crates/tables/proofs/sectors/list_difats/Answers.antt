@@ -1,12 +1,11 @@
-use borrow.Author.Rules.{rules}
-use Prim.Native.Nat.{◌-◌, ◌≤◌, ◌<◌}
+use Prim.Native.Nat.{◌≤◌, ◌<◌}
 use native.Mathlib.Omega.{arith}
 use borrow.Author.Tests.{ltb-true, ltb-false}
 use Rattle.format.specs.Layout.Geometry.{sector_count}
 use Rattle.kinds.specs.Sizes.{geometry_of}
 use Rattle.tables.proofs.Places.{difat_is}
 use Rattle.theory.proofs.Loops.{said_yes, said_no}
-use Rattle.tables.proofs.DifatLaws.{DifatWalk, difat_start_lem, difat_step, difat_out, difat_end}
+use Rattle.tables.proofs.DifatLaws.{difat_start_lem, difat_step, difat_out, difat_end}
 use mathlib.Core.Path.{ap}
 use mathlib.Core.Bool.{not}
 use Rattle.tables.proofs.sectors.list_difats.Goals as goal
@@ -34,4 +33,4 @@ pub loop-j-preserved : goal.loop-j-preserved
 loop-j-preserved c = difat_step c.loop-j.invariant _ (omega (arith, c.loop-j-test.true, c.requires.many)) (inside (goal.at.loop-j-preserved c).Else-not-below) c.requires.room (rw (← c.difat-link.ensures) c.word_in.ensures)
 
 pub returns : goal.returns
-returns c = rw c.is_end.ensures (difat_end c.loop-j.invariant (omega (arith, c.loop-j-test.false, c.requires.many)))
+returns c = rw c.is_end.ensures (difat_end c.loop-j.invariant (omega (arith, c.requires.many)))

@@ -1,20 +1,10 @@
-use borrow.Author.Rules.{rules}
 use Prim.Native.Nat.{◌+◌}
-use borrow.Author.Tests.{not-true, not-false}
 use Rattle.kinds.specs.Sizes.{geometry_of}
 use Rattle.header.specs.Sized.{F}
 use Rattle.tables.specs.Stages.{Difats}
 use Rattle.tables.proofs.DifatLaws.{difats_kept}
-use Rattle.tables.proofs.StageLaws.{difat_args, left_listed, lists_fail, lists_difats, lists_left}
+use Rattle.tables.proofs.StageLaws.{left_listed, lists_difats, lists_left}
 use Rattle.tables.proofs.sectors.list_tables.Goals as goal
-
-pub list_difats-requires : goal.list_difats-requires
-list_difats-requires c = difat_args c.requires
-
-pub returns-then-not-list_difats : goal.returns-then-not-list_difats
-returns-then-not-list_difats c =
-    let a = c.requires in
-    lists_fail a (left_listed a c.list_difats.ensures) (c.if-not-list_difats.true)
 
 pub list_fats-requires : goal.list_fats-requires
 list_fats-requires c =

@@ -1,4 +1,3 @@
-use borrow.Author.Rules.{rules}
 use native.Mathlib.Omega.{arith}
 use Rattle.volume.proofs.Copying.{list_room, fat_listed, still_listed, all_copied}
 use Rattle.volume.proofs.mini_stage.copy_tables.Goals as goal

@@ -2,7 +2,6 @@ use borrow.Author.Rules.{rules}
 use Prim.Native.Nat.{◌+◌, ◌-◌, ◌*◌, ◌/◌, ◌≤◌}
 use mathlib.Core.Path.{◌≡◌, sym, ◌∙◌, ap, ap₂}
 use native.Mathlib.Omega.{arith}
-use borrow.Author.Tests.{not-true, not-false}
 use Rattle.format.specs.Layout.Geometry.{cells_in}
 use Rattle.format.specs.Layout.Header.{mini_fat_count}
 use Rattle.format.specs.Layout.Volume.{volume, mini_space}

@@ -1,9 +1,7 @@
-use borrow.Author.Rules.{rules}
-use mathlib.Core.Path.{◌≡◌}
+use mathlib.Core.Path.{◌≡◌, sym, ◌∙◌}
 use mathlib.Core.Bool.{true}
 use native.Mathlib.Omega.{arith}
 use lib.ListN.{length}
-use borrow.Author.Tests.{not-false}
 use Rattle.format.specs.Rules.Length.{work_need}
 use Rattle.format.specs.Rules.Header.{header_rules}
 use Rattle.format.specs.Rules.Tables.{table_rules}
@@ -20,10 +18,11 @@ use Rattle.tables.specs.Work.{Wrote, Holds}
 use Rattle.tables.specs.Listed.{FatListedAt, list_place}
 use Rattle.tables.proofs.WorkLaws.{wrote_none, wrote_two}
 use Rattle.volume.specs.Passed.{TablesHold}
-use Rattle.volume.proofs.Outcomes.{stage_refused, stage_later}
-use Rattle.volume.proofs.Verdicts.{header_breaks, tables_break, cells_break, directory_breaks, tables_hold_lem, tables_wrote, cells_listed, cells_wrote, has_length, length_is, has_none}
+use Rattle.volume.proofs.Outcomes.{ok_is, err_is, stage_refused, stage_later}
+use Rattle.volume.proofs.Verdicts.{header_breaks, tables_break, cells_break, directory_breaks, tables_hold_lem, tables_wrote, cells_listed, cells_wrote, has_length, has_none}
 use mathlib.Core.Path.{ap}
 use mathlib.Core.Bool.{not}
+use Rattle.std.proofs.lemmas.Result.{err_from_is_err_and}
 use Rattle.volume.proofs.table_stage.table_groups.Goals as goal
 use Rattle.volume.proofs.table_stage.table_groups.Goals.{Else-not-cell_rules, Else-not-table_rules}
 
@@ -70,25 +69,27 @@ entry_groups-requires c =
     let found : let p = c.args in let g = geometry_of p.g in let i = p.img.now in c.directory_length.result ≡ length_answer (directory_rules (volume g i)) (length (directory_sectors_of g i)) = rw c.tables_of-t.ensures at c.directory_length.ensures in
     let asked : let p = c.args in let g = geometry_of p.g in let i = p.img.now in (c.cell_rules.result ≡ cell_rules (sector_space g i)) × (Holds c.cell_rules.new.work 0 (sector_count g i) (fat_cell g i) × Wrote c.table_rules.new.work c.cell_rules.new.work 0 (sector_count g i)) = (rw c.tables_of-t.ensures at c.cell_rules.ensures.answer, (rw c.tables_of-t.ensures at c.cell_rules.ensures.holds, rw c.tables_of-t.ensures at c.cell_rules.ensures.wrote)) in
     let still : let p = c.args in let g = geometry_of p.g in let i = p.img.now in FatListedAt g i c.cell_rules.new.work (sector_count g i) (list_place i) = cells_listed _ _ asked.1.1 (listed (goal.at.entry_groups-requires c).Else-not-table_rules) in
-    let hold : let p = c.args in let g = geometry_of p.g in let i = p.img.now in TablesHold g i c.cell_rules.new.work c.in-Is.n = record { listed = still; whole = omega (arith, c.requires.img_in_bounds, c.table_rules.auto.work, asked.1.1.long); tables = tables (goal.at.entry_groups-requires c).Else-not-table_rules; cells = cells (goal.at.entry_groups-requires c).Else-not-cell_rules; chained = has_length _ _ found c.in-Is.is; count = length_is _ _ found c.in-Is.is } in
+    let hold : let p = c.args in let g = geometry_of p.g in let i = p.img.now in TablesHold g i c.cell_rules.new.work c.in_ok-n.n = record { listed = still; whole = omega (arith, c.requires.img_in_bounds, c.table_rules.auto.work, asked.1.1.long); tables = tables (goal.at.entry_groups-requires c).Else-not-table_rules; cells = cells (goal.at.entry_groups-requires c).Else-not-cell_rules; chained = (has_length _ _ (sym (ok_is _ Directory c.in_ok-n.ensures.value) ∙ found)).0; count = (has_length _ _ (sym (ok_is _ Directory c.in_ok-n.ensures.value) ∙ found)).1 } in
     hold
 
-pub returns-in-Is : goal.returns-in-Is
-returns-in-Is c =
+pub returns : goal.returns
+returns c =
     let header : let p = c.args in header_rules (geometry_of p.g) p.img.now ≡ true = said_yes (ap not c.if-not-header_rules.false) c.header_rules.ensures in
     let wrote' : let p = c.args in Wrote p.work.now c.table_rules.new.work 0 (work_need (length p.img.now)) = tables_wrote _ _ c.table_rules.ensures.left c.table_rules.auto.work in
     let found : let p = c.args in let g = geometry_of p.g in let i = p.img.now in c.directory_length.result ≡ length_answer (directory_rules (volume g i)) (length (directory_sectors_of g i)) = rw c.tables_of-t.ensures at c.directory_length.ensures in
     let asked : let p = c.args in let g = geometry_of p.g in let i = p.img.now in (c.cell_rules.result ≡ cell_rules (sector_space g i)) × (Holds c.cell_rules.new.work 0 (sector_count g i) (fat_cell g i) × Wrote c.table_rules.new.work c.cell_rules.new.work 0 (sector_count g i)) = (rw c.tables_of-t.ensures at c.cell_rules.ensures.answer, (rw c.tables_of-t.ensures at c.cell_rules.ensures.holds, rw c.tables_of-t.ensures at c.cell_rules.ensures.wrote)) in
-    let still : let p = c.args in let g = geometry_of p.g in let i = p.img.now in FatListedAt g i c.cell_rules.new.work (sector_count g i) (list_place i) = cells_listed _ _ asked.1.1 (listed (goal.at.returns-in-Is c).Else-not-table_rules) in
-    let wrote_both : let p = c.args in let g = geometry_of p.g in let i = p.img.now in Wrote p.work.now c.cell_rules.new.work 0 (work_need (length i)) = wrote_two wrote' (cells_wrote _ _ asked.1.1 (listed (goal.at.returns-in-Is c).Else-not-table_rules).sized) in
-    let hold : let p = c.args in let g = geometry_of p.g in let i = p.img.now in TablesHold g i c.cell_rules.new.work c.in-Is.n = record { listed = still; whole = omega (arith, c.requires.img_in_bounds, c.table_rules.auto.work, asked.1.1.long); tables = tables (goal.at.returns-in-Is c).Else-not-table_rules; cells = cells (goal.at.returns-in-Is c).Else-not-cell_rules; chained = has_length _ _ found c.in-Is.is; count = length_is _ _ found c.in-Is.is } in
-    stage_later (tables_hold_lem _ _ header (tables (goal.at.returns-in-Is c).Else-not-table_rules) (cells (goal.at.returns-in-Is c).Else-not-cell_rules) hold.chained) wrote_both c.entry_groups.ensures
+    let still : let p = c.args in let g = geometry_of p.g in let i = p.img.now in FatListedAt g i c.cell_rules.new.work (sector_count g i) (list_place i) = cells_listed _ _ asked.1.1 (listed (goal.at.returns c).Else-not-table_rules) in
+    let wrote_both : let p = c.args in let g = geometry_of p.g in let i = p.img.now in Wrote p.work.now c.cell_rules.new.work 0 (work_need (length i)) = wrote_two wrote' (cells_wrote _ _ asked.1.1 (listed (goal.at.returns c).Else-not-table_rules).sized) in
+    let hold : let p = c.args in let g = geometry_of p.g in let i = p.img.now in TablesHold g i c.cell_rules.new.work c.in_ok-n.n = record { listed = still; whole = omega (arith, c.requires.img_in_bounds, c.table_rules.auto.work, asked.1.1.long); tables = tables (goal.at.returns c).Else-not-table_rules; cells = cells (goal.at.returns c).Else-not-cell_rules; chained = (has_length _ _ (sym (ok_is _ Directory c.in_ok-n.ensures.value) ∙ found)).0; count = (has_length _ _ (sym (ok_is _ Directory c.in_ok-n.ensures.value) ∙ found)).1 } in
+    stage_later (tables_hold_lem _ _ header (tables (goal.at.returns c).Else-not-table_rules) (cells (goal.at.returns c).Else-not-cell_rules) hold.chained) wrote_both c.entry_groups.ensures
 
-pub returns-in-Never : goal.returns-in-Never
-returns-in-Never c =
+pub returns-in_err-n : goal.returns-in_err-n
+returns-in_err-n c =
     let header : let p = c.args in header_rules (geometry_of p.g) p.img.now ≡ true = said_yes (ap not c.if-not-header_rules.false) c.header_rules.ensures in
     let wrote' : let p = c.args in Wrote p.work.now c.table_rules.new.work 0 (work_need (length p.img.now)) = tables_wrote _ _ c.table_rules.ensures.left c.table_rules.auto.work in
     let found : let p = c.args in let g = geometry_of p.g in let i = p.img.now in c.directory_length.result ≡ length_answer (directory_rules (volume g i)) (length (directory_sectors_of g i)) = rw c.tables_of-t.ensures at c.directory_length.ensures in
     let asked : let p = c.args in let g = geometry_of p.g in let i = p.img.now in (c.cell_rules.result ≡ cell_rules (sector_space g i)) × (Holds c.cell_rules.new.work 0 (sector_count g i) (fat_cell g i) × Wrote c.table_rules.new.work c.cell_rules.new.work 0 (sector_count g i)) = (rw c.tables_of-t.ensures at c.cell_rules.ensures.answer, (rw c.tables_of-t.ensures at c.cell_rules.ensures.holds, rw c.tables_of-t.ensures at c.cell_rules.ensures.wrote)) in
-    let wrote_both : let p = c.args in let g = geometry_of p.g in let i = p.img.now in Wrote p.work.now c.cell_rules.new.work 0 (work_need (length i)) = wrote_two wrote' (cells_wrote _ _ asked.1.1 (listed (goal.at.returns-in-Never c).Else-not-table_rules).sized) in
-    stage_refused _ _ _ Directory (directory_breaks _ _ header (tables (goal.at.returns-in-Never c).Else-not-table_rules) (cells (goal.at.returns-in-Never c).Else-not-cell_rules) (has_none _ _ found c.in-Never.is)) wrote_both
+    let wrote_both : let p = c.args in let g = geometry_of p.g in let i = p.img.now in Wrote p.work.now c.cell_rules.new.work 0 (work_need (length i)) = wrote_two wrote' (cells_wrote _ _ asked.1.1 (listed (goal.at.returns-in_err-n c).Else-not-table_rules).sized) in
+    let r = err_from_is_err_and c.from_residual.result c.from_residual.ensures.1 in
+    let k = err_is _ Directory c.in_err-n.ensures.value in
+    rw (r.1, r.2, k.1) (stage_refused _ _ _ Directory (directory_breaks _ _ header (tables (goal.at.returns-in_err-n c).Else-not-table_rules) (cells (goal.at.returns-in_err-n c).Else-not-cell_rules) (has_none _ _ (sym k.0 ∙ found))) wrote_both)

@@ -1,2 +1,0 @@
--- Laws for the program.
-pub mod Parts

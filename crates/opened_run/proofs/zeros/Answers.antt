@@ -1,5 +1,0 @@
-use native.Mathlib.Omega.{arith}
-use Rattle.opened_run.proofs.zeros.Goals as goal
-
-pub loop-i-preserved : goal.loop-i-preserved
-loop-i-preserved c = (omega arith, omega arith)

@@ -1,8 +1,0 @@
-use Rattle.std.proofs.Common.{rules}
-use Rattle.tables_run.proofs.main.Goals as goal
-
-pub loop-turns-init : goal.loop-turns-init
-loop-turns-init c = tt
-
-pub loop-turns-preserved : goal.loop-turns-preserved
-loop-turns-preserved c = tt
