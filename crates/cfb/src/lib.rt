@@ -28,7 +28,7 @@ pub fn validate(image: &[u8], work: &mut [u32]) -> Result<(), Refusal>
     ensures result_value { plain (number_of result) ≡ reply image.now (validate_call work.old) }
     ensures work_after { work.new ≡ work_after image.now (validate_call work.old) }
 {
-    let v = open_image(image, work)?;
+    let v = open_image(image, work)?; // refused: the first group that is broken
     close(image, work, v);
     Ok(())
 }
@@ -38,7 +38,7 @@ pub fn find(image: &[u8], work: &mut [u32], path: &[u16]) -> Result<Object, Refu
     ensures result_value { find_reply result ≡ reply image.now (find_call path.now work.old) }
     ensures work_after { work.new ≡ work_after image.now (find_call path.now work.old) }
 {
-    let v = open_image(image, work)?;
+    let v = open_image(image, work)?; // a broken image is refused, whatever the path
     let r = find_opened(image, work, v, path);
     close(image, work, v);
     r
@@ -166,7 +166,7 @@ pub fn list(image: &[u8], work: &mut [u32], out: &mut [u8]) -> Result<usize, Ref
     ensures out_after { out.new ≡ out_after image.now (list_call out.old work.old) }
     ensures work_after { work.new ≡ work_after image.now (list_call out.old work.old) }
 {
-    let v = open_image(image, work)?;
+    let v = open_image(image, work)?; // a broken image is refused, however long the buffer
     let r = list_opened(image, work, v, out);
     close(image, work, v);
     r

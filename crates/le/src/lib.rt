@@ -1,4 +1,4 @@
-// Little-endian numbers at a place of a slice of bytes; copying a part; clearing the front of a work buffer.
+// Little-endian numbers at a place of a slice of bytes; copying; clearing the front of a work buffer.
 #![tactic(auto)]
 
 ghost use Rattle.std.specs.Prelude.{◌≡◌, ◌+◌, ◌≤◌, min, length};
@@ -72,13 +72,24 @@ pub fn put_u64(b: &mut [u8], at: usize, v: u64)
 
 // ---- runs
 
+// The bytes of another part that is as long. By a loop: the compiler knows that the two do not overlap and calls `memcpy`, while std's
+// `copy_from_slice` would have the archive for C ask for `memmove` too.
+pub fn copy(to: &mut [u8], from: &[u8])
+    requires { length to.old ≡ length from.now }
+    ensures { to.new ≡ from.now }
+{
+    for (i, byte) in to.iter_mut().enumerate() {
+        *byte = from[i];
+    }
+}
+
 // The n bytes from byte p of another slice on, put at a place.
 pub fn copy_part(to: &mut [u8], at: usize, from: &[u8], p: usize, n: usize)
     requires n_in_bounds { at + n ≤ length to.old }
     requires n_in_bounds_2 { p + n ≤ length from.now }
     ensures { to.new ≡ put_bytes to.old at (part from.now p n) }
 {
-    to[at..at + n].copy_from_slice(&from[p..p + n]);
+    copy(&mut to[at..at + n], &from[p..p + n]);
 }
 
 // The first w numbers of a work buffer zero.

@@ -3,9 +3,10 @@ use mathlib.Core.Path.{◌≡◌, refl, ap, sym, ◌∙◌}
 use mathlib.Core.List.{[], ◌∷◌, ◌++◌, append_assoc}
 use Prim.Native.Nat.{ℕ, zero, suc, ◌+◌, ◌-◌, ◌≤◌, ◌<◌}
 use native.Mathlib.Nat.{add-zero}
+use native.Mathlib.Numerals.{add-one}
 use native.Mathlib.Omega.{arith}
-use lib.ListN.{length, take, drop, set, length-append, length-drop, take-append-drop}
-use lib.Seq.{paste, length-take-le}
+use lib.ListN.{length, take, drop, get_or, set, length-append, length-drop, take-append-drop, get_or-append}
+use lib.Seq.{paste, paste-suc, length-take-le, get_or-take, get_or-drop}
 use Rattle.format.specs.Basics.Bytes.{Bytes, part}
 use Rattle.format.specs.Layout.Name.{slash}
 use Rattle.format.specs.Layout.Entry.{name}
@@ -15,6 +16,16 @@ use Rattle.theory.proofs.ByteTests.{length_part}
 use Rattle.text.proofs.Filled.{Filled, filled_start, filled_lent, filled_behind, filled_set, filled_end, filled_kept}
 use Rattle.lines.specs.Lines.{head, before, before_length, line_text, line_length, put_at, before_put, line_put}
 use Rattle.lines.proofs.LineLengths.{before_length_lem, none_before, none_length, some_before, some_length, length_parts, line_length_lem}
+
+-- one byte more copied from a place to a later one
+pub copied_more : (out : Bytes) (from to i : ℕ) → from + i < to → to + i < length out
+    → set (paste out to (drop from out) i) (to + i) (get_or (paste out to (drop from out) i) (from + i) 0) ≡ paste out to (drop from out) (i + 1)
+copied_more out from to i h b =
+    let t : length (take to out) ≡ to = length-take-le to out (omega arith) in
+    let r : get_or (paste out to (drop from out) i) (from + i) 0 ≡ get_or (drop from out) i 0 =
+    rw (append_assoc (take to out) (take i (drop from out)) (drop (to + i) out), get_or-append (take to out) (take i (drop from out) ++ drop (to + i) out) 0 (from + i) (omega arith), get_or-take to out (from + i) 0 h)
+    (sym (get_or-drop from out i 0)) in
+    rw (r, add-one i) (paste-suc out to (drop from out) i 0 b (omega (arith, length-drop from out)))
 
 pub copied : (out : Bytes) (from to i : ℕ) {n : ℕ} → i ≡ n → paste out to (drop from out) i ≡ put_at out to n (part out from n)
 unfolding part

@@ -59,6 +59,17 @@ fn put_head(out: &mut [u8], img: &[u8], p: usize, g: Geometry) -> usize
     4
 }
 
+// Copies n bytes from a place of a buffer to a later one. By a loop that goes up, which is faster than std's `copy_within`, which goes down here.
+fn copy_within(out: &mut [u8], from: usize, to: usize, n: usize)
+    requires n_bound { from + n ≤ to }
+    requires n_in_bounds { to + n ≤ length out.old }
+    ensures { out.new ≡ put_at out.old to n (part out.old from n) }
+{
+    for i in 0..n {
+        out[to + i] = out[from + i];
+    }
+}
+
 // Copies a parent's path of so many bytes to a later place, and writes a slash behind it; of the root's, 0, nothing. Returns how many bytes that takes.
 #[tactic(auto, unfolding(crate::specs::Lines::before_length))]
 fn put_before(out: &mut [u8], at: usize, from: usize, parent: usize) -> usize
@@ -70,7 +81,7 @@ fn put_before(out: &mut [u8], at: usize, from: usize, parent: usize) -> usize
     if parent == 0 {
         return 0;
     }
-    out.copy_within(from..from + parent, at);
+    copy_within(out, from, at, parent);
     out[at + parent] = b'/';
     parent + 1
 }

@@ -73,11 +73,19 @@ module _ {v : Volume} {img : Bytes} {w : List ℕ} (s : OpenVolume v img w) wher
     pub long_image : image_in (geometry_of v.tables.geometry) (volume (geometry_of v.tables.geometry) img) img c ≡ image_after img (lent w' c)
     long_image = rw s.version (lent_image g (volume g img) img w' c ∙ sym (image_in_lem g img (lent w' c) long_zero))
 
-  pub opened_reply : (c : Call) → reply_in (geometry_of v.tables.geometry) (volume (geometry_of v.tables.geometry) img) c ≡ reply img (lent w c)
-  opened_reply c = long_reply c w s.room
+  -- so a call that names this work buffer gives and leaves what the plain call does
+  module _ (call : Call) (e : work_of call ≡ w) where
+    zero : verdict g img (length (work_of call)) ≡ 0
+    zero = opened_zero (length (work_of call)) (omega (arith, ap length e, s.room))
 
-  pub opened_out : (c : Call) → out_in (geometry_of v.tables.geometry) (volume (geometry_of v.tables.geometry) img) img c ≡ out_after img (lent w c)
-  opened_out c = long_out c w s.room
+    pub opened_reply : reply_in (geometry_of v.tables.geometry) (volume (geometry_of v.tables.geometry) img) call ≡ reply img call
+    opened_reply = rw s.version (sym (reply_in_lem g img call zero))
+
+    pub opened_out : out_in (geometry_of v.tables.geometry) (volume (geometry_of v.tables.geometry) img) img call ≡ out_after img call
+    opened_out = rw s.version (sym (out_in_lem g img call zero))
+
+    pub opened_image : image_in (geometry_of v.tables.geometry) (volume (geometry_of v.tables.geometry) img) img call ≡ image_after img call
+    opened_image = rw s.version (sym (image_in_lem g img call zero))
 
   -- ---- what it leaves
 
@@ -108,7 +116,7 @@ module _ {v : Volume} {img : Bytes} {w : List ℕ} (s : OpenVolume v img w) wher
       → (plain n ≡ reply img (lent w c)) × Left v img w c img₁ w₁
   opened_edit c h {w₁ = w₁} e i r =
       let k = i ∙ long_image c w s.room in (
-        edit_reply _ _ c h e ∙ opened_reply c,
+        edit_reply _ _ c h e ∙ long_reply c w s.room,
         record { image = k; opened = subst (λ j. OpenVolume v j w₁) (sym k) (opened_after (lent w c) r); wrote = gathered_within s.opened.ready r },
       )
 

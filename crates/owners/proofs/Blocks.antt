@@ -27,6 +27,11 @@ pub measured : {t : Tables} {img : Bytes} {w : List ℕ} → SectorsMarkable t i
 unfolding volume sector_space mini_space
 measured z = record { sector = refl; mini = refl; count = sym z.count }
 
+-- the answer for walks that found chains and met a marked unit or none, and for later ones
+abbrev pub and_then : Bool → Option Bool → Option Bool
+and_then a None = None
+and_then a (Some b) = Some (a || b)
+
 module _ {t : Tables} {m : Minis} {d : Directory} {img : Bytes} {w : List ℕ} (z : StreamsMarkable t m d img w)
     {x n k : ℕ} {starts sizes : List ℕ} (g : Gathered (volume_of d.geometry img) x n k starts sizes) where
   abbrev v : Volume
@@ -84,8 +89,12 @@ module _ {t : Tables} {m : Minis} {d : Directory} {img : Bytes} {w : List ℕ} (
             let s = large_marked q in
             both_broken _ _ (here.right ∙ small_first small_right ∙ not-true _ (sym s.answer)) (wrote_two smalls_marked.wrote s.wrote)
 
-        pub block_marked : {w₂ : List ℕ} {b : Bool} → LanesMarked 0 t.sectors lh ll c.large w₁ w₂ (Some b) → BlockMarked t m d img x n w w₂ (Some (a || b))
+        pub block_on : {w₂ : List ℕ} {b : Bool} → LanesMarked 0 t.sectors lh ll c.large w₁ w₂ (Some b) → BlockMarked t m d img x n w w₂ (Some (a || b))
         unfolding volume sector_space
-        block_marked q =
+        block_on q =
             let s = rw (append-nil (join_below c.small (lane_units (minis_in t img) sh sl))) at (both_then (rw small_right at smalls_marked) (large_marked q)) in
             rw (here.right ∙ small_first small_right, here.sectors ∙ lanes.sectors, here.minis ∙ lanes.minis) s
+
+        pub block_marked : {w₂ : List ℕ} {b : Option Bool} → LanesMarked 0 t.sectors lh ll c.large w₁ w₂ b → BlockMarked t m d img x n w w₂ (and_then a b)
+        block_marked {b = None} q = block_off q
+        block_marked {b = Some b} q = block_on q

@@ -1,11 +1,18 @@
--- What an answer about a path says.
-use Rattle.std.specs.Prelude.{◌<◌, Result, Ok, Err}
+-- The first name of a path, and what an answer about a path says.
+use Rattle.std.specs.Prelude.{◌<◌, cond, [], ◌∷◌, eqb, Result, Ok, Err}
+use Rattle.format.specs.Layout.Name.{Name, slash}
 use Rattle.format.specs.Layout.Directory.{Directory}
+use Rattle.format.specs.Calls.Paths.{Path}
 use Rattle.format.specs.Calls.Find.{Found, refused}
 use Rattle.theory.specs.TreeFind.{reached}
 use Rattle.kinds.specs.Numbers.{refusal_number}
 use Rattle.kinds.specs.declared.EntryId.{EntryId}
 use Rattle.kinds.specs.declared.Refusal.{Refusal}
+
+-- the units before the first slash
+unfoldable pub first_name : Path → Name
+first_name [] = []
+first_name (u ∷ us) = cond (eqb u slash) [] (u ∷ first_name us)
 
 abbrev pub found_of : Directory → Result EntryId Refusal → Found
 found_of e (Ok x) = reached e x.0

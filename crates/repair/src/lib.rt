@@ -13,7 +13,7 @@ ghost use Rattle.repair.specs.Room.{RepairRoom, Tried};
 use differences::count_differences;
 use header::{length_allowed, version_of, work_need};
 use kinds::{Geometry, Refusal};
-use le::zero_first;
+use le::{copy, zero_first};
 use repair_steps::outcome;
 use volume::open_volume;
 
@@ -41,11 +41,11 @@ fn repair_by(
     ensures image { image.new ≡ image_repaired image.old after.old work.old }
     ensures wrote { Wrote work.old work.new 0 (work_need (length image.old)) }
 {
-    after.copy_from_slice(image);
+    copy(after, image);
     outcome(after, work, g);
     let r = validate_outcome(image, after, work);
     if r.is_ok() {
-        image.copy_from_slice(after);
+        copy(image, after);
     }
     r
 }

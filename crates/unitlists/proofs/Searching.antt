@@ -1,4 +1,4 @@
--- The walk that looks for a free unit: what is still to be found lies from the place it has come to on.
+-- The walk that looks for a free unit: what is still to be found lies from the place it has come to on, and it has looked at each cell before that.
 use Prim.Native.Nat.{ℕ, suc, ◌+◌, ◌-◌, ◌≤◌, ◌<◌, min}
 use mathlib.Core.Path.{◌≡◌, refl, sym, ◌∙◌, ap}
 use mathlib.Core.Logic.{◌≢◌}
@@ -18,36 +18,36 @@ use Rattle.spaces.proofs.Units.{number_in_lem}
 use Rattle.unitlists.specs.Searches.{found_at, search_from}
 use Rattle.unitlists.specs.declared.Search.{Search}
 
-pub record Searching (sp : Space) (from i : ℕ) : Type 0 where
-  pub low : from ≤ i
+pub record Searching (sp : Space) (from i looked : ℕ) : Type 0 where
   pub high : i ≤ sp.limit
   pub lowest : lowest_free sp from ≡ lowest_free sp i
+  pub count : from + looked ≡ i
 
-pub searching_start : {sp : Space} {from : ℕ} → from ≤ sp.limit → Searching sp from from
-searching_start h = record { low = omega arith; high = h; lowest = refl }
+pub searching_start : {sp : Space} {from : ℕ} → from ≤ sp.limit → Searching sp from from 0
+searching_start h = record { high = h; lowest = refl; count = omega arith }
 
-module _ {sp : Space} {from i : ℕ} (a : Searching sp from i) where
-  pub searching_step : i < sp.limit → sp.cell i ≢ FREE → Searching sp from (i + 1)
+module _ {sp : Space} {from i looked : ℕ} (a : Searching sp from i looked) where
+  pub searching_step : i < sp.limit → sp.cell i ≢ FREE → Searching sp from (i + 1) (looked + 1)
   searching_step h q =
       record {
-        low = omega (arith, a.low);
         high = omega arith;
         lowest = rw add-one (a.lowest ∙ lowest_next sp i (ne_eqb (sp.cell i) FREE q));
+        count = omega (arith, a.count);
       }
 
   pub searching_found : (kind : Kind) (u : Unit) → u ≡ unit_of kind i → i < sp.limit → sp.cell i ≡ FREE
-      → ◌≡◌ {A = Search} (record { found = Some u; looked = i - from + 1 }) (search_from kind sp from)
+      → ◌≡◌ {A = Search} (record { found = Some u; looked = looked + 1 }) (search_from kind sp from)
   unfolding search_from found_at search
   searching_found kind u e h q =
       let z : lowest_free sp from ≡ i = a.lowest ∙ lowest_here sp i h (eq-eqb (sp.cell i) FREE q) in
-      let n : i - from + 1 ≡ min (suc i) sp.limit - from = omega (arith, a.low) in
+      let n : looked + 1 ≡ min (suc i) sp.limit - from = omega (arith, a.count) in
       rw (z, lt-ltb i sp.limit h, e) (ap {B = Search} (λ n. record { found = Some (unit_of kind i); looked = n }) n)
 
-  pub searching_none : (kind : Kind) (count : ℕ) → count ≡ sp.limit → sp.limit ≤ i → ◌≡◌ {A = Search} (record { found = None; looked = count - from }) (search_from kind sp from)
+  pub searching_none : (kind : Kind) → sp.limit ≤ i → ◌≡◌ {A = Search} (record { found = None; looked = looked }) (search_from kind sp from)
   unfolding search_from found_at search
-  searching_none kind count k l =
+  searching_none kind l =
       let z : lowest_free sp from ≡ sp.limit = a.lowest ∙ lowest_none sp i l in
-      let n : count - from ≡ min (suc sp.limit) sp.limit - from = omega arith in
+      let n : looked ≡ min (suc sp.limit) sp.limit - from = omega (arith, a.count, a.high) in
       rw (z, le-ltb sp.limit sp.limit (omega arith)) (ap {B = Search} (λ n. record { found = None; looked = n }) n)
 
 -- ---- what a search says

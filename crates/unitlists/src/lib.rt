@@ -28,19 +28,21 @@ fn next_free(img: &[u8], work: &[u32], v: Volume, kind: Kind, from: usize) -> Se
     ensures { result ≡ search_from kind (space_at v img.now kind) from }
 {
     let count = unit_count(v, kind);
+    let mut looked = 0;
     for place in from..count {
         let u = Unit::at(kind, place);
         let cell = cell_of(img, work, v, u);
+        looked += 1;
         if cell.is_free() {
             return Search {
                 found: Some(u),
-                looked: place - from + 1,
+                looked,
             };
         }
     }
     Search {
         found: None,
-        looked: count - from,
+        looked,
     }
 }
 

@@ -10,4 +10,4 @@ returns c =
     let a = c.args in
     let y : a.p + a.n - a.p ≡ a.n = omega arith in
     let l = length_part a.from.now a.p a.n c.requires.n_in_bounds_2 in
-    rw (c.copy_from_slice.ensures.after, y) (lent_back a.to.now (part a.from.now a.p a.n) a.at (a.at + a.n) (omega arith) c.requires.n_in_bounds)
+    rw (c.copy.ensures, y) (lent_back a.to.now (part a.from.now a.p a.n) a.at (a.at + a.n) (omega arith) c.requires.n_in_bounds)

@@ -1,5 +1,5 @@
 use Rattle.std.proofs.Common.{arith, ◌∙◌, ◌<◌, ◌+◌, ◌-◌}
-use Rattle.lines.proofs.LineWrites.{copied, put_none, put_parent, put_slash}
+use Rattle.lines.proofs.LineWrites.{put_none, put_parent, put_slash}
 use Rattle.lines.proofs.put_before.Goals as goal
 
 pub returns-then-parent-eq0-clause-written : goal.returns-then-parent-eq0-clause-written
@@ -9,7 +9,6 @@ pub returns-clause-written : goal.returns-clause-written
 returns-clause-written c =
     let a = c.args in
     let some : 0 < a.parent = omega arith in
-    let e = c.copy_within.ensures.after ∙ copied a.out.now a.from a.at (a.from + a.parent - a.from) (omega arith) in
     let r = c.requires in
     put_slash a.out.now a.at a.from a.parent r.parent_in_bounds some r.parent_bound
-    (put_parent a.out.now a.at a.from a.parent r.parent_in_bounds some r.parent_bound e)
+    (put_parent a.out.now a.at a.from a.parent r.parent_in_bounds some r.parent_bound c.copy_within.ensures)

@@ -1,6 +1,6 @@
 use native.Mathlib.Omega.{arith}
 use Rattle.directory.proofs.Places.{count_is}
-use Rattle.owners.proofs.Blocks.{measured, block_wrong, block_broken, block_off, block_marked}
+use Rattle.owners.proofs.Blocks.{measured, block_wrong, block_broken, block_marked}
 use Rattle.owners.proofs.mark_block.Goals as goal
 
 pub gather-k-requires-clause-x_le_end : goal.gather-k-requires-clause-x_le_end
@@ -16,7 +16,7 @@ returns-in_err-small c = rw c.from_residual-in_err-small.ensures (block_broken c
 
 pub returns-in_err-large : goal.returns-in_err-large
 returns-in_err-large c =
-    rw c.from_residual-in_err-large.ensures (block_off c.requires.streams_markable c.gather-k.ensures c.in_ok-c.ensures c.in_ok-small.ensures c.in_err-large.ensures)
+    rw c.from_residual-in_err-large.ensures (block_marked c.requires.streams_markable c.gather-k.ensures c.in_ok-c.ensures c.in_ok-small.ensures c.in_err-large.ensures)
 
 pub returns : goal.returns
 returns c = block_marked c.requires.streams_markable c.gather-k.ensures c.in_ok-c.ensures c.in_ok-small.ensures c.in_ok-large.ensures

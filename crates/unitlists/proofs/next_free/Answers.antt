@@ -46,10 +46,8 @@ pub loop-place-preserved : goal.loop-place-preserved
 loop-place-preserved c =
     searching_step c.loop-place.invariant (omega (arith, limit_is (goal.at.loop-place-preserved c).After-unit_count-count)) (λ e. clash (c.is_free.ensures ∙ eq-eqb _ FREE (cell_is (goal.at.loop-place-preserved c).After-cell_of-cell ∙ e)) c.if-is_free.false)
 
-pub overflow_sub-result-2 : goal.overflow_sub-result-2
-overflow_sub-result-2 c = omega (arith, limit_is (goal.at.overflow_sub-result-2 c).After-unit_count-count, c.requires.from_bound)
+pub overflow_add-looked : goal.overflow_add-looked
+overflow_add-looked c = omega (arith, c.loop-place.invariant.count)
 
 pub returns : goal.returns
-returns c =
-    let n = limit_is (goal.at.returns c).After-unit_count-count in
-    searching_none c.loop-place.invariant c.args.kind _ n (omega arith)
+returns c = searching_none c.loop-place.invariant c.args.kind (omega (arith, limit_is (goal.at.returns c).After-unit_count-count))
